@@ -1,0 +1,22 @@
+//! Laws of the definitions, as functions without parameters: each has an empty body, and its contract is the law.
+//!
+//! They speak of definitions alone, so that a reader can rely on a law without reading its proof, and a program's proof can use it by a call.
+#![tactic(auto)]
+
+ghost use Rattle.scene_model.specs.Journal.{FaultLaw, OrderLaw};
+ghost use Rattle.schedule_model.specs.Held.{EveryRunHolds};
+
+/// The law of order: where no key is shared between encoders, any two lawful journals of a scene give the same pictures.
+pub fn order_law()
+    ensures { OrderLaw }
+{}
+
+/// The law of a journal's first fault: there is no fault place exactly where the journal is lawful.
+pub fn fault_law()
+    ensures { FaultLaw }
+{}
+
+/// The law of the schedule: after every list of allowed events from the opening state, the invariant holds, for every latency.
+pub fn held_law()
+    ensures { EveryRunHolds }
+{}
