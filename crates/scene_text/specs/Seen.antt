@@ -1,0 +1,55 @@
+-- The crate's types as the definitions see them.
+use Rattle.std.specs.Prelude.{ℕ, List, map}
+use Rattle.gfx_model.specs.Views as views
+use Rattle.gfx_model.specs.Recorder as recorder
+use Rattle.scene_model.specs.Scene as model
+use Rattle.scene_model.specs.Journal as journals
+use Rattle.scene_text.specs.declared.scene.Clear.{Clear}
+use Rattle.scene_text.specs.declared.scene.Room.{Room}
+use Rattle.scene_text.specs.declared.scene.ResLine.{ResLine}
+use Rattle.scene_text.specs.declared.scene.ResLine.TheVariants as resources
+use Rattle.scene_text.specs.declared.scene.EncLine.{EncLine}
+use Rattle.scene_text.specs.declared.scene.EncLine.TheVariants as lines
+use Rattle.scene_text.specs.declared.scene.EncBlock.{EncBlock}
+use Rattle.scene_text.specs.declared.scene.SceneFrame.{SceneFrame}
+use Rattle.scene_text.specs.declared.scene.SceneName.{SceneName}
+use Rattle.scene_text.specs.declared.scene.Scene.{Scene}
+use Rattle.scene_text.specs.declared.journal.JournalEntry.{JournalEntry}
+use Rattle.scene_text.specs.declared.journal.Journal.{Journal}
+
+abbrev pub clear_seen : Clear → views.Clear
+clear_seen c = record { flags = c.flags; color = c.color; depth = c.depth; stencil = c.stencil }
+
+abbrev pub room_seen : Room → recorder.Room
+room_seen r = record { items = r.items; bytes = r.bytes; uniforms = r.uniforms }
+
+abbrev pub resource_line_seen : ResLine → model.ResourceLine
+resource_line_seen (resources.ViewClear view clear) = model.clear_line view (clear_seen clear)
+
+abbrev pub encoder_line_seen : EncLine → model.EncoderLine
+encoder_line_seen (lines.Touch view) = model.touch_line view
+
+abbrev pub block_seen : EncBlock → model.Block
+block_seen b = record { encoder = b.encoder; lines = map encoder_line_seen b.lines }
+
+abbrev pub frame_seen : SceneFrame → model.SceneFrame
+frame_seen f = record { before = map resource_line_seen f.before; blocks = map block_seen f.blocks; beside = map resource_line_seen f.beside }
+
+abbrev pub name_seen : SceneName → List ℕ
+name_seen n = n.text
+
+abbrev pub scene_seen : Scene → model.Scene
+scene_seen s = record {
+  width = s.width;
+  height = s.height;
+  encoders = s.encoders;
+  room = room_seen s.room;
+  names = map name_seen s.names;
+  frames = map frame_seen s.frames;
+}
+
+abbrev pub entry_seen : JournalEntry → journals.Entry
+entry_seen e = record { encoder = e.encoder; ordinal = e.ordinal }
+
+abbrev pub journal_seen : Journal → journals.Journal
+journal_seen j = map (map entry_seen) j.frames

@@ -1,0 +1,26 @@
+//! Scenes, and the text that stands for one.
+#![tactic(auto)]
+
+mod encoder_lines;
+mod fault;
+mod fields;
+mod frames;
+mod journal;
+mod numbers;
+mod reading;
+mod resource_lines;
+mod scene;
+mod sequence;
+mod splitting;
+mod stages;
+mod text;
+mod words;
+
+pub use fault::SceneFault;
+pub use journal::{Journal, JournalEntry};
+pub use scene::{Clear, EncBlock, EncLine, ResLine, Room, Scene, SceneFrame, SceneName};
+pub use sequence::Sequence;
+pub use text::read;
+
+#[cfg(test)]
+mod tests;

@@ -1,0 +1,96 @@
+// Whole texts.
+ghost use Rattle.std.specs.Prelude.{◌≡◌, ◌≤◌, length};
+ghost use Rattle.scene_model.specs.Grammar.{scene_of};
+ghost use Rattle.scene_model.specs.Grammar as model;
+ghost use Rattle.scene_text.specs.Reads.{Reads, at};
+ghost use Rattle.scene_text.specs.Seen.{scene_seen};
+ghost use Rattle.scene_text.specs.SeenReading.{reading_seen};
+ghost use Rattle.scene_text.specs.Spoken.{spoken};
+
+use crate::fault::{Cause, LineFault, SceneFault};
+use crate::reading::{Reading, all_text};
+use crate::scene::Scene;
+use crate::sequence::Sequence;
+use crate::splitting::find;
+use crate::stages::Stage;
+use std::alloc::Global;
+
+/// The fault of a line.
+fn at(line: u32, fault: LineFault) -> SceneFault
+    ensures { result ≡ at fault line }
+{
+    match fault {
+        LineFault::Bad(cause) => SceneFault::At {
+            line,
+            cause: cause.number(),
+        },
+        LineFault::OutOfMemory => SceneFault::OutOfMemory,
+    }
+}
+
+/// The scene that was read.
+fn scene(alloc: Global, reading: Reading) -> Scene
+    ensures { scene_seen result ≡ model.scene_read (reading_seen reading) }
+{
+    Scene {
+        width: reading.width,
+        height: reading.height,
+        encoders: reading.encoders,
+        room: reading.room,
+        names: Sequence::new(alloc),
+        frames: Sequence::from_vec(reading.frames),
+    }
+}
+
+/// What the last piece makes, which no newline ends.
+fn at_last_piece(
+    alloc: Global,
+    line: u32,
+    reading: Reading,
+    rest: &[u8],
+) -> Result<Scene, SceneFault>
+    ensures { Reads result (model.at_last_piece line (reading_seen reading) rest.now) }
+{
+    match rest {
+        [] => {
+            if reading.stage == Stage::AtEnd {
+                Ok(scene(alloc, reading))
+            } else {
+                Err(at(line, LineFault::Bad(Cause::EndsEarly)))
+            }
+        }
+        [first, ..] => {
+            if *first == b'#' {
+                return Err(at(line, LineFault::Bad(Cause::EndsEarly)));
+            }
+            if all_text(rest) {
+                return Err(at(line, LineFault::Bad(Cause::EndsEarly)));
+            }
+            Err(at(line, LineFault::Bad(Cause::BadByte)))
+        }
+    }
+}
+
+/// The scene that the bytes are, or the first line that fails, counted from 1, with its first cause.
+///
+/// The lines are those of the scene text of `docs/behaviour.md` whose words the reader knows: `scene`, `size`,
+/// `encoders`, `room`, `frame`, `view V clear`, `encoder`, `touch`, `beside`, `done` and skipped lines. Every other word
+/// has cause 3, and every other setting of a view cause 11. One pass over the bytes, and no line is copied.
+pub fn read(alloc: Global, bytes: &[u8]) -> Result<Scene, SceneFault>
+    requires { length bytes.now ≤ 4294967294 }
+    ensures exact { Reads result (scene_of spoken bytes.now) }
+{
+    let mut reading = Reading::new(alloc);
+    let mut fields = Vec::new(alloc);
+    let mut rest = bytes;
+    let mut line: u32 = 1;
+    while let Some(n) = find(rest, b'\n') {
+        match reading.after_line(alloc, &rest[..n], &mut fields) {
+            Ok(()) => {}
+            Err(fault) => return Err(at(line, fault)),
+        }
+        rest = &rest[n + 1..];
+        line += 1;
+    }
+    at_last_piece(alloc, line, reading, rest)
+}

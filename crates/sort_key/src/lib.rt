@@ -1,0 +1,191 @@
+//! Sort keys: numbers that order the draws and touches of a frame.
+#![tactic(auto)]
+
+ghost use Rattle.std.specs.Prelude.{◌≡◌, ◌<◌, ◌≤◌, ◌^◌, if◌then◌else◌};
+ghost use Rattle.gfx_model.specs.Views.{position_bits, key_fields, key_bits, low_bits};
+ghost use Rattle.gfx_words.specs.Seen.{mode_seen};
+ghost use Rattle.sort_key.specs.Fields.{IsKeyFields};
+ghost use Rattle.sort_key.specs.Order.{OrderOfKeys, OneKeyOneFields};
+ghost use Rattle.sort_key.specs.Seen.{fields_seen};
+
+use gfx_words::ViewMode;
+use std::marker::Model;
+
+// how many of a key's 64 bits say the view's position; the bits below them shift with it
+const POSITION_BITS: u32 = 8;
+
+/// The fields of a key; one that the mode's key does not hold is 0.
+#[derive(Clone, Copy, Drop, PartialEq, Eq, Debug)]
+pub struct KeyFields {
+    /// The view's position in the order of the views.
+    pub position: u16,
+    /// 0 by program, 1 by depth, 2 by number.
+    pub mode_type: u8,
+    pub blended: bool,
+    /// The program's index, and 511 for a touch.
+    pub program: u16,
+    /// The depth, or 4,294,967,295 less the depth where the deepest come first.
+    pub depth_field: u32,
+    /// The number within the frame.
+    pub number: u32,
+}
+
+/// The key of a draw or touch; keys compare as their numbers do.
+#[derive(Clone, Copy, Drop, PartialEq, Eq, Debug)]
+pub struct SortKey {
+    bits: u64,
+}
+
+impl Model for SortKey {
+    ghost use Rattle.gfx_model.specs.Views.{KeyFields, key_bits};
+    ghost use Rattle.sort_key.specs.Fields.{fields_of, IsKey};
+
+    ghost Value = { KeyFields };
+
+    ghost view = { λ s. fields_of s.bits };
+
+    ghost invariant = { λ s. IsKey s.bits };
+
+    ghost inverse = { λ k. record { bits = key_bits k } };
+}
+
+fn fields(
+    mode: ViewMode,
+    position: u16,
+    blended: bool,
+    program: u16,
+    depth: u32,
+    number: u32,
+) -> KeyFields
+    ensures { fields_seen result ≡ key_fields (mode_seen mode) position (if blended then 1 else 0) program depth number }
+{
+    let plain = KeyFields {
+        position,
+        mode_type: 0,
+        blended,
+        program,
+        depth_field: 0,
+        number: 0,
+    };
+    match mode {
+        ViewMode::Default => KeyFields {
+            depth_field: depth,
+            ..plain
+        },
+        ViewMode::Sequential => KeyFields {
+            mode_type: 2,
+            number,
+            ..plain
+        },
+        ViewMode::DepthAscending => KeyFields {
+            mode_type: 1,
+            depth_field: depth,
+            ..plain
+        },
+        ViewMode::DepthDescending => KeyFields {
+            mode_type: 1,
+            depth_field: u32::MAX - depth,
+            ..plain
+        },
+    }
+}
+
+// the bits below the type
+fn low_bits(key: KeyFields) -> u64
+    requires { IsKeyFields (fields_seen key) }
+    ensures { result ≡ low_bits (fields_seen key) }
+{
+    let blend = key.blended as u64;
+    let program = key.program as u64;
+    let depth = key.depth_field as u64;
+    match key.mode_type {
+        0 => (blend << (59 - POSITION_BITS))
+            + (program << (50 - POSITION_BITS))
+            + (depth << (18 - POSITION_BITS)),
+        1 => (depth << (29 - POSITION_BITS))
+            + (blend << (27 - POSITION_BITS))
+            + (program << (18 - POSITION_BITS)),
+        _ => ((key.number as u64) << 33) + (blend << 31) + (program << 22),
+    }
+}
+
+impl SortKey {
+    /// The key of a draw, or of a touch with program 511, no blending and depth 0.
+    ///
+    /// The position is that of the view in the order, the number that within the frame.
+    pub fn draw(
+        mode: ViewMode,
+        position: u16,
+        blended: bool,
+        program: u16,
+        depth: u32,
+        number: u32,
+    ) -> SortKey
+        requires position { position < 2 ^ position_bits }
+        requires program { program ≤ 511 }
+        requires number { number < 2 ^ 20 }
+        ensures { result ≡ key_fields (mode_seen mode) position (if blended then 1 else 0) program depth number }
+    {
+        let key = fields(mode, position, blended, program, depth, number);
+        let top = ((key.position as u64) << (64 - POSITION_BITS)) + (1 << (63 - POSITION_BITS));
+        SortKey {
+            bits: top + ((key.mode_type as u64) << (61 - POSITION_BITS)) + low_bits(key),
+        }
+    }
+
+    /// The number of this key.
+    pub fn bits(self) -> u64
+        ensures { result ≡ key_bits self }
+    {
+        self.bits
+    }
+
+    /// The position of the view in the order.
+    pub fn view_position(self) -> u16
+        ensures { result ≡ self.position }
+    {
+        (self.bits >> (64 - POSITION_BITS)) as u16
+    }
+
+    /// The fields of this key.
+    pub fn decode(self) -> KeyFields
+        ensures { fields_seen result ≡ self }
+    {
+        let position = self.view_position();
+        let at = |low: u32, count: u32| self.bits >> low & ((1 << count) - 1);
+        match at(61 - POSITION_BITS, 2) {
+            0 => KeyFields {
+                position,
+                mode_type: 0,
+                blended: at(59 - POSITION_BITS, 2) == 1,
+                program: at(50 - POSITION_BITS, 9) as u16,
+                depth_field: at(18 - POSITION_BITS, 32) as u32,
+                number: 0,
+            },
+            1 => KeyFields {
+                position,
+                mode_type: 1,
+                blended: at(27 - POSITION_BITS, 2) == 1,
+                program: at(18 - POSITION_BITS, 9) as u16,
+                depth_field: at(29 - POSITION_BITS, 32) as u32,
+                number: 0,
+            },
+            _ => KeyFields {
+                position,
+                mode_type: 2,
+                blended: at(31, 2) == 1,
+                program: at(22, 9) as u16,
+                depth_field: 0,
+                number: at(33, 20) as u32,
+            },
+        }
+    }
+}
+
+/// Two keys compare as numbers just as their fields do from the highest down: the position, the type, and then the fields of
+/// the type, as blend, program and depth; depth, blend and program; or number, blend and program. And keys that are equal have
+/// equal fields.
+pub fn order_of_keys()
+    ensures order { OrderOfKeys }
+    ensures one { OneKeyOneFields }
+{}

@@ -1,0 +1,4 @@
+pub mod ListLaws
+pub mod SlotLaws
+pub mod BuildLaws
+pub mod FetchLaws

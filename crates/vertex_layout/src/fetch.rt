@@ -1,0 +1,145 @@
+// From bytes to vertices.
+ghost use Rattle.std.specs.Prelude.{◌≡◌, ◌+◌, ◌*◌, ◌<◌, ◌≤◌, ◌/◌, ◌%◌, min, pos, ◌*ℤ◌, length, option_map, IfSome, slice_index};
+ghost use Rattle.gfx_model.specs.Number.{at_least_zero, int_at, u16_at as u16_of, i16_at as i16_of, i32_at as i32_of};
+ghost use Rattle.gfx_model.specs.Vertex as model;
+ghost use Rattle.fix_math.specs.Seen.{point_seen};
+ghost use Rattle.vertex_layout.specs.Kinds.{component_seen};
+ghost use Rattle.vertex_layout.specs.Placed.{placed_seen, end_of};
+ghost use Rattle.vertex_layout.specs.Seen.{components_in};
+
+use crate::attributes::{AttrType, PlacedAttr};
+use fix_math::Point;
+
+/// What a vertex's bytes stand for: a position and a texture coordinate in units of 1/65536, and a colour as
+/// red, green, blue and alpha.
+#[derive(Clone, Copy, Drop, PartialEq, Eq, Debug)]
+pub struct Vertex {
+    pub position: Point,
+    pub color: [u8; 4],
+    pub texcoord: [i32; 2],
+}
+
+fn u16_at(bytes: &[u8], at: usize) -> u16
+    requires { at + 1 < length bytes.now }
+    ensures { result ≡ u16_of bytes.now at }
+{
+    bytes[at] as u16 + 256 * bytes[at + 1] as u16
+}
+
+fn i16_at(bytes: &[u8], at: usize) -> i16
+    requires { at + 1 < length bytes.now }
+    ensures { result ≡ i16_of bytes.now at }
+{
+    u16_at(bytes, at).cast_signed()
+}
+
+fn i32_at(bytes: &[u8], at: usize) -> i32
+    requires { at + 3 < length bytes.now }
+    ensures { result ≡ i32_of bytes.now at }
+{
+    let word = u16_at(bytes, at) as u32 + 65536 * u16_at(bytes, at + 2) as u32;
+    word.cast_signed()
+}
+
+/// A byte as a share of 65536.
+fn share(byte: u8) -> i32
+    ensures { result ≡ pos (byte * 65536 / 255) }
+{
+    (byte as u32 * 65536 / 255) as i32
+}
+
+/// The component that begins at a place, in units of 1/65536.
+fn fixed_at(kind: AttrType, bytes: &[u8], at: usize) -> i32
+    requires { at + model.component_size (component_seen kind) ≤ length bytes.now }
+    ensures { result ≡ model.fixed_at (component_seen kind) bytes.now at }
+{
+    match kind {
+        AttrType::U8 => share(bytes[at]),
+        AttrType::I16 => 2 * i16_at(bytes, at) as i32,
+        AttrType::Fixed => i32_at(bytes, at),
+    }
+}
+
+/// The component of a number, counted from 0, of the vertex that begins at a place.
+fn component(placed: &PlacedAttr, bytes: &[u8], at: usize, number: u8) -> i32
+    requires few { number < placed.now.count }
+    requires within { at + end_of placed.now ≤ length bytes.now }
+    ensures { result ≡ int_at (model.components_at (placed_seen placed.now) bytes.now at) number }
+{
+    let place = at + placed.offset as usize + placed.kind.size() as usize * number as usize;
+    fixed_at(placed.kind, bytes, place)
+}
+
+/// The same, or 0 where the attribute has fewer components.
+fn component_or_zero(placed: &PlacedAttr, bytes: &[u8], at: usize, number: u8) -> i32
+    requires { at + end_of placed.now ≤ length bytes.now }
+    ensures { result ≡ int_at (model.components_at (placed_seen placed.now) bytes.now at) number }
+{
+    if number < placed.count {
+        component(placed, bytes, at, number)
+    } else {
+        0
+    }
+}
+
+/// The component as a byte, or the given byte where the attribute has fewer components.
+fn byte_or(missing: u8, placed: &PlacedAttr, bytes: &[u8], at: usize, number: u8) -> u8
+    requires { at + end_of placed.now ≤ length bytes.now }
+    ensures { result ≡ model.byte_or missing (model.components_at (placed_seen placed.now) bytes.now at) number }
+{
+    if number < placed.count {
+        byte_of_fixed(component(placed, bytes, at, number))
+    } else {
+        missing
+    }
+}
+
+/// A share of 65536 as a byte, rounded to the nearest; what lies below 0 or above 65536 counts as these.
+pub fn byte_of_fixed(value: i32) -> u8
+    ensures { result ≡ model.byte_of_fixed value }
+{
+    let share = if value < 0 { 0 } else { value as u32 };
+    ((share.min(65536) * 255 + 32768) / 65536) as u8
+}
+
+pub(crate) fn position_of(placed: &Option<PlacedAttr>, bytes: &[u8], at: usize) -> Point
+    requires { IfSome placed.now (λ p. at + end_of p ≤ length bytes.now) }
+    ensures { point_seen result ≡ model.position_of (components_in placed.now bytes.now at) }
+{
+    match placed {
+        Some(placed) => Point {
+            x: component_or_zero(placed, bytes, at, 0),
+            y: component_or_zero(placed, bytes, at, 1),
+            z: component_or_zero(placed, bytes, at, 2),
+        },
+        None => Point { x: 0, y: 0, z: 0 },
+    }
+}
+
+pub(crate) fn color_of(placed: &Option<PlacedAttr>, bytes: &[u8], at: usize) -> [u8; 4]
+    requires { IfSome placed.now (λ p. at + end_of p ≤ length bytes.now) }
+    ensures { result ≡ model.color_of (components_in placed.now bytes.now at) }
+{
+    match placed {
+        Some(placed) => [
+            byte_or(0, placed, bytes, at, 0),
+            byte_or(0, placed, bytes, at, 1),
+            byte_or(0, placed, bytes, at, 2),
+            byte_or(255, placed, bytes, at, 3),
+        ],
+        None => [255; 4],
+    }
+}
+
+pub(crate) fn texcoord_of(placed: &Option<PlacedAttr>, bytes: &[u8], at: usize) -> [i32; 2]
+    requires { IfSome placed.now (λ p. at + end_of p ≤ length bytes.now) }
+    ensures { result ≡ model.texcoord_of (components_in placed.now bytes.now at) }
+{
+    match placed {
+        Some(placed) => [
+            component_or_zero(placed, bytes, at, 0),
+            component_or_zero(placed, bytes, at, 1),
+        ],
+        None => [0; 2],
+    }
+}

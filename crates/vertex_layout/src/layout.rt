@@ -1,0 +1,125 @@
+// Finished layouts.
+ghost use Rattle.std.specs.Prelude.{◌≡◌, ◌+◌, ◌≤◌, length, true, List, map, option_map, if◌then◌else◌, Some, None};
+ghost use Rattle.std.specs.List.{list_all};
+ghost use Rattle.gfx_model.specs.Vertex.{Layout, PlacedAttribute, find_attribute, fetch};
+ghost use Rattle.vertex_layout.specs.Kinds.{attribute_seen};
+ghost use Rattle.vertex_layout.specs.Placed.{placed_seen, ends_within};
+ghost use Rattle.vertex_layout.specs.Layouts.{is_layout, vertex_at};
+ghost use Rattle.vertex_layout.specs.Seen.{vertex_seen};
+
+use crate::attributes::{Attr, AttrList, PlacedAttr};
+use crate::fetch::{Vertex, color_of, position_of, texcoord_of};
+use std::marker::Model;
+
+/// The attributes of a vertex with their places, and the bytes from one vertex to the next, 1 to 255.
+/// It takes no memory of its own.
+#[derive(Clone, Copy)]
+pub struct VertexLayout {
+    attributes: AttrList,
+    stride: u8,
+    position: Option<PlacedAttr>,
+    color: Option<PlacedAttr>,
+    texcoord: Option<PlacedAttr>,
+}
+
+impl Model for VertexLayout {
+    ghost use Rattle.gfx_model.specs.Vertex.{Layout};
+
+    ghost Value = { Layout };
+
+    ghost use Rattle.vertex_layout.specs.Inner.{view_of, IsInside, inside_of, inside_of-view};
+
+    ghost view = { view_of };
+
+    ghost invariant = { IsInside };
+
+    ghost inverse = { inside_of };
+
+    ghost inverse_ok = { inside_of-view };
+}
+
+fn all_within(attributes: &[PlacedAttr], stride: u8) -> bool
+    ensures { result ≡ list_all (ends_within stride) (map placed_seen attributes.now) }
+{
+    for placed in attributes {
+        if placed.end() > stride as u16 {
+            return false;
+        }
+    }
+    true
+}
+
+impl VertexLayout {
+    /// The layout of placed attributes. None exactly where the stride is 0 or an attribute ends past it.
+    pub fn of(attributes: AttrList, stride: u8) -> Option<VertexLayout>
+        ensures { let layout : Layout = record { attributes = attributes; stride = stride } in result ≡ (if is_layout layout then Some layout else None) }
+    {
+        if stride < 1 || !all_within(attributes.as_slice(), stride) {
+            return None;
+        }
+        Some(VertexLayout::made(attributes, stride))
+    }
+
+    fn made(attributes: AttrList, stride: u8) -> VertexLayout
+        requires { let layout : Layout = record { attributes = attributes; stride = stride } in is_layout layout ≡ true }
+        ensures { result ≡ record { attributes = attributes; stride = stride } }
+    {
+        let position = attributes.find(Attr::Position);
+        let color = attributes.find(Attr::Color0);
+        let texcoord = attributes.find(Attr::Texcoord0);
+        VertexLayout {
+            attributes,
+            stride,
+            position,
+            color,
+            texcoord,
+        }
+    }
+
+    /// The bytes from one vertex to the next.
+    pub fn stride(&self) -> u8
+        ensures { result ≡ self.now.stride }
+    {
+        self.stride
+    }
+
+    /// The attributes in the order in which they were added.
+    pub fn attributes(&self) -> &[PlacedAttr]
+        ensures items { map placed_seen result.now ≡ self.now.attributes }
+        ensures whole { is_layout self.now ≡ true }
+    {
+        self.attributes.as_slice()
+    }
+
+    /// The place of an attribute's first byte within a vertex. None exactly where the layout does not have it.
+    pub fn offset_of(&self, attr: Attr) -> Option<u8>
+        ensures { result ≡ option_map (λ p. p.offset) (find_attribute (attribute_seen attr) self.now.attributes) }
+    {
+        match self.attributes.find(attr) {
+            Some(placed) => Some(placed.offset),
+            None => None,
+        }
+    }
+
+    /// The vertex of a number, counted from 0. None exactly where its last byte lies past the end of the bytes.
+    pub fn fetch(&self, bytes: &[u8], i: u32) -> Option<Vertex>
+        ensures { option_map vertex_seen result ≡ fetch self.now bytes.now i }
+    {
+        let at = i as usize * self.stride as usize;
+        if at + self.stride as usize > bytes.len() {
+            return None;
+        }
+        Some(self.vertex_at(bytes, at))
+    }
+
+    fn vertex_at(&self, bytes: &[u8], at: usize) -> Vertex
+        requires { at + self.now.stride ≤ length bytes.now }
+        ensures { vertex_seen result ≡ vertex_at self.now bytes.now at }
+    {
+        Vertex {
+            position: position_of(&self.position, bytes, at),
+            color: color_of(&self.color, bytes, at),
+            texcoord: texcoord_of(&self.texcoord, bytes, at),
+        }
+    }
+}
