@@ -16,3 +16,6 @@ pub use places::PlaceWord;
 pub use refusals::Refusal;
 pub use states::StateWord;
 pub use stencils::StencilWord;
+
+#[cfg(test)]
+mod tests;

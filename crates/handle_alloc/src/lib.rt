@@ -93,3 +93,6 @@ impl HandleAlloc {
         self.given
     }
 }
+
+#[cfg(test)]
+mod tests;

@@ -189,3 +189,6 @@ pub fn order_of_keys()
     ensures order { OrderOfKeys }
     ensures one { OneKeyOneFields }
 {}
+
+#[cfg(test)]
+mod tests;

@@ -7,3 +7,6 @@ mod views;
 
 pub use table::{VIEWS, ViewTable};
 pub use views::{Clear, View};
+
+#[cfg(test)]
+mod tests;
