@@ -1,0 +1,4 @@
+pub mod StateLaws
+pub mod Ranges
+pub mod NameLaws
+pub mod Exits

@@ -1,0 +1,16 @@
+-- The encoder's fields as its view, and what they keep.
+use Rattle.std.specs.Prelude.{◌≡◌, ◌≤◌, ℕ, length}
+use Rattle.std.specs.List.{AllByRecursion}
+use Rattle.hold_table.specs.Views.{SeatView}
+use Rattle.draw_encoder.specs.TapeViews.{TapeView}
+use Rattle.draw_encoder.specs.Names.{HasNamed, FitsUniform, FitsRecorder}
+
+-- what is recorded is of the seat's frame and numbers, and of handles that the seat named
+pub record IsOf (views : ℕ) (v : SeatView) (t : TapeView) : Type 0 where
+  pub frame : t.recorder.frame ≡ v.frame
+  pub views_are : t.recorder.view_count ≡ views
+  pub numbers : t.numbers ≡ v.numbers
+  pub count : length t.numbers ≡ length t.recorder.items
+  pub most : t.recorder.room.items ≤ 8191
+  pub fits : FitsRecorder (HasNamed v) t.recorder
+  pub sets : AllByRecursion (FitsUniform (HasNamed v)) t.sets

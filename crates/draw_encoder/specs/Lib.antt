@@ -1,0 +1,10 @@
+pub mod Seen
+pub mod TapeViews
+pub mod States
+pub mod TapeLists
+pub mod Tapes
+pub mod Names
+pub mod Calls
+pub mod Bundles
+pub mod Encoders
+pub mod Formats

@@ -1,0 +1,65 @@
+// What all encoders share.
+ghost use Rattle.std.specs.Prelude.{◌≡◌, IfErr};
+ghost use Rattle.hold_table.specs.Seats.{table_of};
+
+use crate::bundle::Bundle;
+use crate::naming::Naming;
+use crossbeam_queue::ArrayQueue;
+use crossbeam_utils::Backoff;
+use hold_table::HoldTable;
+use std::alloc::Global;
+use std::sync::Wait;
+
+/// The hold table, and the queue of the bundles that wait, with 8 places.
+#[derive(Drop)]
+pub struct Shared<C: Naming> {
+    table: HoldTable,
+    queue: ArrayQueue<Bundle<C>>,
+    ghost named: { table_of table ≡ C.table },
+}
+
+impl<C: Naming> Shared<C> {
+    /// The queue beside the named table. `Err` only for want of memory; the table comes back.
+    pub fn new(alloc: Global, table: HoldTable) -> Result<Shared<C>, HoldTable>
+        requires { table_of table ≡ C.table }
+        ensures { IfErr result (λ t. t ≡ table) }
+    {
+        match ArrayQueue::new(alloc, 8) {
+            Ok(queue) => Ok(Shared { table, queue }),
+            Err(_) => Err(table),
+        }
+    }
+
+    /// The hold table.
+    pub fn table(&self) -> &HoldTable
+        ensures { table_of result.now ≡ C.table }
+    {
+        &self.table
+    }
+
+    /// Takes a bundle out of the queue, and waits until there is one.
+    pub fn collect<R: Wait>(&self, rt: &R) -> Bundle<C> {
+        let backoff = Backoff::new();
+        for _ in rt.forever() {
+            if let Some(bundle) = self.queue.pop(rt) {
+                return bundle;
+            }
+            backoff.snooze();
+        }
+        unreachable!()
+    }
+
+    /// Puts a bundle into the queue, and tries again while it is full.
+    pub(crate) fn put<R: Wait>(&self, rt: &R, bundle: Bundle<C>) {
+        let backoff = Backoff::new();
+        let mut bundle = bundle;
+        for _ in rt.forever() {
+            match self.queue.push(rt, bundle) {
+                Ok(()) => return,
+                Err(back) => bundle = back,
+            }
+            backoff.snooze();
+        }
+        unreachable!()
+    }
+}

@@ -1,0 +1,4 @@
+pub mod Totals
+pub mod PlaceLaws
+pub mod Keeps
+pub mod Steps

@@ -1,0 +1,17 @@
+use Rattle.std.proofs.Common.{rules, arith, ap, ◌∙◌, sym, length, length-set}
+use Rattle.gfx_model.specs.Words.{place_of_handle, dying_word}
+use Rattle.schedule_model.specs.Machine.{dying}
+use Rattle.hold_table.proofs.Steps.{destroys_keep}
+use Rattle.hold_table.proofs.table.HoldTable.place_dying.Goals as goal
+
+pub store-requires : goal.store-requires
+store-requires c = (search rules, search rules, destroys_keep _ _ _ _ _ _ (place_of_handle c.args.h) c.args.h.serial (omega (arith, c.place-place.ensures.same)) (c.word-word.ensures ∙ (λ j. dying_word (c.serial-serial.ensures j) (c.args.api.now.frame_is j))) c.args.api.now.is_api c.requires.place)
+
+pub invariant_of-api : goal.invariant_of-api
+invariant_of-api c = let told = c.store.ensures.2 (place_of_handle c.args.h) c.args.h.serial (omega (arith, c.place-place.ensures.same)) (c.word-word.ensures ∙ (λ j. dying_word (c.serial-serial.ensures j) (c.args.api.now.frame_is j))) in record {
+  frame_is = c.args.api.now.frame_is ∙ sym (ap (λ m. m.0.frame) told);
+  frame_most = c.args.api.now.frame_most;
+  many = ap (λ m. length m.0.places) told ∙ length-set c.args.api.now.seat.me.0.places (place_of_handle c.args.h) (dying c.args.h.serial c.args.api.now.seat.me.0.frame) ∙ c.args.api.now.many;
+  is_api = ap (λ m. m.0.role) told ∙ c.args.api.now.is_api;
+  no_slot = ap (λ m. m.1) told ∙ c.args.api.now.no_slot;
+}

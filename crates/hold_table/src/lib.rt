@@ -1,0 +1,10 @@
+//! The hold table: draw numbers by one counter, the words of the places of things, and who holds and names what.
+#![tactic(auto)]
+
+mod table;
+mod view;
+
+pub use table::{ApiSeat, EncSeat, HoldTable};
+
+#[cfg(test)]
+mod tests;
