@@ -1,4 +1,7 @@
 pub mod Changes
 pub mod Raster
-pub mod Spans
+pub mod Along
 pub mod Wholes
+pub mod Samples
+pub mod Ramped
+pub mod Tested

@@ -2,11 +2,11 @@
 use Rattle.std.proofs.Common.{◌≡◌, ℕ, ◌+◌, ◌*◌, ◌/◌, ◌%◌, ◌<◌, ◌≤◌, Bool, true, false, ◌&&◌, nat_le, nat_lt, if◌then◌else◌, List, [], ◌∷◌, length, fold, map, refl, ap, sym, subst, ◌∙◌, arith, ⊎_elim}
 use Rattle.std.proofs.lemmas.Nat.{div-add-mod', div_below}
 use Rattle.std.proofs.Math.Nat.{mod-lt, mul-le-mul_left}
-use Rattle.std.proofs.lemmas.Bool.{ltb-true, ltb-false, lt-ltb, le-ltb, lt-leb, and_right, cases_order}
+use Rattle.std.proofs.lemmas.Bool.{and_parts, and_from, le-leb, ltb-true, ltb-false, lt-ltb, le-ltb, lt-leb, and_right, cases_order}
 use Rattle.std.proofs.lemmas.Bool.Decides.{nat_tests}
 use Rattle.gfx_model.specs.Number.{map_from}
 use Rattle.gfx_model.specs.Pixel.{Pixel}
-use Rattle.gfx_model.specs.Raster.{contains, covers}
+use Rattle.gfx_model.specs.Raster.{Rect, contains, covers}
 use Rattle.gfx_model.specs.World.{Facing}
 use Rattle.gfx_model.proofs.PixelLaws.{map_from-map_from, fold-map_from}
 use Rattle.int_raster.specs.Drawing.{PreparedDraw, facing_shown, covered_step, facing_step, prepared_step}
@@ -15,7 +15,7 @@ use Rattle.tri_cover.specs.declared.triangles.Setup.{Setup}
 use Rattle.std.proofs.lemmas.List.Folds.{fold-map}
 use Rattle.int_raster.specs.declared.lists.Prepared.{Prepared}
 use Rattle.int_raster.specs.Seen.{prepared_seen, facing_seen, change_seen}
-use Rattle.int_raster.specs.Places.{spanned, by_place, above, where_test, facing_change}
+use Rattle.int_raster.specs.Places.{spanned, by_place, above, where_test, is_drawn, facing_change}
 use Rattle.int_raster.proofs.Changes.{map_from-same, map_from-none}
 
 -- ---- one row
@@ -154,3 +154,8 @@ setups_in_turn d w ps ss e =
     same : (ts : List Setup) → map (facing_seen d) ts ≡ map (facing_shown d.front d.back) (map setup_seen ts)
     same [] = refl
     same (t ∷ ts) = ap (λ fs. facing_seen d t ∷ fs) (same ts)
+
+-- a column between the ends of a row is covered
+pub drawn_column : (cut : Rect) (f : Facing) (first after x y : ℕ) → is_drawn cut f x y ≡ (nat_le first x && nat_lt x after) → first ≤ x → x < after → covers f.triangle x y ≡ true
+drawn_column cut f first after x y e a b =
+    (and_parts (contains cut x y) (covers f.triangle x y) (e ∙ and_from (nat_le first x) (nat_lt x after) (le-leb first x a) (lt-ltb x after b))).1

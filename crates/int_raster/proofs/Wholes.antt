@@ -24,7 +24,7 @@ deep_colors [] zs e = refl
 deep_colors (c ∷ cs) [] e = cc
 deep_colors (c ∷ cs) (z ∷ zs) e = ap (λ ds. c ∷ ds) (deep_colors cs zs (omega (arith, e)))
 
-four : (z : Color) → length z ≡ 4 → z ≡ slice_index z 0 ∷ slice_index z 1 ∷ slice_index z 2 ∷ slice_index z 3 ∷ []
+pub four : (z : Color) → length z ≡ 4 → z ≡ slice_index z 0 ∷ slice_index z 1 ∷ slice_index z 2 ∷ slice_index z 3 ∷ []
 four [] e = cc
 four (a ∷ []) e = absurd (omega (arith, e))
 four (a ∷ b ∷ []) e = absurd (omega (arith, e))

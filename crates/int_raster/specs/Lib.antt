@@ -1,3 +1,5 @@
 pub mod Drawing
 pub mod Seen
 pub mod Places
+pub mod Painted
+pub mod Rules

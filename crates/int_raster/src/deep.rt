@@ -1,65 +1,135 @@
 // Draws on a surface with depth.
-ghost use Rattle.std.specs.Prelude.{◌≡◌, ◌≤◌, ◌<◌, ◌+◌, ◌*◌, ℕ, true, Some, length};
-ghost use Rattle.gfx_model.specs.Number.{map_from, u32_at};
+ghost use Rattle.std.specs.Prelude.{◌≡◌, ◌≤◌, ◌<◌, ◌+◌, ◌*◌, ℕ, true, length, IfSome, IsTrue};
+ghost use Rattle.gfx_model.specs.Number.{map_from};
 ghost use Rattle.gfx_model.specs.Raster.{covers};
 ghost use Rattle.tri_cover.specs.Shown.{setup_seen};
 ghost use Rattle.int_raster.specs.Drawing.{prepared_step};
 ghost use Rattle.int_raster.specs.Places.{deep_pixels, spanned, by_place};
+ghost use Rattle.int_raster.specs.Painted.{PaintsSpan, HasSpanDepths, Paints, HasDepths};
+ghost use Rattle.int_raster.specs.Rules.{IsPlain};
 ghost use Rattle.int_raster.specs.Seen.{prepared_seen, step_seen, change_seen};
 
 use crate::columns::{drawn_columns, drawn_rows};
+use crate::deep_spans::{fill, step_exactly, step_painted, store, store_shade};
 use crate::lists::Prepared;
-use crate::painting::stepped;
-use pixel_ops::Pixel;
-use tri_cover::Setup;
+use crate::opaque::{Rule, rule_of};
+use crate::painters::{Painter, depth_for, is_opaque, painter_for};
+use crate::painting::stencil_of;
+use crate::spans::Span;
+use tri_cover::{Ramp, Setup};
 
-/// The depth word of a depth texel.
-fn depth_word(texel: [u8; 4]) -> u32
-    ensures { result ≡ u32_at texel 0 }
-{
-    u32::from_le_bytes(texel)
+/// What draws a triangle's pixels.
+#[derive(Clone, Copy)]
+pub(crate) struct Brush<'x> {
+    pub painter: Painter<'x>,
+    pub depth: Ramp,
 }
 
-/// The bytes of a pixel's depth word, lowest first.
-fn depth_texel(pixel: &Pixel) -> [u8; 4]
-    ensures { (word : ℕ) → pixel.now.depth ≡ Some word → u32_at result 0 ≡ word }
+/// What draws a triangle's pixels; none where 64 bits are too few.
+fn brush_of<'x>(setup: &Setup, draw: &Prepared<'x>, width: u16, height: u16) -> Option<Brush<'x>>
+    ensures paints { IfSome result (λ b. Paints b.painter draw.now setup.now width height) }
+    ensures depths { IfSome result (λ b. HasDepths b.depth setup.now width height) }
 {
-    match pixel.depth {
-        Some(word) => word.to_le_bytes(),
-        None => [0, 0, 0, 0],
-    }
+    let steps = setup.steps(width, height)?;
+    let painter = painter_for(setup, &steps, &draw.paint)?;
+    let depth = depth_for(setup, &steps)?;
+    Some(Brush { painter, depth })
 }
 
-/// Steps the pixels of a row from one column up to another, all of which the triangle covers.
-fn span_deep(
+/// Draws a span with a brush.
+fn paint(
     colors: &mut [[u8; 4]],
     depths: &mut [[u8; 4]],
-    width: u16,
-    y: u16,
-    first: u16,
-    after: u16,
+    span: &Span,
+    brush: &Brush,
+    rule: &Option<Rule>,
     setup: &Setup,
     draw: &Prepared,
 )
-    requires order { first ≤ after }
-    requires within { after ≤ width }
-    requires inside { y * width + width ≤ length colors.old }
+    requires inside { span.now.y * span.now.width + span.now.width ≤ length colors.old }
     requires same { length depths.old ≡ length colors.old }
-    requires covered { (x : ℕ) → first ≤ x → x < after → covers (setup_seen setup.now).triangle x y ≡ true }
-    ensures { deep_pixels colors.new depths.new ≡ map_from (spanned (by_place width (step_seen draw.now setup.now)) (y * width + first) (y * width + after)) 0 (deep_pixels colors.old depths.old) }
+    requires paints { PaintsSpan brush.now.painter draw.now setup.now span.now.y span.now.first span.now.after }
+    requires depths { HasSpanDepths brush.now.depth setup.now span.now.y span.now.first span.now.after }
+    requires rule { IfSome rule.now (λ r. IsPlain r draw.now setup.now) }
+    ensures { deep_pixels colors.new depths.new ≡ map_from (spanned (by_place span.now.width (step_seen draw.now setup.now)) (span.now.y * span.now.width + span.now.first) (span.now.y * span.now.width + span.now.after)) 0 (deep_pixels colors.old depths.old) }
 {
-    let start = y as usize * width as usize;
-    for x in first..after {
-        let color = colors[start + x as usize];
-        let word = depth_word(depths[start + x as usize]);
-        let before = Pixel {
-            color,
-            depth: Some(word),
-        };
-        let after = stepped(before, setup, x, y, draw);
-        let painted = after.color;
-        colors[start + x as usize] = painted;
-        depths[start + x as usize] = depth_texel(&after);
+    match rule {
+        Some(rule) => match &brush.painter {
+            Painter::Solid(color) => fill(
+                colors,
+                depths,
+                span,
+                *color,
+                &brush.depth,
+                rule,
+                setup,
+                draw,
+            ),
+            Painter::Vertex(shade) => store_shade(
+                colors,
+                depths,
+                span,
+                shade,
+                &brush.depth,
+                rule,
+                setup,
+                draw,
+            ),
+            painter => store(
+                colors,
+                depths,
+                span,
+                painter,
+                &brush.depth,
+                rule,
+                setup,
+                draw,
+            ),
+        },
+        None => step_painted(
+            colors,
+            depths,
+            span,
+            &brush.painter,
+            &brush.depth,
+            setup,
+            draw,
+        ),
+    }
+}
+
+/// Draws a span that a triangle covers, with a brush where there is one.
+fn draw_span(
+    colors: &mut [[u8; 4]],
+    depths: &mut [[u8; 4]],
+    span: &Span,
+    brush: &Option<Brush>,
+    rule: &Option<Rule>,
+    setup: &Setup,
+    draw: &Prepared,
+)
+    requires inside { span.now.y * span.now.width + span.now.width ≤ length colors.old }
+    requires same { length depths.old ≡ length colors.old }
+    requires covered { (x : ℕ) → span.now.first ≤ x → x < span.now.after → covers (setup_seen setup.now).triangle x span.now.y ≡ true }
+    requires paints { IfSome brush.now (λ b. PaintsSpan b.painter draw.now setup.now span.now.y span.now.first span.now.after) }
+    requires depths { IfSome brush.now (λ b. HasSpanDepths b.depth setup.now span.now.y span.now.first span.now.after) }
+    requires rule { IfSome rule.now (λ r. IsPlain r draw.now setup.now) }
+    ensures { deep_pixels colors.new depths.new ≡ map_from (spanned (by_place span.now.width (step_seen draw.now setup.now)) (span.now.y * span.now.width + span.now.first) (span.now.y * span.now.width + span.now.after)) 0 (deep_pixels colors.old depths.old) }
+{
+    match brush {
+        Some(brush) => paint(colors, depths, span, brush, rule, setup, draw),
+        None => step_exactly(colors, depths, span, setup, draw),
+    }
+}
+
+/// The depth test of a triangle that is stored as it is painted; none where it is blended, masked or has a stencil word.
+fn plain_rule(setup: &Setup, draw: &Prepared) -> Option<Rule>
+    ensures { IfSome result (λ r. IsPlain r draw.now setup.now) }
+{
+    if is_opaque(&draw.state) && stencil_of(draw, setup).word() == 0 {
+        Some(rule_of(&draw.state))
+    } else {
+        None
     }
 }
 
@@ -77,10 +147,18 @@ fn triangle_deep(
     requires same { length depths.old ≡ length colors.old }
     ensures { deep_pixels colors.new depths.new ≡ map_from (by_place width (change_seen draw.now setup.now)) 0 (deep_pixels colors.old depths.old) }
 {
-    let (first, after) = drawn_rows(setup, &draw.cut, height);
-    for y in first..after {
-        let (left, right) = drawn_columns(setup, &draw.cut, y, width);
-        span_deep(colors, depths, width, y, left, right, setup, draw);
+    let brush = brush_of(setup, draw, width, height);
+    let rule = plain_rule(setup, draw);
+    let (top, bottom) = drawn_rows(setup, &draw.cut, height);
+    for y in top..bottom {
+        let (first, after) = drawn_columns(setup, &draw.cut, y, width);
+        let span = Span {
+            width,
+            y,
+            first,
+            after,
+        };
+        draw_span(colors, depths, &span, &brush, &rule, setup, draw);
     }
 }
 

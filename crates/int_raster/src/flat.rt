@@ -1,40 +1,145 @@
 // Draws on a surface without depth.
-ghost use Rattle.std.specs.Prelude.{◌≡◌, ◌≤◌, ◌<◌, ◌+◌, ◌*◌, ℕ, true, length};
+ghost use Rattle.std.specs.Prelude.{◌≡◌, ◌≤◌, ◌<◌, ◌+◌, ◌*◌, ℕ, true, length, IfSome};
 ghost use Rattle.gfx_model.specs.Number.{map_from};
-ghost use Rattle.gfx_model.specs.Raster.{covers};
+ghost use Rattle.gfx_model.specs.Raster.{covers, fragment_at};
+ghost use Rattle.gfx_model.specs.World.{painted};
 ghost use Rattle.tri_cover.specs.Shown.{setup_seen};
 ghost use Rattle.int_raster.specs.Drawing.{prepared_step};
 ghost use Rattle.int_raster.specs.Places.{flat_pixels, spanned, by_place};
-ghost use Rattle.int_raster.specs.Seen.{prepared_seen, step_seen, change_seen};
+ghost use Rattle.int_raster.specs.Painted.{shade_at, PaintsSpan, Paints, IsOpaque};
+ghost use Rattle.int_raster.specs.Seen.{paint_seen, prepared_seen, step_seen, change_seen};
 
 use crate::columns::{drawn_columns, drawn_rows};
 use crate::lists::Prepared;
-use crate::painting::stepped;
+use crate::painters::{Painter, Shade, color_at, is_opaque, painter_of, value_at, whole};
+use crate::painting::{stepped, stepped_by};
+use crate::spans::Span;
 use pixel_ops::Pixel;
 use tri_cover::Setup;
 
-/// Steps the pixels of a row from one column up to another, all of which the triangle covers.
-fn span_flat(
+/// Steps the pixels of a span by the exact means at each.
+fn step_exactly(colors: &mut [[u8; 4]], span: &Span, setup: &Setup, draw: &Prepared)
+    requires inside { span.now.y * span.now.width + span.now.width ≤ length colors.old }
+    requires covered { (x : ℕ) → span.now.first ≤ x → x < span.now.after → covers (setup_seen setup.now).triangle x span.now.y ≡ true }
+    ensures { flat_pixels colors.new ≡ map_from (spanned (by_place span.now.width (step_seen draw.now setup.now)) (span.now.y * span.now.width + span.now.first) (span.now.y * span.now.width + span.now.after)) 0 (flat_pixels colors.old) }
+{
+    let start = span.y as usize * span.width as usize;
+    for x in span.first..span.after {
+        let color = colors[start + x as usize];
+        let after = stepped(Pixel { color, depth: None }, setup, x, span.y, draw);
+        let painted = after.color;
+        colors[start + x as usize] = painted;
+    }
+}
+
+/// Steps the pixels of a span by a painter's colours.
+fn step_painted(
     colors: &mut [[u8; 4]],
-    width: u16,
-    y: u16,
-    first: u16,
-    after: u16,
+    span: &Span,
+    painter: &Painter,
     setup: &Setup,
     draw: &Prepared,
 )
-    requires order { first ≤ after }
-    requires within { after ≤ width }
-    requires inside { y * width + width ≤ length colors.old }
-    requires covered { (x : ℕ) → first ≤ x → x < after → covers (setup_seen setup.now).triangle x y ≡ true }
-    ensures { flat_pixels colors.new ≡ map_from (spanned (by_place width (step_seen draw.now setup.now)) (y * width + first) (y * width + after)) 0 (flat_pixels colors.old) }
+    requires inside { span.now.y * span.now.width + span.now.width ≤ length colors.old }
+    requires paints { PaintsSpan painter.now draw.now setup.now span.now.y span.now.first span.now.after }
+    ensures { flat_pixels colors.new ≡ map_from (spanned (by_place span.now.width (step_seen draw.now setup.now)) (span.now.y * span.now.width + span.now.first) (span.now.y * span.now.width + span.now.after)) 0 (flat_pixels colors.old) }
 {
-    let start = y as usize * width as usize;
-    for x in first..after {
+    let start = span.y as usize * span.width as usize;
+    for x in span.first..span.after {
         let color = colors[start + x as usize];
-        let after = stepped(Pixel { color, depth: None }, setup, x, y, draw);
+        let shade = color_at(painter, x, span.y);
+        let after = stepped_by(Pixel { color, depth: None }, shade, 0, setup, draw);
         let painted = after.color;
         colors[start + x as usize] = painted;
+    }
+}
+
+/// Stores one colour in a span.
+fn fill(colors: &mut [[u8; 4]], span: &Span, color: [u8; 4], setup: &Setup, draw: &Prepared)
+    requires inside { span.now.y * span.now.width + span.now.width ≤ length colors.old }
+    requires opaque { IsOpaque draw.now.state }
+    requires paints { (x : ℕ) → span.now.first ≤ x → x < span.now.after → color ≡ painted (paint_seen draw.now.paint) (fragment_at (setup_seen setup.now).triangle x span.now.y) }
+    ensures { flat_pixels colors.new ≡ map_from (spanned (by_place span.now.width (step_seen draw.now setup.now)) (span.now.y * span.now.width + span.now.first) (span.now.y * span.now.width + span.now.after)) 0 (flat_pixels colors.old) }
+{
+    let start = span.y as usize * span.width as usize;
+    let bytes = whole(color);
+    for x in span.first..span.after {
+        colors[start + x as usize] = bytes;
+    }
+}
+
+/// Stores a painter's colours in a span.
+fn store(colors: &mut [[u8; 4]], span: &Span, painter: &Painter, setup: &Setup, draw: &Prepared)
+    requires inside { span.now.y * span.now.width + span.now.width ≤ length colors.old }
+    requires opaque { IsOpaque draw.now.state }
+    requires paints { PaintsSpan painter.now draw.now setup.now span.now.y span.now.first span.now.after }
+    ensures { flat_pixels colors.new ≡ map_from (spanned (by_place span.now.width (step_seen draw.now setup.now)) (span.now.y * span.now.width + span.now.first) (span.now.y * span.now.width + span.now.after)) 0 (flat_pixels colors.old) }
+{
+    let start = span.y as usize * span.width as usize;
+    for x in span.first..span.after {
+        colors[start + x as usize] = whole(color_at(painter, x, span.y));
+    }
+}
+
+/// Stores the vertices' colours in a span.
+fn store_shade(colors: &mut [[u8; 4]], span: &Span, shade: &Shade, setup: &Setup, draw: &Prepared)
+    requires inside { span.now.y * span.now.width + span.now.width ≤ length colors.old }
+    requires opaque { IsOpaque draw.now.state }
+    requires paints { (x : ℕ) → span.now.first ≤ x → x < span.now.after → shade_at shade.now x span.now.y ≡ painted (paint_seen draw.now.paint) (fragment_at (setup_seen setup.now).triangle x span.now.y) }
+    ensures { flat_pixels colors.new ≡ map_from (spanned (by_place span.now.width (step_seen draw.now setup.now)) (span.now.y * span.now.width + span.now.first) (span.now.y * span.now.width + span.now.after)) 0 (flat_pixels colors.old) }
+{
+    let start = span.y as usize * span.width as usize;
+    let mut red = value_at(&shade.red, span.first, span.y);
+    let mut green = value_at(&shade.green, span.first, span.y);
+    let mut blue = value_at(&shade.blue, span.first, span.y);
+    let mut alpha = value_at(&shade.alpha, span.first, span.y);
+    for x in span.first..span.after {
+        colors[start + x as usize] = [
+            (red >> 56) as u8,
+            (green >> 56) as u8,
+            (blue >> 56) as u8,
+            (alpha >> 56) as u8,
+        ];
+        red = red.wrapping_add(shade.red.right);
+        green = green.wrapping_add(shade.green.right);
+        blue = blue.wrapping_add(shade.blue.right);
+        alpha = alpha.wrapping_add(shade.alpha.right);
+    }
+}
+
+/// Draws a span with a painter.
+fn paint(colors: &mut [[u8; 4]], span: &Span, painter: &Painter, setup: &Setup, draw: &Prepared)
+    requires inside { span.now.y * span.now.width + span.now.width ≤ length colors.old }
+    requires paints { PaintsSpan painter.now draw.now setup.now span.now.y span.now.first span.now.after }
+    ensures { flat_pixels colors.new ≡ map_from (spanned (by_place span.now.width (step_seen draw.now setup.now)) (span.now.y * span.now.width + span.now.first) (span.now.y * span.now.width + span.now.after)) 0 (flat_pixels colors.old) }
+{
+    if is_opaque(&draw.state) {
+        match painter {
+            Painter::Solid(color) => fill(colors, span, *color, setup, draw),
+            Painter::Vertex(shade) => store_shade(colors, span, shade, setup, draw),
+            _ => store(colors, span, painter, setup, draw),
+        }
+    } else {
+        step_painted(colors, span, painter, setup, draw);
+    }
+}
+
+/// Draws a span that a triangle covers, with a painter where there is one.
+fn draw_span(
+    colors: &mut [[u8; 4]],
+    span: &Span,
+    painter: &Option<Painter>,
+    setup: &Setup,
+    draw: &Prepared,
+)
+    requires inside { span.now.y * span.now.width + span.now.width ≤ length colors.old }
+    requires covered { (x : ℕ) → span.now.first ≤ x → x < span.now.after → covers (setup_seen setup.now).triangle x span.now.y ≡ true }
+    requires paints { IfSome painter.now (λ p. PaintsSpan p draw.now setup.now span.now.y span.now.first span.now.after) }
+    ensures { flat_pixels colors.new ≡ map_from (spanned (by_place span.now.width (step_seen draw.now setup.now)) (span.now.y * span.now.width + span.now.first) (span.now.y * span.now.width + span.now.after)) 0 (flat_pixels colors.old) }
+{
+    match painter {
+        Some(painter) => paint(colors, span, painter, setup, draw),
+        None => step_exactly(colors, span, setup, draw),
     }
 }
 
@@ -44,10 +149,17 @@ fn triangle_flat(colors: &mut [[u8; 4]], width: u16, height: u16, setup: &Setup,
     requires whole { length colors.old ≡ width * height }
     ensures { flat_pixels colors.new ≡ map_from (by_place width (change_seen draw.now setup.now)) 0 (flat_pixels colors.old) }
 {
-    let (first, after) = drawn_rows(setup, &draw.cut, height);
-    for y in first..after {
-        let (left, right) = drawn_columns(setup, &draw.cut, y, width);
-        span_flat(colors, width, y, left, right, setup, draw);
+    let painter = painter_of(setup, draw, width, height);
+    let (top, bottom) = drawn_rows(setup, &draw.cut, height);
+    for y in top..bottom {
+        let (first, after) = drawn_columns(setup, &draw.cut, y, width);
+        let span = Span {
+            width,
+            y,
+            first,
+            after,
+        };
+        draw_span(colors, &span, &painter, setup, draw);
     }
 }
 

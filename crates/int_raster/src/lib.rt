@@ -3,10 +3,14 @@
 
 mod columns;
 mod deep;
+mod deep_spans;
 mod drawing;
 mod flat;
 mod lists;
+mod opaque;
+mod painters;
 mod painting;
+mod spans;
 mod surfaces;
 
 pub use drawing::draw_view;

@@ -1,7 +1,8 @@
 // The colour of a fragment, and its step on a pixel.
-ghost use Rattle.std.specs.Prelude.{◌≡◌, true, ◌||◌, ◌==◌, if◌then◌else◌};
+ghost use Rattle.std.specs.Prelude.{◌≡◌, ◌≤◌, true, ◌||◌, ◌==◌, if◌then◌else◌};
 ghost use Rattle.gfx_model.specs.World as world;
 ghost use Rattle.gfx_model.specs.Number.{zip_with, byte_product};
+ghost use Rattle.gfx_model.specs.Pixel.{pixel_step as model_step};
 ghost use Rattle.gfx_model.specs.Raster.{covers};
 ghost use Rattle.tri_cover.specs.Seen.{fragment_seen};
 ghost use Rattle.tri_cover.specs.Shown.{setup_seen};
@@ -13,7 +14,7 @@ use gfx_words::StencilWord;
 use pixel_ops::{Pixel, Shaded, multiply, pixel_step};
 use tri_cover::{Fragment, Setup};
 
-fn product(a: [u8; 4], b: [u8; 4]) -> [u8; 4]
+pub(crate) fn product(a: [u8; 4], b: [u8; 4]) -> [u8; 4]
     ensures { result ≡ zip_with byte_product a b }
 {
     [
@@ -60,5 +61,20 @@ pub(crate) fn stepped(before: Pixel, setup: &Setup, x: u16, y: u16, draw: &Prepa
         color: painted(&draw.paint, &fragment),
         depth: fragment.depth,
     };
+    pixel_step(before, &shaded, &draw.state, stencil_of(draw, setup))
+}
+
+/// A pixel after a triangle of a draw that has a colour and a depth there.
+pub(crate) fn stepped_by(
+    before: Pixel,
+    color: [u8; 4],
+    depth: u32,
+    setup: &Setup,
+    draw: &Prepared,
+) -> Pixel
+    requires { depth ≤ 16777215 }
+    ensures { pixel_seen result ≡ model_step (pixel_seen before) (record { color = color; depth = depth }) draw.now.state (facing_seen draw.now setup.now).stencil }
+{
+    let shaded = Shaded { color, depth };
     pixel_step(before, &shaded, &draw.state, stencil_of(draw, setup))
 }

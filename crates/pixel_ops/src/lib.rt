@@ -8,3 +8,6 @@ mod pixels;
 pub use blending::{blend, multiply};
 pub use depths::{depth_test, stencil_step};
 pub use pixels::{Pixel, Shaded, pixel_step};
+
+#[cfg(test)]
+mod tests;

@@ -6,7 +6,8 @@ use Rattle.std.proofs.lemmas.Int.{ints}
 use Rattle.std.proofs.lemmas.Nat.{div-add-mod'}
 use borrow.Author.Differences.{product_is}
 use Rattle.tri_cover.proofs.Barycentre.{swap_last}
-use Rattle.tri_cover.proofs.Fixed.{IsFloor, floor_is, fixed_is, sum_times}
+use Rattle.tri_cover.specs.Slope.{IsFloor}
+use Rattle.tri_cover.proofs.Fixed.{floor_is, fixed_is, sum_times}
 
 top_byte : (t v turns : ℤ) (u : ℕ) → IsFloor t v (2 ^ 56) → pos 0 ≤ℤ v → v <ℤ pos 256 → t ≡ pos u +ℤ turns *ℤ pos (2 ^ 64) → u < 2 ^ 64 → pos (u / 2 ^ 56) ≡ v
 top_byte t v turns u h low high e b = omega (arith, ints, product_is, h.is, h.below, low, high, e, b)

@@ -4,6 +4,9 @@ pub mod Cover
 pub mod Barycentre
 pub mod Fixed
 pub mod Means
-pub mod Steps
+pub mod Settled
 pub mod Exact
 pub mod Shares
+pub mod Slopes
+pub mod Lines
+pub mod Aligned

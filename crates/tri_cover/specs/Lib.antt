@@ -1,3 +1,5 @@
 pub mod Seen
 pub mod Columns
 pub mod Shown
+pub mod Slope
+pub mod Stepped

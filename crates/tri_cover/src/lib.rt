@@ -4,13 +4,18 @@
 mod averages;
 mod corners;
 mod edges;
+mod inverses;
 mod numbers;
 mod placing;
+mod ramps;
 mod rows;
 mod stepping;
+mod steps;
 mod triangles;
 
 pub use corners::{Fragment, ScreenVertex};
 pub use placing::place;
+pub use ramps::Ramp;
 pub use stepping::{Quotient, advanced};
+pub use steps::Steps;
 pub use triangles::Setup;

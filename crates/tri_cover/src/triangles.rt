@@ -1,13 +1,16 @@
 // Triangles that are ready to be drawn.
-ghost use Rattle.std.specs.Prelude.{true, ◌≡◌, ◌≤◌, ◌<◌, ◌^◌, ◌+◌, ◌*◌, ℕ, pos, ◌<ℤ◌, unsigned_abs, ◌&&◌, nat_le, nat_lt, IsSome, IfSome, IsTrue, ◌↔◌, ◌||◌, ◌==◌, not};
+ghost use Rattle.std.specs.Prelude.{true, ◌≡◌, ◌≤◌, ◌<◌, ◌^◌, ◌+◌, ◌*◌, ℕ, pos, ◌-ℤ◌, ◌*ℤ◌, ◌<ℤ◌, unsigned_abs, ◌&&◌, nat_le, nat_lt, IsSome, IfSome, IsTrue, ◌↔◌, ◌||◌, ◌==◌, not};
 ghost use Rattle.gfx_model.specs.Raster.{covers, area as area_spec, clockwise as clockwise_spec, is_front as faces_front, is_back, is_kept, edge, centre, fragment_at};
+ghost use Rattle.tri_cover.specs.Stepped.{AreSteps, IsNearby};
 ghost use Rattle.tri_cover.specs.Seen.{screen_seen, triangle_seen, IsEdge, IsNear, fragment_seen};
 
 use crate::averages::{Weights, mean_channel, mean_depth, mean_place};
 use crate::corners::{Fragment, ScreenVertex};
 use crate::edges::{Edge, cut, edge_between, ends};
+use crate::inverses::Inverse;
 use crate::numbers::{difference, less, product};
 use crate::rows::{greatest, least, row_after, row_from, within};
+use crate::steps::{Steps, Three};
 
 /// A triangle that is ready to be drawn, the clockwise way round.
 #[derive(Clone, Copy)]
@@ -45,6 +48,51 @@ fn weight(p: &ScreenVertex, q: &ScreenVertex, x: u16, y: u16) -> i64
         product(difference(q.y, p.y), difference(centre_of(x), p.x)),
         0,
     )
+}
+
+fn size(n: i64) -> u64
+    requires { pos 0 <ℤ n }
+    ensures value { pos result ≡ n }
+    ensures positive { 0 < result }
+{
+    n as u64
+}
+
+/// What the value of an edge gains per column.
+fn gained_by_column(edge: &Edge) -> i64
+    requires { IsNear edge.now }
+    ensures value { result ≡ pos 0 -ℤ pos 256 *ℤ edge.now.fall }
+    ensures near { unsigned_abs result < 2 ^ 60 }
+{
+    0 - 256 * edge.fall
+}
+
+/// What the value of an edge gains per row.
+fn gained_by_row(edge: &Edge) -> i64
+    requires { IsNear edge.now }
+    ensures value { result ≡ pos 256 *ℤ edge.now.rise }
+    ensures near { unsigned_abs result < 2 ^ 60 }
+{
+    256 * edge.rise
+}
+
+/// The pixel near the mean of three places, within two ends.
+fn middle(a: i32, b: i32, c: i32, first: u16, after: u16) -> u16
+    requires a { unsigned_abs a ≤ 2 ^ 27 }
+    requires b { unsigned_abs b ≤ 2 ^ 27 }
+    requires c { unsigned_abs c ≤ 2 ^ 27 }
+    requires order { first ≤ after }
+    ensures low { first ≤ result }
+    ensures high { result ≤ after }
+{
+    let mean = (a + b + c).div_euclid(768);
+    if mean < first as i32 {
+        first
+    } else if mean < after as i32 {
+        mean as u16
+    } else {
+        after
+    }
 }
 
 /// Twice the area of a triangle.
@@ -176,6 +224,53 @@ impl Setup {
         let first = row_from(least(self.a.y, self.b.y, self.c.y));
         let after = row_after(greatest(self.a.y, self.b.y, self.c.y));
         (within(first, height), within(after, height))
+    }
+
+    /// The columns that have covered pixels are among these, from the first up to the second number.
+    pub fn columns(&self, width: u16) -> (u16, u16)
+        ensures covered { (x y : ℕ) → x < width → covers (triangle_seen self.now.a self.now.b self.now.c) x y ≡ true → (result.0 ≤ x) × (x < result.1) }
+        ensures first { result.0 ≤ width }
+        ensures within { result.1 ≤ width }
+    {
+        let first = row_from(least(self.a.x, self.b.x, self.c.x));
+        let after = row_after(greatest(self.a.x, self.b.x, self.c.x));
+        (within(first, width), within(after, width))
+    }
+
+    /// The steps of the corners' weights over a surface's covered pixels; none where the triangle has no room there.
+    pub fn steps(&self, width: u16, height: u16) -> Option<Steps>
+        ensures steps { IfSome result (λ s. AreSteps s (triangle_seen self.now.a self.now.b self.now.c)) }
+        ensures nearby { IfSome result (λ s. (x y : ℕ) → x < width → y < height → covers (triangle_seen self.now.a self.now.b self.now.c) x y ≡ true → IsNearby s x y) }
+    {
+        let (left, right) = self.columns(width);
+        let (top, bottom) = self.rows(height);
+        if right < left || bottom < top {
+            return None;
+        }
+        let inverse = Inverse::new(size(area(&self.a, &self.b, &self.c)))?;
+        let x = middle(self.a.x, self.b.x, self.c.x, left, right);
+        let y = middle(self.a.y, self.b.y, self.c.y, top, bottom);
+        Some(Steps {
+            x,
+            y,
+            most: (right - left) as u64 + (bottom - top) as u64 + 1,
+            at: Three {
+                a: weight(&self.b, &self.c, x, y),
+                b: weight(&self.c, &self.a, x, y),
+                c: weight(&self.a, &self.b, x, y),
+            },
+            right: Three {
+                a: gained_by_column(&self.bc),
+                b: gained_by_column(&self.ca),
+                c: gained_by_column(&self.ab),
+            },
+            down: Three {
+                a: gained_by_row(&self.bc),
+                b: gained_by_row(&self.ca),
+                c: gained_by_row(&self.ab),
+            },
+            inverse,
+        })
     }
 
     /// The covered columns of a row, from the first up to the second number.

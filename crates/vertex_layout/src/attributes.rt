@@ -1,5 +1,5 @@
 // Attributes, their component types, and short lists of attributes with their places.
-ghost use Rattle.std.specs.Prelude.{◌≡◌, ◌<◌, ◌&&◌, ◌++◌, ◌∷◌, [], length, true, if◌then◌else◌, map, option_map, nat_le};
+ghost use Rattle.std.specs.Prelude.{◌≡◌, ◌<◌, ◌≤◌, ◌&&◌, ◌++◌, ◌∷◌, [], length, true, if◌then◌else◌, map, option_map, nat_le};
 ghost use Rattle.gfx_model.specs.Vertex.{attribute_number, component_number, component_size, is_absent, find_attribute, has_good_attributes};
 ghost use Rattle.vertex_layout.specs.Kinds.{attribute_seen, component_seen};
 ghost use Rattle.vertex_layout.specs.Placed.{placed_seen, is_addable, end_of};
@@ -131,6 +131,7 @@ impl AttrList {
     pub fn as_slice(&self) -> &[PlacedAttr]
         ensures items { map placed_seen result.now ≡ self.now }
         ensures good { has_good_attributes self.now ≡ true }
+        ensures few { length result.now ≤ 7 }
     {
         &self.slots[..self.count as usize]
     }

@@ -87,6 +87,7 @@ impl VertexLayout {
     pub fn attributes(&self) -> &[PlacedAttr]
         ensures items { map placed_seen result.now ≡ self.now.attributes }
         ensures whole { is_layout self.now ≡ true }
+        ensures few { length result.now ≤ 7 }
     {
         self.attributes.as_slice()
     }

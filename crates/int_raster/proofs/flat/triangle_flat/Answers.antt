@@ -13,30 +13,30 @@ pub loop-y-init : goal.loop-y-init
 loop-y-init c =
     let d = c.args.draw.now in
     let f = facing_seen c.args.draw.now c.args.setup.now in
-    rows_before (step_seen c.args.draw.now c.args.setup.now) (is_drawn (rect_seen d.cut) f) c.args.width c.args.height c.drawn_rows-first.result.0 (flat_pixels c.args.colors.now) c.requires.wide
+    rows_before (step_seen c.args.draw.now c.args.setup.now) (is_drawn (rect_seen d.cut) f) c.args.width c.args.height c.drawn_rows-top.result.0 (flat_pixels c.args.colors.now) c.requires.wide
     (length-map c.args.colors.now flat_pixel ∙ c.requires.whole)
-    (λ x y b t. let p = and_parts (contains (rect_seen d.cut) x y) (covers f.triangle x y) t in (c.drawn_rows-first.ensures.all x y b p.0 p.1).0)
+    (λ x y b t. let p = and_parts (contains (rect_seen d.cut) x y) (covers f.triangle x y) t in (c.drawn_rows-top.ensures.all x y b p.0 p.1).0)
 
-pub drawn_columns-left-requires-clause-upper : goal.drawn_columns-left-requires-clause-upper
-drawn_columns-left-requires-clause-upper c = (c.drawn_rows-first.ensures.first c.loop-y.y c.loop-y.auto.y c.loop-y-test.true).0
+pub drawn_columns-first-requires-clause-upper : goal.drawn_columns-first-requires-clause-upper
+drawn_columns-first-requires-clause-upper c = (c.drawn_rows-top.ensures.first c.loop-y.y c.loop-y.auto.y c.loop-y-test.true).0
 
-pub drawn_columns-left-requires-clause-lower : goal.drawn_columns-left-requires-clause-lower
-drawn_columns-left-requires-clause-lower c = (c.drawn_rows-first.ensures.first c.loop-y.y c.loop-y.auto.y c.loop-y-test.true).1
+pub drawn_columns-first-requires-clause-lower : goal.drawn_columns-first-requires-clause-lower
+drawn_columns-first-requires-clause-lower c = (c.drawn_rows-top.ensures.first c.loop-y.y c.loop-y.auto.y c.loop-y-test.true).1
 
 pub loop-y-preserved : goal.loop-y-preserved
 loop-y-preserved c =
     let d = c.args.draw.now in
     let f = facing_seen c.args.draw.now c.args.setup.now in
-    row_more (step_seen c.args.draw.now c.args.setup.now) (is_drawn (rect_seen d.cut) f) c.args.width c.loop-y.y c.drawn_columns-left.result.0 c.drawn_columns-left.result.1
-    (flat_pixels c.args.colors.now) (flat_pixels c.loop-y.colors) (flat_pixels c.span_flat.new.colors)
-    c.requires.wide c.drawn_columns-left.ensures.within c.drawn_columns-left.ensures.columns c.loop-y.invariant c.span_flat.ensures
+    row_more (step_seen c.args.draw.now c.args.setup.now) (is_drawn (rect_seen d.cut) f) c.args.width c.loop-y.y c.drawn_columns-first.result.0 c.drawn_columns-first.result.1
+    (flat_pixels c.args.colors.now) (flat_pixels c.loop-y.colors) (flat_pixels c.draw_span.new.colors)
+    c.requires.wide c.drawn_columns-first.ensures.within c.drawn_columns-first.ensures.columns c.loop-y.invariant c.draw_span.ensures
 
 pub returns : goal.returns
 returns c =
     let d = c.args.draw.now in
     let f = facing_seen c.args.draw.now c.args.setup.now in
-    let last : c.loop-y.y ≡ c.drawn_rows-first.result.1 = omega arith in
-    rows_behind (step_seen c.args.draw.now c.args.setup.now) (is_drawn (rect_seen d.cut) f) c.args.width c.args.height c.drawn_rows-first.result.1 (flat_pixels c.args.colors.now) (flat_pixels c.loop-y.colors) c.requires.wide
+    let last : c.loop-y.y ≡ c.drawn_rows-top.result.1 = omega arith in
+    rows_behind (step_seen c.args.draw.now c.args.setup.now) (is_drawn (rect_seen d.cut) f) c.args.width c.args.height c.drawn_rows-top.result.1 (flat_pixels c.args.colors.now) (flat_pixels c.loop-y.colors) c.requires.wide
     (length-map c.args.colors.now flat_pixel ∙ c.requires.whole)
-    (λ x y b t. let p = and_parts (contains (rect_seen d.cut) x y) (covers f.triangle x y) t in (c.drawn_rows-first.ensures.all x y b p.0 p.1).1)
+    (λ x y b t. let p = and_parts (contains (rect_seen d.cut) x y) (covers f.triangle x y) t in (c.drawn_rows-top.ensures.all x y b p.0 p.1).1)
     (c.loop-y.invariant ∙ ap (λ n. map_from (above c.args.width n (change_seen c.args.draw.now c.args.setup.now)) 0 (flat_pixels c.args.colors.now)) last)

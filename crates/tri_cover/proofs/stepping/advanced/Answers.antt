@@ -1,6 +1,6 @@
 use Rattle.std.proofs.Common.{rules, ◌≡◌, ◌+ℤ◌, ◌*ℤ◌, FitsSigned, w64, arith}
 use Rattle.std.proofs.lemmas.Int.{ints, to_z-of_z}
-use Rattle.tri_cover.proofs.Steps.{steps_settle}
+use Rattle.tri_cover.proofs.Settled.{steps_settle}
 use Rattle.tri_cover.proofs.stepping.advanced.Goals as goal
 
 pub returns-clause-steps : goal.returns-clause-steps

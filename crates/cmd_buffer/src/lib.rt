@@ -1,0 +1,14 @@
+//! Commands on things by index, written as bytes and read back.
+#![tactic(auto)]
+
+mod command;
+mod decode;
+mod read;
+mod write;
+
+pub use command::Command;
+pub use read::{CmdBytes, CmdReader};
+pub use write::CmdBuffer;
+
+#[cfg(test)]
+mod tests;

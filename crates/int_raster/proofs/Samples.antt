@@ -1,0 +1,52 @@
+-- A texture repeats, so whole units of a position do not matter.
+use Rattle.std.proofs.Common.{◌≡◌, ℕ, ◌-◌, ◌/◌, ◌%◌, ◌<◌, ap, sym, ◌∙◌, refl, arith}
+use Rattle.std.specs.Prelude.{ℤ, pos, negsuc, ◌+ℤ◌, ◌*ℤ◌}
+use Rattle.std.specs.Int.{int_div_euclid, int_rem_euclid}
+use Rattle.std.proofs.lemmas.Int.{ints}
+use Rattle.std.proofs.lemmas.Nat.{div-add-mod'}
+use Rattle.std.proofs.Math.Nat.{mod-lt}
+use borrow.Author.Differences.{product_is}
+use Rattle.gfx_model.specs.Number.{at_least_zero}
+use Rattle.gfx_model.specs.Raster.{Texels, wrapped, sample, texel_at}
+use Rattle.tri_cover.specs.Slope.{IsFloor, IsSamePlace}
+use Rattle.tri_cover.proofs.Barycentre.{swap_last}
+use Rattle.tri_cover.proofs.Fixed.{floor_is, one_floor, sum_times}
+
+record Rest (z : ℤ) (n : ℕ) : Type 0 where
+  times : ℤ
+  rest : ℕ
+  is_rest : int_rem_euclid z (pos n) ≡ pos rest
+  below : rest < n
+  is : z ≡ times *ℤ pos n +ℤ pos rest
+
+rest_is : (z : ℤ) (n : ℕ) → 0 < n → Rest z n
+rest_is (pos a) n h = record { times = pos (a / n); rest = a % n; is_rest = refl; below = mod-lt a h; is = ap pos (sym (div-add-mod' a n)) }
+rest_is (negsuc a) n h = record { times = int_div_euclid (negsuc a) (pos n); rest = n - 1 - a % n; is_rest = refl; below = omega arith; is = omega (arith, ints, product_is, div-add-mod' a n, mod-lt a h) }
+
+-- whole turns leave the rest
+rest_same : (z k : ℤ) (n : ℕ) → 0 < n → int_rem_euclid (z +ℤ k *ℤ pos n) (pos n) ≡ int_rem_euclid z (pos n)
+rest_same z k n h =
+    let a = rest_is (z +ℤ k *ℤ pos n) n h in
+    let b = rest_is z n h in
+    let f : IsFloor (z +ℤ k *ℤ pos n) a.times n = record { rest = a.rest; below = a.below; is = a.is } in
+    let g : IsFloor (z +ℤ k *ℤ pos n) (b.times +ℤ k) n = record { rest = b.rest; below = b.below; is = omega (arith, ints, b.is, sum_times b.times k (pos n)) } in
+    let same : a.times ≡ b.times +ℤ k = one_floor (z +ℤ k *ℤ pos n) a.times (b.times +ℤ k) n f g in
+    let rests : a.rest ≡ b.rest = omega (arith, ints, a.is, b.is, ap (λ w. w *ℤ pos n) same, sum_times b.times k (pos n)) in
+    a.is_rest ∙ ap pos rests ∙ sym b.is_rest
+
+wrapped_same : (u : ℤ) (a n : ℕ) → 0 < n → IsSamePlace a u → wrapped u n ≡ wrapped (pos a) n
+wrapped_same u a n h p =
+    let f = floor_is (pos a *ℤ pos n) 65536 (omega arith) in
+    let q = int_div_euclid (pos a *ℤ pos n) (pos 65536) in
+    let g : IsFloor (u *ℤ pos n) (q +ℤ p.0 *ℤ pos n) 65536 =
+    record {
+      rest = f.rest;
+      below = f.below;
+      is = omega (arith, ints, f.is, ap (λ w. w *ℤ pos n) p.1, sum_times (pos a) (p.0 *ℤ pos 65536) (pos n), swap_last p.0 (pos 65536) (pos n), sum_times q (p.0 *ℤ pos n) (pos 65536));
+    } in
+    let floor : int_div_euclid (u *ℤ pos n) (pos 65536) ≡ q +ℤ p.0 *ℤ pos n =
+    one_floor (u *ℤ pos n) (int_div_euclid (u *ℤ pos n) (pos 65536)) (q +ℤ p.0 *ℤ pos n) 65536 (floor_is (u *ℤ pos n) 65536 (omega arith)) g in
+    ap (λ w. at_least_zero (int_rem_euclid w (pos n))) floor ∙ ap at_least_zero (rest_same q p.0 n h)
+
+pub sample_same : (t : Texels) (u v : ℤ) (a b : ℕ) → 0 < t.width → 0 < t.height → IsSamePlace a u → IsSamePlace b v → sample t (pos a) (pos b) ≡ sample t u v
+sample_same t u v a b w h p q = sym (λ i. texel_at t (wrapped_same u a t.width w p i) (wrapped_same v b t.height h q i))

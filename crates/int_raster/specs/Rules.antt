@@ -1,0 +1,22 @@
+-- The depth test of a state word by the order of two depths.
+use Rattle.std.specs.Prelude.{◌≡◌, ℕ, ◌==◌, nat_lt, Bool, if◌then◌else◌}
+use Rattle.gfx_model.specs.Words.{depth_test_of, writes_depth}
+use Rattle.gfx_model.specs.Pixel.{passes_depth}
+use Rattle.tri_cover.specs.declared.triangles.Setup.{Setup}
+use Rattle.int_raster.specs.declared.lists.Prepared.{Prepared}
+use Rattle.int_raster.specs.Seen.{facing_seen}
+use Rattle.int_raster.specs.Painted.{IsOpaque}
+use Rattle.int_raster.specs.declared.opaque.Rule.{Rule}
+
+abbrev pub by_order : Rule → ℕ → ℕ → Bool
+by_order r new stored = if nat_lt new stored then r.less else (if new == stored then r.equal else r.greater)
+
+pub record IsRule (r : Rule) (state : ℕ) : Type 0 where
+  pub test : (new stored : ℕ) → by_order r new stored ≡ passes_depth (depth_test_of state) new stored
+  pub stores : r.writes ≡ writes_depth state
+
+-- a triangle without a stencil word, of a draw that stores all channels as they are painted
+pub record IsPlain (r : Rule) (d : Prepared) (s : Setup) : Type 0 where
+  pub opaque : IsOpaque d.state
+  pub rule : IsRule r d.state
+  pub plain : (facing_seen d s).stencil ≡ 0

@@ -1,0 +1,210 @@
+// Spans of a surface with depth.
+ghost use Rattle.std.specs.Prelude.{◌≡◌, ◌≤◌, ◌<◌, ◌+◌, ◌*◌, ℕ, true, Some, length};
+ghost use Rattle.gfx_model.specs.Number.{map_from, u32_at};
+ghost use Rattle.gfx_model.specs.Raster.{covers, fragment_at};
+ghost use Rattle.gfx_model.specs.World.{painted};
+ghost use Rattle.tri_cover.specs.Shown.{setup_seen};
+ghost use Rattle.int_raster.specs.Places.{deep_pixels, spanned, by_place};
+ghost use Rattle.int_raster.specs.Painted.{shade_at, PaintsSpan, HasSpanDepths};
+ghost use Rattle.int_raster.specs.Rules.{IsPlain};
+ghost use Rattle.int_raster.specs.Seen.{paint_seen, step_seen};
+
+use crate::lists::Prepared;
+use crate::opaque::{Rule, stored_after};
+use crate::painters::{Painter, Shade, color_at, value_at};
+use crate::painting::{stepped, stepped_by};
+use crate::spans::Span;
+use pixel_ops::Pixel;
+use tri_cover::{Ramp, Setup};
+
+/// The depth word of a depth texel.
+fn depth_word(texel: [u8; 4]) -> u32
+    ensures { result ≡ u32_at texel 0 }
+{
+    u32::from_le_bytes(texel)
+}
+
+/// The bytes of a pixel's depth word, lowest first.
+fn depth_texel(pixel: &Pixel) -> [u8; 4]
+    ensures { (word : ℕ) → pixel.now.depth ≡ Some word → u32_at result 0 ≡ word }
+{
+    match pixel.depth {
+        Some(word) => word.to_le_bytes(),
+        None => [0, 0, 0, 0],
+    }
+}
+
+/// The bytes of a depth word, lowest first.
+fn word_texel(word: u32) -> [u8; 4]
+    ensures { u32_at result 0 ≡ word }
+{
+    word.to_le_bytes()
+}
+
+/// Steps the pixels of a span by the exact means at each.
+pub(crate) fn step_exactly(
+    colors: &mut [[u8; 4]],
+    depths: &mut [[u8; 4]],
+    span: &Span,
+    setup: &Setup,
+    draw: &Prepared,
+)
+    requires inside { span.now.y * span.now.width + span.now.width ≤ length colors.old }
+    requires same { length depths.old ≡ length colors.old }
+    requires covered { (x : ℕ) → span.now.first ≤ x → x < span.now.after → covers (setup_seen setup.now).triangle x span.now.y ≡ true }
+    ensures { deep_pixels colors.new depths.new ≡ map_from (spanned (by_place span.now.width (step_seen draw.now setup.now)) (span.now.y * span.now.width + span.now.first) (span.now.y * span.now.width + span.now.after)) 0 (deep_pixels colors.old depths.old) }
+{
+    let start = span.y as usize * span.width as usize;
+    for x in span.first..span.after {
+        let color = colors[start + x as usize];
+        let word = depth_word(depths[start + x as usize]);
+        let before = Pixel {
+            color,
+            depth: Some(word),
+        };
+        let after = stepped(before, setup, x, span.y, draw);
+        let painted = after.color;
+        colors[start + x as usize] = painted;
+        depths[start + x as usize] = depth_texel(&after);
+    }
+}
+
+/// Steps the pixels of a span by a painter's colours and a ramp's depths.
+pub(crate) fn step_painted(
+    colors: &mut [[u8; 4]],
+    depths: &mut [[u8; 4]],
+    span: &Span,
+    painter: &Painter,
+    depth: &Ramp,
+    setup: &Setup,
+    draw: &Prepared,
+)
+    requires inside { span.now.y * span.now.width + span.now.width ≤ length colors.old }
+    requires same { length depths.old ≡ length colors.old }
+    requires paints { PaintsSpan painter.now draw.now setup.now span.now.y span.now.first span.now.after }
+    requires depths { HasSpanDepths depth.now setup.now span.now.y span.now.first span.now.after }
+    ensures { deep_pixels colors.new depths.new ≡ map_from (spanned (by_place span.now.width (step_seen draw.now setup.now)) (span.now.y * span.now.width + span.now.first) (span.now.y * span.now.width + span.now.after)) 0 (deep_pixels colors.old depths.old) }
+{
+    let start = span.y as usize * span.width as usize;
+    for x in span.first..span.after {
+        let color = colors[start + x as usize];
+        let word = depth_word(depths[start + x as usize]);
+        let before = Pixel {
+            color,
+            depth: Some(word),
+        };
+        let shade = color_at(painter, x, span.y);
+        let new = (value_at(depth, x, span.y) >> 40) as u32;
+        let after = stepped_by(before, shade, new, setup, draw);
+        let painted = after.color;
+        colors[start + x as usize] = painted;
+        depths[start + x as usize] = depth_texel(&after);
+    }
+}
+
+/// Stores one colour in a span where its depth passes.
+pub(crate) fn fill(
+    colors: &mut [[u8; 4]],
+    depths: &mut [[u8; 4]],
+    span: &Span,
+    color: [u8; 4],
+    depth: &Ramp,
+    rule: &Rule,
+    setup: &Setup,
+    draw: &Prepared,
+)
+    requires inside { span.now.y * span.now.width + span.now.width ≤ length colors.old }
+    requires same { length depths.old ≡ length colors.old }
+    requires plain { IsPlain rule.now draw.now setup.now }
+    requires paints { (x : ℕ) → span.now.first ≤ x → x < span.now.after → color ≡ painted (paint_seen draw.now.paint) (fragment_at (setup_seen setup.now).triangle x span.now.y) }
+    requires depths { HasSpanDepths depth.now setup.now span.now.y span.now.first span.now.after }
+    ensures { deep_pixels colors.new depths.new ≡ map_from (spanned (by_place span.now.width (step_seen draw.now setup.now)) (span.now.y * span.now.width + span.now.first) (span.now.y * span.now.width + span.now.after)) 0 (deep_pixels colors.old depths.old) }
+{
+    let start = span.y as usize * span.width as usize;
+    let mut new = value_at(depth, span.first, span.y);
+    for x in span.first..span.after {
+        let old = colors[start + x as usize];
+        let word = depth_word(depths[start + x as usize]);
+        let after = stored_after(old, word, color, (new >> 40) as u32, rule);
+        let painted = after.color;
+        colors[start + x as usize] = painted;
+        depths[start + x as usize] = word_texel(after.word);
+        new = new.wrapping_add(depth.right);
+    }
+}
+
+/// Stores a painter's colours in a span where their depths pass.
+pub(crate) fn store(
+    colors: &mut [[u8; 4]],
+    depths: &mut [[u8; 4]],
+    span: &Span,
+    painter: &Painter,
+    depth: &Ramp,
+    rule: &Rule,
+    setup: &Setup,
+    draw: &Prepared,
+)
+    requires inside { span.now.y * span.now.width + span.now.width ≤ length colors.old }
+    requires same { length depths.old ≡ length colors.old }
+    requires plain { IsPlain rule.now draw.now setup.now }
+    requires paints { PaintsSpan painter.now draw.now setup.now span.now.y span.now.first span.now.after }
+    requires depths { HasSpanDepths depth.now setup.now span.now.y span.now.first span.now.after }
+    ensures { deep_pixels colors.new depths.new ≡ map_from (spanned (by_place span.now.width (step_seen draw.now setup.now)) (span.now.y * span.now.width + span.now.first) (span.now.y * span.now.width + span.now.after)) 0 (deep_pixels colors.old depths.old) }
+{
+    let start = span.y as usize * span.width as usize;
+    for x in span.first..span.after {
+        let old = colors[start + x as usize];
+        let word = depth_word(depths[start + x as usize]);
+        let color = color_at(painter, x, span.y);
+        let new = (value_at(depth, x, span.y) >> 40) as u32;
+        let after = stored_after(old, word, color, new, rule);
+        let painted = after.color;
+        colors[start + x as usize] = painted;
+        depths[start + x as usize] = word_texel(after.word);
+    }
+}
+
+/// Stores the vertices' colours in a span where their depths pass.
+pub(crate) fn store_shade(
+    colors: &mut [[u8; 4]],
+    depths: &mut [[u8; 4]],
+    span: &Span,
+    shade: &Shade,
+    depth: &Ramp,
+    rule: &Rule,
+    setup: &Setup,
+    draw: &Prepared,
+)
+    requires inside { span.now.y * span.now.width + span.now.width ≤ length colors.old }
+    requires same { length depths.old ≡ length colors.old }
+    requires plain { IsPlain rule.now draw.now setup.now }
+    requires paints { (x : ℕ) → span.now.first ≤ x → x < span.now.after → shade_at shade.now x span.now.y ≡ painted (paint_seen draw.now.paint) (fragment_at (setup_seen setup.now).triangle x span.now.y) }
+    requires depths { HasSpanDepths depth.now setup.now span.now.y span.now.first span.now.after }
+    ensures { deep_pixels colors.new depths.new ≡ map_from (spanned (by_place span.now.width (step_seen draw.now setup.now)) (span.now.y * span.now.width + span.now.first) (span.now.y * span.now.width + span.now.after)) 0 (deep_pixels colors.old depths.old) }
+{
+    let start = span.y as usize * span.width as usize;
+    let mut red = value_at(&shade.red, span.first, span.y);
+    let mut green = value_at(&shade.green, span.first, span.y);
+    let mut blue = value_at(&shade.blue, span.first, span.y);
+    let mut alpha = value_at(&shade.alpha, span.first, span.y);
+    let mut new = value_at(depth, span.first, span.y);
+    for x in span.first..span.after {
+        let old = colors[start + x as usize];
+        let word = depth_word(depths[start + x as usize]);
+        let color = [
+            (red >> 56) as u8,
+            (green >> 56) as u8,
+            (blue >> 56) as u8,
+            (alpha >> 56) as u8,
+        ];
+        let after = stored_after(old, word, color, (new >> 40) as u32, rule);
+        let painted = after.color;
+        colors[start + x as usize] = painted;
+        depths[start + x as usize] = word_texel(after.word);
+        red = red.wrapping_add(shade.red.right);
+        green = green.wrapping_add(shade.green.right);
+        blue = blue.wrapping_add(shade.blue.right);
+        alpha = alpha.wrapping_add(shade.alpha.right);
+        new = new.wrapping_add(depth.right);
+    }
+}

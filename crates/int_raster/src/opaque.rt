@@ -1,0 +1,105 @@
+// Draws that store all channels as they are painted, with a depth test and without a stencil.
+ghost use Rattle.std.specs.Prelude.{◌≡◌, ◌≤◌, ◌<◌, ◌%◌, ◌^◌, ◌+◌, ◌*◌, ◌/◌, ◌==◌, ◌&&◌, ℕ, nat_lt, if◌then◌else◌, Some};
+ghost use Rattle.gfx_model.specs.Pixel.{pixel_step as model_step};
+ghost use Rattle.int_raster.specs.Painted.{IsOpaque, bytes_of};
+ghost use Rattle.int_raster.specs.Rules.{IsRule};
+
+use crate::painters::whole;
+use gfx_words::StateWord;
+use pixel_ops::depth_test;
+
+/// The depth test by the order of the new and the stored depth, and whether a depth that passes is stored.
+#[derive(Clone, Copy)]
+pub(crate) struct Rule {
+    pub less: bool,
+    pub equal: bool,
+    pub greater: bool,
+    pub writes: bool,
+}
+
+/// A stored colour and depth word.
+#[derive(Clone, Copy)]
+pub(crate) struct Stored {
+    pub color: [u8; 4],
+    pub word: u32,
+}
+
+pub(crate) fn rule_of(state: &StateWord) -> Rule
+    ensures { IsRule result state.now }
+{
+    let test = state.depth_test();
+    Rule {
+        less: depth_test(test, 0, 1),
+        equal: depth_test(test, 1, 1),
+        greater: depth_test(test, 1, 0),
+        writes: state.writes_depth(),
+    }
+}
+
+#[inline(always)]
+fn passes(rule: &Rule, new: u32, stored: u32) -> bool
+    ensures { result ≡ (if nat_lt new stored then rule.now.less else (if new == stored then rule.now.equal else rule.now.greater)) }
+{
+    if new < stored {
+        rule.less
+    } else if new == stored {
+        rule.equal
+    } else {
+        rule.greater
+    }
+}
+
+#[inline(always)]
+fn depth_of(word: u32) -> u32
+    ensures { result ≡ word % 2 ^ 24 }
+{
+    word & 0xff_ffff
+}
+
+/// The new colour where the test passes.
+#[inline(always)]
+fn kept_color(pass: bool, new: [u8; 4], old: [u8; 4]) -> [u8; 4]
+    ensures { result ≡ (if pass then new else old) }
+{
+    if pass { new } else { old }
+}
+
+/// The depth word with the new depth where one is to be stored.
+#[inline(always)]
+fn kept_word(stores: bool, depth: u32, word: u32) -> u32
+    requires { depth ≤ 16777215 }
+    ensures { result ≡ (if stores then depth else word % 2 ^ 24) + 2 ^ 24 * (word / 2 ^ 24) }
+{
+    if stores {
+        depth + (word >> 24 << 24)
+    } else {
+        word
+    }
+}
+
+#[inline(always)]
+fn both(a: bool, b: bool) -> bool
+    ensures { result ≡ (a && b) }
+{
+    a & b
+}
+
+/// What is stored after a fragment of a colour and a depth.
+#[inline(always)]
+pub(crate) fn stored_after(
+    old: [u8; 4],
+    word: u32,
+    color: [u8; 4],
+    depth: u32,
+    rule: &Rule,
+) -> Stored
+    requires { depth ≤ 16777215 }
+    ensures { (state : ℕ) → IsOpaque state → IsRule rule.now state →
+        record { color = result.color; depth = Some result.word } ≡ model_step (record { color = old; depth = Some word }) (record { color = color; depth = depth }) state 0 }
+{
+    let pass = passes(rule, depth, depth_of(word));
+    Stored {
+        color: kept_color(pass, whole(color), old),
+        word: kept_word(both(pass, rule.writes), depth, word),
+    }
+}

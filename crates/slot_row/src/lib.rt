@@ -1,0 +1,6 @@
+//! Rows of things by index.
+#![tactic(auto)]
+
+mod row;
+
+pub use row::Row;

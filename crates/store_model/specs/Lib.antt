@@ -1,0 +1,3 @@
+pub mod Slots
+pub mod Buffers
+pub mod Textures

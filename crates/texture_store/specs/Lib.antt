@@ -1,0 +1,4 @@
+pub mod Block
+pub mod Seen
+pub mod Held
+pub mod Inside

@@ -1,0 +1,13 @@
+//! Textures and frame buffers by index.
+#![tactic(auto)]
+
+mod pictures;
+mod rows;
+mod source;
+mod store;
+mod targets;
+mod texture;
+mod textures;
+
+pub use source::{BlitBox, TexSource};
+pub use store::TextureStore;

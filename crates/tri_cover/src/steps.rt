@@ -1,0 +1,124 @@
+// The weights of a triangle's corners, stepped by columns and rows.
+ghost use Rattle.std.specs.Prelude.{◌≡◌, ◌≤◌, ◌<◌, ◌^◌, ◌+◌, ◌-◌, ◌*◌, ◌%◌, ◌/◌, true, ℕ, ℤ, pos, ◌+ℤ◌, ◌-ℤ◌, ◌*ℤ◌, unsigned_abs, IfSome, IsTrue};
+
+use crate::inverses::{Inverse, power};
+use crate::numbers::weighted;
+use crate::ramps::Ramp;
+
+/// Three numbers, one for each corner.
+#[derive(Clone, Copy)]
+pub(crate) struct Three {
+    pub a: i64,
+    pub b: i64,
+    pub c: i64,
+    pub ghost near_a: { unsigned_abs a < 2 ^ 60 },
+    pub ghost near_b: { unsigned_abs b < 2 ^ 60 },
+    pub ghost near_c: { unsigned_abs c < 2 ^ 60 },
+}
+
+/// The weights at a pixel, what they gain per column and per row, and the inverse of their sum. Pixels are at most `most`
+/// steps less one away.
+#[derive(Clone, Copy)]
+pub struct Steps {
+    pub(crate) x: u16,
+    pub(crate) y: u16,
+    pub(crate) most: u64,
+    pub(crate) at: Three,
+    pub(crate) right: Three,
+    pub(crate) down: Three,
+    pub(crate) inverse: Inverse,
+    pub ghost few: { most < 2 ^ 18 },
+}
+
+fn sum_of(by: &Three, u: i64, v: i64, w: i64) -> i128
+    requires u { unsigned_abs u < 2 ^ 32 }
+    requires v { unsigned_abs v < 2 ^ 32 }
+    requires w { unsigned_abs w < 2 ^ 32 }
+    ensures { result ≡ by.now.a *ℤ u +ℤ by.now.b *ℤ v +ℤ by.now.c *ℤ w }
+{
+    weighted(by.a, by.b, by.c, u, v, w)
+}
+
+/// Whether so many steps are exact.
+fn is_fine(most: u64, divisor: u64, bits: u32) -> bool
+    requires most { most < 2 ^ 18 }
+    requires bits { bits ≤ 62 }
+    ensures { IsTrue result → 4 * most * divisor ≤ 2 ^ bits }
+{
+    4 * most as u128 * divisor as u128 <= power(bits)
+}
+
+/// The value at column 0 of row 0 of a value whose slopes are given.
+fn started(at: u64, right: u64, down: u64, x: u16, y: u16, most: u64) -> u64
+    requires { most < 2 ^ 18 }
+    ensures { result ≡ (((at + 2 * most) % 2 ^ 64 + 2 ^ 64 - (x * right) % 2 ^ 64) % 2 ^ 64 + 2 ^ 64 - (y * down) % 2 ^ 64) % 2 ^ 64 }
+{
+    at.wrapping_add(2 * most)
+        .wrapping_sub((x as u64).wrapping_mul(right))
+        .wrapping_sub((y as u64).wrapping_mul(down))
+}
+
+/// The ramp with three bits less above its whole part.
+fn aligned(ramp: Ramp) -> Ramp
+    ensures start { result.start ≡ 8 * ramp.start % 2 ^ 64 }
+    ensures right { result.right ≡ 8 * ramp.right % 2 ^ 64 }
+    ensures down { result.down ≡ 8 * ramp.down % 2 ^ 64 }
+{
+    Ramp {
+        start: ramp.start.wrapping_mul(8),
+        right: ramp.right.wrapping_mul(8),
+        down: ramp.down.wrapping_mul(8),
+    }
+}
+
+impl Steps {
+    ghost use Rattle.gfx_model.specs.Vertex.{Triangle};
+    ghost use Rattle.gfx_model.specs.Raster.{ScreenVertex, covers, weighted, weighted_number};
+    ghost use Rattle.tri_cover.specs.Slope.{IsRamp, IsSamePlace, ramp_at};
+    ghost use Rattle.tri_cover.specs.Stepped.{AreSteps, IsNearby};
+
+    /// The mean of three values, with so many bits of fraction; none where these are too few.
+    pub(crate) fn ramp(&self, u: i64, v: i64, w: i64, bits: u32) -> Option<Ramp>
+        requires u { unsigned_abs u < 2 ^ 32 }
+        requires v { unsigned_abs v < 2 ^ 32 }
+        requires w { unsigned_abs w < 2 ^ 32 }
+        requires bits { bits ≤ 62 }
+        ensures { IfSome result (λ r. (t : Triangle ScreenVertex) → AreSteps self.now t → (x y : ℕ) → IsNearby self.now x y → IsRamp r t u v w (2 ^ bits) x y) }
+    {
+        if !is_fine(self.most, self.inverse.divisor, bits) {
+            return None;
+        }
+        let at = self.inverse.slope(sum_of(&self.at, u, v, w), bits)?;
+        let right = self.inverse.slope(sum_of(&self.right, u, v, w), bits)?;
+        let down = self.inverse.slope(sum_of(&self.down, u, v, w), bits)?;
+        Some(Ramp {
+            start: started(at, right, down, self.x, self.y, self.most),
+            right,
+            down,
+        })
+    }
+
+    /// The mean of three channels in the upper 8 bits; none where 64 bits are too few.
+    pub fn channel(&self, u: u8, v: u8, w: u8) -> Option<Ramp>
+        ensures { IfSome result (λ r. (t : Triangle ScreenVertex) → AreSteps self.now t → (x y : ℕ) → IsNearby self.now x y → covers t x y ≡ true → ramp_at r x y / 2 ^ 56 ≡ weighted_number t x y u v w) }
+    {
+        Some(aligned(self.ramp(u as i64, v as i64, w as i64, 53)?))
+    }
+
+    /// The mean of three depths in the upper 24 bits; none where 64 bits are too few.
+    pub fn depth(&self, u: u32, v: u32, w: u32) -> Option<Ramp>
+        requires u { u ≤ 16777215 }
+        requires v { v ≤ 16777215 }
+        requires w { w ≤ 16777215 }
+        ensures { IfSome result (λ r. (t : Triangle ScreenVertex) → AreSteps self.now t → (x y : ℕ) → IsNearby self.now x y → covers t x y ≡ true → ramp_at r x y / 2 ^ 40 ≡ weighted_number t x y u v w) }
+    {
+        Some(aligned(self.ramp(u as i64, v as i64, w as i64, 37)?))
+    }
+
+    /// The mean of three texture positions modulo 65536 in the upper 16 bits; none where 64 bits are too few.
+    pub fn place(&self, u: i32, v: i32, w: i32) -> Option<Ramp>
+        ensures { IfSome result (λ r. (t : Triangle ScreenVertex) → AreSteps self.now t → (x y : ℕ) → IsNearby self.now x y → covers t x y ≡ true → IsSamePlace (ramp_at r x y / 2 ^ 48) (weighted t x y u v w)) }
+    {
+        Some(aligned(self.ramp(u as i64, v as i64, w as i64, 45)?))
+    }
+}
