@@ -11,3 +11,6 @@ mod textures;
 
 pub use source::{BlitBox, TexSource};
 pub use store::TextureStore;
+
+#[cfg(test)]
+mod tests;

@@ -137,6 +137,26 @@ impl TextureStore {
         detach_holders(&mut self.targets, index);
     }
 
+    /// Whether an index has a texture, here or taken out.
+    pub fn has_texture(&self, index: u16) -> bool
+        ensures { result ≡ is_some (at self.now.textures index) }
+    {
+        match self.textures.get(index) {
+            Some(_) => true,
+            None => false,
+        }
+    }
+
+    /// Whether an index has a frame buffer.
+    pub fn has_target(&self, index: u16) -> bool
+        ensures { result ≡ is_some (at self.now.targets index) }
+    {
+        match self.targets.get(index) {
+            Some(_) => true,
+            None => false,
+        }
+    }
+
     /// The texels of a texture. None exactly where it is not there or they are taken out.
     pub fn texels_of(&self, index: u16) -> Option<&Texels>
         ensures { option_map (λ texels. texels_seen texels.now) result ≡ texels_in_store self.now index }
