@@ -1,5 +1,5 @@
 // Surfaces.
-ghost use Rattle.std.specs.Prelude.{◌≡◌};
+ghost use Rattle.std.specs.Prelude.{◌≡◌, IfSome};
 ghost use Rattle.std.specs.Option.{ForSome};
 
 use fix_math::Texels;
@@ -11,4 +11,15 @@ pub struct Surface {
     pub color: Texels,
     pub depth: Option<Texels>,
     pub ghost one_size: { ForSome depth (λ d. (d.width ≡ color.width) × (d.height ≡ color.height)) },
+}
+
+impl Surface {
+    /// A surface of a colour texture and perhaps a depth texture of its size.
+    pub fn new(color: Texels, depth: Option<Texels>) -> Surface
+        requires { IfSome depth (λ d. (d.width ≡ color.width) × (d.height ≡ color.height)) }
+        ensures color { result.color ≡ color }
+        ensures depth { result.depth ≡ depth }
+    {
+        Surface { color, depth }
+    }
 }

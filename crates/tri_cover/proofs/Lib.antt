@@ -10,3 +10,4 @@ pub mod Shares
 pub mod Slopes
 pub mod Lines
 pub mod Aligned
+pub mod Raised

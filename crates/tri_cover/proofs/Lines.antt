@@ -125,7 +125,7 @@ sum_at t u v w x y x0 y0 ea eb ec ra rb rc da db dc hea heb hec hra hrb hrc hda 
     ∙ sum_line ea eb ec ra rb rc da db dc k j u v w
 
 -- the floor of the mean at a pixel, by the numbers from which it is stepped
-mean_floor : (t : Triangle ScreenVertex) (u v w z : ℤ) (n x y : ℕ) → pos n ≡ area t → 0 < n →
+pub mean_floor : (t : Triangle ScreenVertex) (u v w z : ℤ) (n x y : ℕ) → pos n ≡ area t → 0 < n →
     edge t.b t.c x y *ℤ u +ℤ edge t.c t.a x y *ℤ v +ℤ edge t.a t.b x y *ℤ w ≡ z → IsFloor z (weighted t x y u v w) n
 mean_floor t u v w z n x y h pn e =
     let sum = edge t.b t.c x y *ℤ u +ℤ edge t.c t.a x y *ℤ v +ℤ edge t.a t.b x y *ℤ w in

@@ -112,7 +112,7 @@ nearly_by_inverse z f n r p q s k pn pq h hp e hk hz =
     let all : unsigned_abs (pos (k * n) +ℤ z *ℤ pos p) < q * (2 * n) = omega (arith, ints, first, second, third) in
     near_from_times (z *ℤ pos s -ℤ f *ℤ pos n) q (2 * n) (rw w all)
 
-rest_of : (g : ℤ) (m : ℕ) → 0 < m → (turns : ℤ) × (g ≡ int_rem_euclid g (pos m) +ℤ turns *ℤ pos m)
+pub rest_of : (g : ℤ) (m : ℕ) → 0 < m → (turns : ℤ) × (g ≡ int_rem_euclid g (pos m) +ℤ turns *ℤ pos m)
 rest_of (pos a) m h = (pos (a / m), omega (arith, ints, product_is, div-add-mod' a m))
 rest_of (negsuc a) m h = (int_div_euclid (negsuc a) (pos m), omega (arith, ints, product_is, div-add-mod' a m, mod-lt a h))
 

@@ -94,7 +94,7 @@ fn shifted(z: i128, inverse: u64, dropped: u32) -> i128
 }
 
 /// The number modulo 2^64.
-fn low_bits(z: i128) -> u64
+pub(crate) fn low_bits(z: i128) -> u64
     ensures { pos result ≡ int_rem_euclid z (pos (2 ^ 64)) }
 {
     z.rem_euclid(1 << 64) as u64

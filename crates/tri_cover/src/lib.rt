@@ -19,3 +19,6 @@ pub use ramps::Ramp;
 pub use stepping::{Quotient, advanced};
 pub use steps::Steps;
 pub use triangles::Setup;
+
+#[cfg(test)]
+mod tests;

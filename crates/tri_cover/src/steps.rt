@@ -1,7 +1,8 @@
 // The weights of a triangle's corners, stepped by columns and rows.
 ghost use Rattle.std.specs.Prelude.{◌≡◌, ◌≤◌, ◌<◌, ◌^◌, ◌+◌, ◌-◌, ◌*◌, ◌%◌, ◌/◌, true, ℕ, ℤ, pos, ◌+ℤ◌, ◌-ℤ◌, ◌*ℤ◌, unsigned_abs, IfSome, IsTrue};
+ghost use Rattle.std.specs.Int.{int_rem_euclid};
 
-use crate::inverses::{Inverse, power};
+use crate::inverses::{Inverse, low_bits, power};
 use crate::numbers::weighted;
 use crate::ramps::Ramp;
 
@@ -58,6 +59,36 @@ fn started(at: u64, right: u64, down: u64, x: u16, y: u16, most: u64) -> u64
         .wrapping_sub((y as u64).wrapping_mul(down))
 }
 
+fn is_zero(v: i64) -> bool
+    ensures { IsTrue result → v ≡ pos 0 }
+{
+    v == 0
+}
+
+/// The low 64 bits of a value with so many bits of fraction.
+fn scaled(u: i64, bits: u32) -> u64
+    requires u { unsigned_abs u < 2 ^ 32 }
+    requires bits { bits ≤ 62 }
+    ensures { pos result ≡ int_rem_euclid (u *ℤ pos (2 ^ bits)) (pos (2 ^ 64)) }
+{
+    low_bits(u as i128 * power(bits) as i128)
+}
+
+/// A ramp raised by a value.
+fn raised(ramp: Ramp, u: i64, bits: u32) -> Ramp
+    requires u { unsigned_abs u < 2 ^ 32 }
+    requires bits { bits ≤ 62 }
+    ensures start { (k : ℤ) × (pos result.start ≡ pos ramp.start +ℤ u *ℤ pos (2 ^ bits) +ℤ k *ℤ pos (2 ^ 64)) }
+    ensures right { result.right ≡ ramp.right }
+    ensures down { result.down ≡ ramp.down }
+{
+    Ramp {
+        start: ramp.start.wrapping_add(scaled(u, bits)),
+        right: ramp.right,
+        down: ramp.down,
+    }
+}
+
 /// The ramp with three bits less above its whole part.
 fn aligned(ramp: Ramp) -> Ramp
     ensures start { result.start ≡ 8 * ramp.start % 2 ^ 64 }
@@ -78,7 +109,7 @@ impl Steps {
     ghost use Rattle.tri_cover.specs.Stepped.{AreSteps, IsNearby};
 
     /// The mean of three values, with so many bits of fraction; none where these are too few.
-    pub(crate) fn ramp(&self, u: i64, v: i64, w: i64, bits: u32) -> Option<Ramp>
+    fn slopes(&self, u: i64, v: i64, w: i64, bits: u32) -> Option<Ramp>
         requires u { unsigned_abs u < 2 ^ 32 }
         requires v { unsigned_abs v < 2 ^ 32 }
         requires w { unsigned_abs w < 2 ^ 32 }
@@ -96,6 +127,38 @@ impl Steps {
             right,
             down,
         })
+    }
+
+    /// The mean of 0 and two values. Where both are 0 it is 0 everywhere.
+    fn relative(&self, v: i64, w: i64, bits: u32) -> Option<Ramp>
+        requires v { unsigned_abs v < 2 ^ 32 }
+        requires w { unsigned_abs w < 2 ^ 32 }
+        requires bits { bits ≤ 62 }
+        ensures { IfSome result (λ r. (t : Triangle ScreenVertex) → AreSteps self.now t → (x y : ℕ) → IsNearby self.now x y → IsRamp r t (pos 0) v w (2 ^ bits) x y) }
+    {
+        if is_zero(v) && is_zero(w) {
+            return Some(Ramp {
+                start: 0,
+                right: 0,
+                down: 0,
+            });
+        }
+        let ramp = self.slopes(0, v, w, bits)?;
+        Some(ramp)
+    }
+
+    /// The mean of three values, by what the second and the third differ from the first.
+    fn ramp(&self, u: i64, v: i64, w: i64, bits: u32) -> Option<Ramp>
+        requires u { unsigned_abs u < 2 ^ 32 }
+        requires v { unsigned_abs (v -ℤ u) < 2 ^ 32 }
+        requires w { unsigned_abs (w -ℤ u) < 2 ^ 32 }
+        requires far_v { unsigned_abs v < 2 ^ 32 }
+        requires far_w { unsigned_abs w < 2 ^ 32 }
+        requires bits { bits ≤ 62 }
+        ensures { IfSome result (λ r. (t : Triangle ScreenVertex) → AreSteps self.now t → (x y : ℕ) → IsNearby self.now x y → IsRamp r t u v w (2 ^ bits) x y) }
+    {
+        let ramp = self.relative(v - u, w - u, bits)?;
+        Some(raised(ramp, u, bits))
     }
 
     /// The mean of three channels in the upper 8 bits; none where 64 bits are too few.
