@@ -118,7 +118,7 @@ fn updates_at_the_greatest_size(rt: HostRuntime) -> Result<(), Fail> {
         Some(Refusal::BadRange)
     );
     assert_eq!(rt;
-        update(&mut store, Kind::IndexBuffer, 5, 524_287, &ones[..1]),
+        update(&mut store, Kind::IndexBuffer, 5, 524_287, &[1]),
         None
     );
     assert_eq!(rt;
@@ -142,18 +142,12 @@ fn some_bytes_replaced(rt: HostRuntime) -> Result<(), Fail> {
         update(&mut store, Kind::IndexBuffer, 0, 2, &[1, 2, 3]),
         None
     );
-    assert_eq!(rt;
-        store.bytes_of(Kind::IndexBuffer, 0),
-        Some([9, 9, 1, 2, 3, 9].as_slice())
-    );
+    assert!(rt; holds(&store, Kind::IndexBuffer, 0, &[9, 9, 1, 2, 3, 9]));
     assert_eq!(rt;
         update(&mut store, Kind::IndexBuffer, 0, 4, &[1, 2, 3]),
         Some(Refusal::BadRange)
     );
-    assert_eq!(rt;
-        store.bytes_of(Kind::IndexBuffer, 0),
-        Some([9, 9, 1, 2, 3, 9].as_slice())
-    );
+    assert!(rt; holds(&store, Kind::IndexBuffer, 0, &[9, 9, 1, 2, 3, 9]));
     Ok(())
 }
 
