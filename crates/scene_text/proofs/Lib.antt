@@ -1,4 +1,6 @@
 pub mod Splits
+pub mod Pairs
+pub mod Found
 pub mod Lasts
 pub mod Lines
 pub mod TableDigits

@@ -14,6 +14,7 @@ use crate::encoder_lines::encoder_line;
 use crate::fault::{Cause, LineFault};
 use crate::fields::{are_filled, field, has_count};
 use crate::frames::{add_before, add_beside, add_block, add_encoder_line, add_frame, last_encoder};
+use crate::names::Names;
 use crate::numbers::{is_numeral, number, u8_number, value_to};
 use crate::resource_lines::resource_line;
 use crate::scene::{ResLine, Room, SceneFrame};
@@ -30,6 +31,7 @@ pub struct Reading {
     pub height: u16,
     pub encoders: u8,
     pub room: Room,
+    pub names: Names,
     pub frames: Vec<SceneFrame>,
 }
 
@@ -135,6 +137,7 @@ impl Reading {
                 bytes: 262_144,
                 uniforms: 4096,
             },
+            names: Names::new(alloc),
             frames: Vec::new(alloc),
         }
     }
@@ -236,19 +239,29 @@ impl Reading {
     }
 
     #[tactic(auto, unfolding(scene_model::specs::Grammar::after_resource))]
-    fn after_resource(&mut self, fields: &[&[u8]], word: Word) -> Result<(), LineFault>
+    fn after_resource(
+        &mut self,
+        alloc: Global,
+        fields: &[&[u8]],
+        word: Word,
+    ) -> Result<(), LineFault>
         ensures { MayGive (λ _. reading_seen self.new) result (model.after_resource spoken (reading_seen self.old) (texts fields.now) (word_seen word)) }
     {
-        let line = resource_line(fields, word)?;
+        let line = resource_line(alloc, &mut self.names, fields, word)?;
         self.add_resource(line)?;
         Ok(())
     }
 
     #[tactic(auto, unfolding(scene_model::specs::Grammar::after_encoder_line))]
-    fn after_encoder_line(&mut self, fields: &[&[u8]], word: Word) -> Result<(), LineFault>
+    fn after_encoder_line(
+        &mut self,
+        alloc: Global,
+        fields: &[&[u8]],
+        word: Word,
+    ) -> Result<(), LineFault>
         ensures { MayGive (λ _. reading_seen self.new) result (model.after_encoder_line (reading_seen self.old) (texts fields.now) (word_seen word)) }
     {
-        let line = encoder_line(fields, word)?;
+        let line = encoder_line(alloc, &self.names, fields, word)?;
         add_encoder_line(&mut self.frames, line)?;
         Ok(())
     }
@@ -268,8 +281,31 @@ impl Reading {
             Word::Beside => self.after_beside(fields)?,
             Word::Done => self.after_done(fields)?,
             Word::Journal => return Err(LineFault::Bad(Cause::MisplacedWord)),
-            Word::View => self.after_resource(fields, word)?,
-            Word::Touch => self.after_encoder_line(fields, word)?,
+            Word::Layout
+            | Word::VertexBuffer
+            | Word::IndexBuffer
+            | Word::Texture
+            | Word::FrameBuffer
+            | Word::Program
+            | Word::Uniform
+            | Word::Update
+            | Word::TexUpdate
+            | Word::Destroy
+            | Word::View
+            | Word::Order => self.after_resource(alloc, fields, word)?,
+            Word::State
+            | Word::Stencil
+            | Word::Scissor
+            | Word::Transform
+            | Word::Vertices
+            | Word::Indices
+            | Word::TransientVertices
+            | Word::TransientIndices
+            | Word::Bind
+            | Word::Set
+            | Word::Submit
+            | Word::Touch
+            | Word::Blit => self.after_encoder_line(alloc, fields, word)?,
         }
         Ok(())
     }

@@ -25,7 +25,18 @@ fn is_resource_word(word: Word) -> bool
     ensures { result ≡ model.is_resource_word (word_seen word) }
 {
     match word {
-        Word::View => true,
+        Word::Layout
+        | Word::VertexBuffer
+        | Word::IndexBuffer
+        | Word::Texture
+        | Word::FrameBuffer
+        | Word::Program
+        | Word::Uniform
+        | Word::Update
+        | Word::TexUpdate
+        | Word::Destroy
+        | Word::View
+        | Word::Order => true,
         _ => false,
     }
 }
@@ -35,7 +46,19 @@ fn is_encoder_word(word: Word) -> bool
     ensures { result ≡ model.is_encoder_word (word_seen word) }
 {
     match word {
-        Word::Touch => true,
+        Word::State
+        | Word::Stencil
+        | Word::Scissor
+        | Word::Transform
+        | Word::Vertices
+        | Word::Indices
+        | Word::TransientVertices
+        | Word::TransientIndices
+        | Word::Bind
+        | Word::Set
+        | Word::Submit
+        | Word::Touch
+        | Word::Blit => true,
         _ => false,
     }
 }
