@@ -4,3 +4,5 @@ pub mod Found
 pub mod Lasts
 pub mod Lines
 pub mod TableDigits
+pub mod WordTables
+pub mod LineParts

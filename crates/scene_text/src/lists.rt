@@ -1,5 +1,5 @@
 // Several fields that are read alike.
-ghost use Rattle.std.specs.Prelude.{◌≡◌, ◌+◌, drop, length};
+ghost use Rattle.std.specs.Prelude.{◌≡◌, ◌+◌, ◌<◌, drop, length, slice_set};
 ghost use Rattle.fix_math.specs.Seen.{rect_seen, affine_seen};
 ghost use Rattle.scene_model.specs.Field.{read_all, u16_number, i32_number};
 ghost use Rattle.scene_model.specs.Grammar.{rect_fields};
@@ -44,6 +44,14 @@ pub fn views(alloc: Global, fields: &[&[u8]], from: usize) -> Result<Sequence<u1
     Ok(Sequence::from_vec(all))
 }
 
+/// Puts a number in its place.
+fn put(m: &mut [i32; 12], place: usize, number: i32)
+    requires { place < 12 }
+    ensures { m.new ≡ slice_set m.old place number }
+{
+    m[place] = number;
+}
+
 /// A transform: the twelve numbers from a place on.
 pub fn transform(fields: &[&[u8]], from: usize) -> Result<Affine, Cause>
     requires { length fields.now ≡ from + 12 }
@@ -52,7 +60,7 @@ pub fn transform(fields: &[&[u8]], from: usize) -> Result<Affine, Cause>
     let mut m = [0; 12];
     for place in 0..12 {
         let number = i32_number(field(fields, from + place))?;
-        m[place] = number;
+        put(&mut m, place, number);
     }
     Ok(Affine { m })
 }

@@ -1,5 +1,6 @@
 // Numbers.
-ghost use Rattle.std.specs.Prelude.{◌≡◌, ◌<◌, ◌≤◌, ◌^◌, ◌-◌, MatchOption, IfOk};
+ghost use Rattle.std.specs.Prelude.{◌≡◌, ◌<◌, ◌≤◌, ◌^◌, ◌-◌, MatchOption, IfOk, FitsSigned};
+ghost use Rattle.std.specs.Int.{w32};
 ghost use Rattle.std.specs.List.{list_all};
 ghost use Rattle.scene_model.specs.Field.{is_digit, is_numeral, value_onto, number_in, u8_number, u16_number, u32_number, i32_number, is_negative_numeral, number_to};
 ghost use Rattle.scene_text.specs.Gives.{Gives};
@@ -129,7 +130,8 @@ fn is_negative_numeral(field: &[u8]) -> bool
 
 #[tactic(auto, unfolding(scene_model::specs::Field::i32_number))]
 pub fn i32_number(field: &[u8]) -> Result<i32, Cause>
-    ensures { Gives (λ n. n) result (i32_number field.now) }
+    ensures value { Gives (λ n. n) result (i32_number field.now) }
+    ensures fits { IfOk result (λ n. FitsSigned w32 n) }
 {
     if is_numeral(field) {
         return match value_to(field, 2_147_483_647) {

@@ -1,14 +1,14 @@
 // The state of reading, and what each line does to it.
-ghost use Rattle.std.specs.Prelude.{◌≡◌, true, map, IfOk};
+ghost use Rattle.std.specs.Prelude.{◌≡◌, true, map, IfOk, option_map};
 ghost use Rattle.std.specs.List.{list_all};
-ghost use Rattle.scene_model.specs.Field.{find_word};
+ghost use Rattle.scene_model.specs.Field.{split_at};
 ghost use Rattle.scene_model.specs.Grammar as model;
 ghost use Rattle.scene_text.specs.Fields.{texts};
 ghost use Rattle.scene_text.specs.Gives.{Gives, MayGive};
 ghost use Rattle.scene_text.specs.Seen.{room_seen, resource_line_seen, frame_seen};
 ghost use Rattle.scene_text.specs.SeenReading.{stage_seen, reading_seen};
 ghost use Rattle.scene_text.specs.SeenWords.{word_seen};
-ghost use Rattle.scene_text.specs.Spoken.{spoken};
+ghost use Rattle.scene_text.specs.Spoken.{spoken, after_parts};
 
 use crate::encoder_lines::encoder_line;
 use crate::fault::{Cause, LineFault};
@@ -310,11 +310,16 @@ impl Reading {
         Ok(())
     }
 
-    /// What a line's fields do: the causes are tested in their order.
-    fn after_fields(&mut self, alloc: Global, fields: &[&[u8]]) -> Result<(), LineFault>
-        ensures { MayGive (λ _. reading_seen self.new) result (model.after_fields spoken (reading_seen self.old) (texts fields.now) (find_word spoken.words (model.field (texts fields.now) 0))) }
+    /// What a line's fields do, with its word: the causes are tested in their order.
+    fn after_known(
+        &mut self,
+        alloc: Global,
+        fields: &[&[u8]],
+        word: Option<Word>,
+    ) -> Result<(), LineFault>
+        ensures { MayGive (λ _. reading_seen self.new) result (model.after_fields spoken (reading_seen self.old) (texts fields.now) (option_map word_seen word)) }
     {
-        let Some(word) = line_word(field(fields, 0)) else {
+        let Some(word) = word else {
             return Err(LineFault::Bad(Cause::UnknownWord));
         };
         if is_other_version(fields) {
@@ -325,6 +330,28 @@ impl Reading {
         }
         are_filled_before(fields, word)?;
         self.after_word(alloc, fields, word)?;
+        Ok(())
+    }
+
+    /// What a line's fields do.
+    fn after_fields(&mut self, alloc: Global, fields: &[&[u8]]) -> Result<(), LineFault>
+        ensures { MayGive (λ _. reading_seen self.new) result (after_parts (reading_seen self.old) (texts fields.now)) }
+    {
+        let word = line_word(field(fields, 0));
+        self.after_known(alloc, fields, word)
+    }
+
+    /// What a line of text bytes does.
+    fn after_text<'a>(
+        &mut self,
+        alloc: Global,
+        line: &'a [u8],
+        fields: &mut Vec<&'a [u8]>,
+    ) -> Result<(), LineFault>
+        ensures { MayGive (λ _. reading_seen self.new) result (after_parts (reading_seen self.old) (split_at 32 line.now)) }
+    {
+        split_fields(line, b' ', fields)?;
+        self.after_fields(alloc, fields)?;
         Ok(())
     }
 
@@ -343,9 +370,7 @@ impl Reading {
         if !all_text(line) {
             return Err(LineFault::Bad(Cause::BadByte));
         }
-        split_fields(line, b' ', fields)?;
-        self.after_fields(alloc, fields)?;
-        Ok(())
+        self.after_text(alloc, line, fields)
     }
 }
 

@@ -4,7 +4,7 @@ ghost use Rattle.scene_model.specs.Field.{find_word, word_in, formats, destinati
 ghost use Rattle.gfx_words.specs.Kinds.{format_seen, program_seen, uniform_seen, mode_seen};
 ghost use Rattle.vertex_layout.specs.Kinds.{attribute_seen, component_seen};
 ghost use Rattle.scene_text.specs.Gives.{Gives};
-ghost use Rattle.scene_text.specs.Spoken.{spoken};
+ghost use Rattle.scene_text.specs.Spoken.{spoken, order_words, resource_words, encoder_words, word_of};
 ghost use Rattle.scene_text.specs.SeenWords.{word_seen, setting_seen};
 
 use crate::fault::Cause;
@@ -70,9 +70,9 @@ pub fn is(word: &[u8], field: &[u8]) -> bool
     word == field
 }
 
-/// The word with which a line begins.
-pub fn line_word(field: &[u8]) -> Option<Word>
-    ensures { option_map word_seen result ≡ find_word spoken.words field.now }
+/// A word of the order of lines.
+fn order_word(field: &[u8]) -> Option<Word>
+    ensures { option_map word_seen result ≡ find_word order_words field.now }
 {
     if is(b"scene", field) {
         return Some(Word::Scene);
@@ -101,6 +101,13 @@ pub fn line_word(field: &[u8]) -> Option<Word>
     if is(b"j", field) {
         return Some(Word::Journal);
     }
+    None
+}
+
+/// A word of a resource or view line.
+fn resource_word(field: &[u8]) -> Option<Word>
+    ensures { option_map word_seen result ≡ find_word resource_words field.now }
+{
     if is(b"layout", field) {
         return Some(Word::Layout);
     }
@@ -137,6 +144,13 @@ pub fn line_word(field: &[u8]) -> Option<Word>
     if is(b"order", field) {
         return Some(Word::Order);
     }
+    None
+}
+
+/// A word of an encoder line.
+fn encoder_word(field: &[u8]) -> Option<Word>
+    ensures { option_map word_seen result ≡ find_word encoder_words field.now }
+{
     if is(b"state", field) {
         return Some(Word::State);
     }
@@ -177,6 +191,20 @@ pub fn line_word(field: &[u8]) -> Option<Word>
         return Some(Word::Blit);
     }
     None
+}
+
+/// The word with which a line begins.
+#[tactic(auto, unfolding(crate::specs::Spoken::word_of))]
+pub fn line_word(field: &[u8]) -> Option<Word>
+    ensures { option_map word_seen result ≡ word_of field.now }
+{
+    if let Some(word) = encoder_word(field) {
+        return Some(word);
+    }
+    if let Some(word) = resource_word(field) {
+        return Some(word);
+    }
+    order_word(field)
 }
 
 /// What a `view` line sets.
