@@ -4,10 +4,12 @@
 mod geometry;
 mod numbers;
 mod picture;
+mod telling;
 
 pub use geometry::{Affine, Point, Rect};
 pub use numbers::{clamp_i32, div_floor};
 pub use picture::{TexelList, Texels};
+pub use telling::tell_texels;
 
 #[cfg(test)]
 mod tests;

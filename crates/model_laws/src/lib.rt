@@ -5,6 +5,8 @@
 
 ghost use Rattle.scene_model.specs.Journal.{FaultLaw, OrderLaw};
 ghost use Rattle.schedule_model.specs.Held.{EveryRunHolds};
+ghost use Rattle.spelling_model.specs.Spelling.{OneReading, ReadingLaw};
+ghost use Rattle.spelling_model.specs.Written.{WritingLaw};
 
 /// The law of order: where no key is shared between encoders, any two lawful journals of a scene give the same pictures.
 pub fn order_law()
@@ -14,6 +16,21 @@ pub fn order_law()
 /// The law of a journal's first fault: there is no fault place exactly where the journal is lawful.
 pub fn fault_law()
     ensures { FaultLaw }
+{}
+
+/// The law of reading: bytes are read as a scene exactly where the scene is readable and each kept line has the fields that the scene spells.
+pub fn reading_law()
+    ensures { ReadingLaw }
+{}
+
+/// A scene has one reading: two scenes of one text are equal.
+pub fn one_reading()
+    ensures { OneReading }
+{}
+
+/// The law of writing: each text made of a readable scene's lines is read as that scene.
+pub fn writing_law()
+    ensures { WritingLaw }
 {}
 
 /// The law of the schedule: after every list of allowed events from the opening state, the invariant holds, for every latency.

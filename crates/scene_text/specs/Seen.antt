@@ -2,18 +2,17 @@
 use Rattle.std.specs.Prelude.{ℕ, List, map}
 use Rattle.gfx_model.specs.Vertex as vertex
 use Rattle.gfx_model.specs.Resources as texels
-use Rattle.gfx_model.specs.Views as views
 use Rattle.gfx_model.specs.Recorder as recorder
 use Rattle.scene_model.specs.Scene as model
 use Rattle.scene_model.specs.Journal as journals
 use Rattle.gfx_words.specs.Kinds.{format_seen, program_seen, uniform_seen, value_seen, mode_seen}
 use Rattle.fix_math.specs.Seen.{rect_seen, affine_seen}
 use Rattle.vertex_layout.specs.Kinds.{attribute_seen, component_seen}
+pub use Rattle.view_table.specs.Seen.{clear_seen}
 use Rattle.scene_text.specs.declared.scene.LayoutPart.{LayoutPart}
 use Rattle.scene_text.specs.declared.scene.LayoutPart.TheVariants as parts
 use Rattle.scene_text.specs.declared.scene.TexSource.{TexSource}
 use Rattle.scene_text.specs.declared.scene.TexSource.TheVariants as sources
-use Rattle.scene_text.specs.declared.scene.Clear.{Clear}
 use Rattle.scene_text.specs.declared.scene.Room.{Room}
 use Rattle.scene_text.specs.declared.scene.ResLine.{ResLine}
 use Rattle.scene_text.specs.declared.scene.ResLine.TheVariants as resources
@@ -25,9 +24,6 @@ use Rattle.scene_text.specs.declared.scene.SceneName.{SceneName}
 use Rattle.scene_text.specs.declared.scene.Scene.{Scene}
 use Rattle.scene_text.specs.declared.journal.JournalEntry.{JournalEntry}
 use Rattle.scene_text.specs.declared.journal.Journal.{Journal}
-
-abbrev pub clear_seen : Clear → views.Clear
-clear_seen c = record { flags = c.flags; color = c.color; depth = c.depth; stencil = c.stencil }
 
 abbrev pub room_seen : Room → recorder.Room
 room_seen r = record { items = r.items; bytes = r.bytes; uniforms = r.uniforms }

@@ -26,10 +26,11 @@ mod words;
 pub use fault::SceneFault;
 pub use journal::{Journal, JournalEntry};
 pub use scene::{
-    Clear, EncBlock, EncLine, LayoutPart, ResLine, Room, Scene, SceneFrame, SceneName, TexSource,
+    EncBlock, EncLine, LayoutPart, ResLine, Room, Scene, SceneFrame, SceneName, TexSource,
 };
 pub use sequence::Sequence;
 pub use text::read;
+pub use view_table::Clear;
 
 #[cfg(test)]
 mod tests;

@@ -4,6 +4,7 @@ use crate::sequence::Sequence;
 use fix_math::{Affine, Rect};
 use gfx_words::{Format, ProgramKind, UniformKind, UniformValue, ViewMode};
 use vertex_layout::{Attr, AttrType};
+use view_table::Clear;
 
 /// How much an encoder records in a frame: items, transient bytes and uniform values.
 #[derive(Clone, Copy, Debug, PartialEq, Eq, Drop)]
@@ -11,15 +12,6 @@ pub struct Room {
     pub items: u32,
     pub bytes: u32,
     pub uniforms: u32,
-}
-
-/// How a view's target is cleared: flag 1 its colour, 2 its depth, 4 its stencil.
-#[derive(Clone, Copy, Debug, PartialEq, Eq, Drop)]
-pub struct Clear {
-    pub flags: u8,
-    pub color: [u8; 4],
-    pub depth: u32,
-    pub stencil: u8,
 }
 
 /// A part of a vertex: an attribute of one to four components, or bytes that are skipped.

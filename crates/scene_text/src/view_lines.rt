@@ -1,8 +1,9 @@
 // The forms of view lines and of the order of views.
+ghost use Rattle.view_table.specs.Seen.{clear_seen};
 ghost use Rattle.scene_model.specs.Grammar.{clear_fields, setting_form, view_form, order_form};
 ghost use Rattle.scene_text.specs.Fields.{texts};
 ghost use Rattle.scene_text.specs.Gives.{Gives, MayGive};
-ghost use Rattle.scene_text.specs.Seen.{clear_seen, resource_line_seen};
+ghost use Rattle.scene_text.specs.Seen.{resource_line_seen};
 ghost use Rattle.scene_text.specs.SeenWords.{setting_seen};
 ghost use Rattle.scene_text.specs.Spoken.{spoken};
 
@@ -12,9 +13,10 @@ use crate::fields::{are_filled, field, has_count, has_count_from, has_field};
 use crate::lists::{rect, transform, views};
 use crate::names::Names;
 use crate::numbers::{number, u8_number, u16_number};
-use crate::scene::{Clear, ResLine};
+use crate::scene::ResLine;
 use crate::words::{Setting, mode_word, setting_word};
 use std::alloc::Global;
+use view_table::Clear;
 
 fn clear(fields: &[&[u8]]) -> Result<Clear, Cause>
     ensures { Gives clear_seen result (clear_fields (texts fields.now)) }

@@ -1,0 +1,4 @@
+pub mod Changes
+pub mod Raster
+pub mod Spans
+pub mod Wholes

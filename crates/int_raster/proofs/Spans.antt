@@ -1,0 +1,113 @@
+-- Pixels of a row that are stepped one after the other.
+use Rattle.std.proofs.Common.{◌≡◌, ℕ, zero, suc, Bool, true, false, if◌then◌else◌, Option, Some, not, ◌^◌, ◌∷◌, refl, ◌+◌, ◌*◌, ◌/◌, ◌%◌, ◌<◌, ◌≤◌, List, [], length, slice_index_or, slice_set, sym, ap, ◌∙◌, arith}
+use Rattle.std.proofs.lemmas.Nat.{mod-mul-add, div-mul-add}
+use Rattle.std.proofs.lemmas.List.{map-set, length-map}
+use Rattle.std.proofs.Math.ListN.{get_or-map}
+use Rattle.gfx_model.specs.Number.{map_from, u32_at}
+use Rattle.gfx_model.specs.Vertex.{Color}
+use Rattle.gfx_model.specs.Words.{depth_test_of, writes_depth, on_stencil_fail, on_depth_fail, on_pass}
+use Rattle.gfx_model.specs.Pixel.{Pixel, Shaded, passes_stencil, passes_depth, stencil_by, stored_color, step_with_depth, pixel_step}
+use Rattle.int_raster.specs.Places.{flat_pixel, flat_pixels, deep_pixel, deep_pixels, spanned, by_place}
+use Rattle.gfx_model.specs.Raster.{fragment_at}
+use Rattle.gfx_model.specs.World.{painted}
+use Rattle.tri_cover.specs.declared.triangles.Setup.{Setup}
+use Rattle.int_raster.specs.declared.lists.Prepared.{Prepared}
+use Rattle.int_raster.specs.Seen.{paint_seen, facing_seen, step_seen}
+use Rattle.int_raster.proofs.Changes.{span_more}
+
+-- the step of a column and a row is that of their place
+pub at_place : {A : Type 0} (f : ℕ → ℕ → A → A) (w y x : ℕ) (p : A) → x < w → f x y p ≡ by_place w f (y * w + x) p
+at_place f w y x p h =
+    let column : x ≡ (y * w + x) % w = sym (mod-mul-add y w x h) in
+    let row : y ≡ (y * w + x) / w = sym (div-mul-add y w x h) in
+    (λ i. f (column i) (row i) p)
+
+-- one pixel more of a surface without depth
+pub flat_more : (f : ℕ → ℕ → Pixel → Pixel) (w y first x : ℕ) (old now : List Color) (c : Color) →
+    flat_pixels now ≡ map_from (spanned (by_place w f) (y * w + first) (y * w + x)) 0 (flat_pixels old) →
+    first ≤ x → x < w → y * w + w ≤ length old →
+    flat_pixel c ≡ f x y (flat_pixel (slice_index_or now (y * w + x) [])) →
+    flat_pixels (slice_set now (y * w + x) c) ≡ map_from (spanned (by_place w f) (y * w + first) (y * w + (x + 1))) 0 (flat_pixels old)
+flat_more f w y first x old now c e a b l h =
+    let next : y * w + x + 1 ≡ y * w + (x + 1) = omega arith in
+    let inside : y * w + x < length (flat_pixels old) = rw (length-map old flat_pixel) (omega arith) in
+    map-set flat_pixel now (y * w + x) c
+    ∙ span_more (by_place w f) (y * w + first) (y * w + x) (flat_pixels old) (flat_pixels now) (flat_pixel c) (flat_pixel []) e (omega arith) inside
+    (h ∙ at_place f w y x (flat_pixel (slice_index_or now (y * w + x) [])) b ∙ ap (by_place w f (y * w + x)) (sym (get_or-map flat_pixel now (y * w + x) [])))
+    ∙ ap (λ n. map_from (spanned (by_place w f) (y * w + first) n) 0 (flat_pixels old)) next
+
+-- ---- surfaces with depth
+
+pub length-deep : (colors depths : List Color) → length depths ≡ length colors → length (deep_pixels colors depths) ≡ length colors
+length-deep [] zs e = refl
+length-deep (c ∷ cs) [] e = cc
+length-deep (c ∷ cs) (z ∷ zs) e = ap suc (length-deep cs zs (omega (arith, e)))
+
+deep-set : (colors depths : List Color) (i : ℕ) (c z : Color) → length depths ≡ length colors → deep_pixels (slice_set colors i c) (slice_set depths i z) ≡ slice_set (deep_pixels colors depths) i (deep_pixel c z)
+deep-set [] zs i c z e = refl
+deep-set (b ∷ bs) [] i c z e = cc
+deep-set (b ∷ bs) (y ∷ ys) zero c z e = refl
+deep-set (b ∷ bs) (y ∷ ys) (suc i) c z e = ap (λ ps. deep_pixel b y ∷ ps) (deep-set bs ys i c z (omega (arith, e)))
+
+pub deep-get : (colors depths : List Color) (i : ℕ) → length depths ≡ length colors → slice_index_or (deep_pixels colors depths) i (deep_pixel [] []) ≡ deep_pixel (slice_index_or colors i []) (slice_index_or depths i [])
+deep-get [] [] i e = refl
+deep-get [] (z ∷ zs) i e = cc
+deep-get (b ∷ bs) [] i e = cc
+deep-get (b ∷ bs) (y ∷ ys) zero e = refl
+deep-get (b ∷ bs) (y ∷ ys) (suc i) e = deep-get bs ys i (omega (arith, e))
+
+-- one pixel more of a surface with depth
+pub deep_more : (f : ℕ → ℕ → Pixel → Pixel) (w y first x : ℕ) (old now before deep : List Color) (c z : Color) →
+    deep_pixels now deep ≡ map_from (spanned (by_place w f) (y * w + first) (y * w + x)) 0 (deep_pixels old before) →
+    first ≤ x → x < w → y * w + w ≤ length old → length before ≡ length old → length now ≡ length old → length deep ≡ length before →
+    deep_pixel c z ≡ f x y (deep_pixel (slice_index_or now (y * w + x) []) (slice_index_or deep (y * w + x) [])) →
+    deep_pixels (slice_set now (y * w + x) c) (slice_set deep (y * w + x) z) ≡ map_from (spanned (by_place w f) (y * w + first) (y * w + (x + 1))) 0 (deep_pixels old before)
+deep_more f w y first x old now before deep c z e a b l same as_long as_deep h =
+    let next : y * w + x + 1 ≡ y * w + (x + 1) = omega arith in
+    let here : length deep ≡ length now = as_deep ∙ same ∙ sym as_long in
+    let inside : y * w + x < length (deep_pixels old before) = rw (length-deep old before same) (omega arith) in
+    deep-set now deep (y * w + x) c z here
+    ∙ span_more (by_place w f) (y * w + first) (y * w + x) (deep_pixels old before) (deep_pixels now deep) (deep_pixel c z) (deep_pixel [] []) e (omega arith) inside
+    (h ∙ at_place f w y x (deep_pixel (slice_index_or now (y * w + x) []) (slice_index_or deep (y * w + x) [])) b ∙ ap (by_place w f (y * w + x)) (sym (deep-get now deep (y * w + x) here)))
+    ∙ ap (λ n. map_from (spanned (by_place w f) (y * w + first) n) 0 (deep_pixels old before)) next
+
+-- ---- a step on a pixel with depth leaves one
+
+abbrev IsDeep : Pixel → Type 0
+IsDeep p = (word : ℕ) × (p.depth ≡ Some word)
+
+deep_if : (a : Bool) (p q : Pixel) → IsDeep p → IsDeep q → IsDeep (if a then p else q)
+deep_if true p q hp hq = hp
+deep_if false p q hp hq = hq
+
+stays_deep : (color : Color) (depth stencil : ℕ) (s : Shaded) (state word : ℕ) → IsDeep (step_with_depth color depth stencil s state word)
+stays_deep color depth stencil s state word =
+    deep_if (not (passes_stencil word stencil))
+    (record { color = color; depth = Some (depth + 2 ^ 24 * stencil_by word (on_stencil_fail word) stencil) })
+    (if not (passes_depth (depth_test_of state) s.depth depth)
+    then record { color = color; depth = Some (depth + 2 ^ 24 * stencil_by word (on_depth_fail word) stencil) }
+    else record { color = stored_color state s.color color; depth = Some ((if writes_depth state then s.depth else depth) + 2 ^ 24 * stencil_by word (on_pass word) stencil) })
+    (depth + 2 ^ 24 * stencil_by word (on_stencil_fail word) stencil, refl)
+    (deep_if (not (passes_depth (depth_test_of state) s.depth depth))
+    (record { color = color; depth = Some (depth + 2 ^ 24 * stencil_by word (on_depth_fail word) stencil) })
+    (record { color = stored_color state s.color color; depth = Some ((if writes_depth state then s.depth else depth) + 2 ^ 24 * stencil_by word (on_pass word) stencil) })
+    (depth + 2 ^ 24 * stencil_by word (on_depth_fail word) stencil, refl)
+    ((if writes_depth state then s.depth else depth) + 2 ^ 24 * stencil_by word (on_pass word) stencil, refl))
+
+-- the pixel that is stored, its depth word as a texel, is the pixel after the step
+pub stored_deep : (color z : Color) (depth : Option ℕ) (word : ℕ) (old : Color) (s : Shaded) (state stencil : ℕ) →
+    record { color = color; depth = depth } ≡ pixel_step (record { color = old; depth = Some word }) s state stencil →
+    ((w : ℕ) → depth ≡ Some w → u32_at z 0 ≡ w) →
+    deep_pixel color z ≡ pixel_step (record { color = old; depth = Some word }) s state stencil
+stored_deep color z depth word old s state stencil e h =
+    let found : IsDeep (pixel_step (record { color = old; depth = Some word }) s state stencil) = stays_deep old (word % 2 ^ 24) (word / 2 ^ 24) s state stencil in
+    let same : depth ≡ Some found.0 = ap (λ p. p.depth) e ∙ found.1 in
+    (λ i. record { color = color; depth = (ap Some (h found.0 same) ∙ sym same) i }) ∙ e
+
+pub stored_step : (d : Prepared) (t : Setup) (x y : ℕ) (color z : Color) (depth : Option ℕ) (word : ℕ) (old : Color) →
+    record { color = color; depth = depth } ≡ step_seen d t x y (record { color = old; depth = Some word }) →
+    ((w : ℕ) → depth ≡ Some w → u32_at z 0 ≡ w) →
+    deep_pixel color z ≡ step_seen d t x y (record { color = old; depth = Some word })
+stored_step d t x y color z depth word old e h =
+    let fragment = fragment_at (facing_seen d t).triangle x y in
+    stored_deep color z depth word old (record { color = painted (paint_seen d.paint) fragment; depth = fragment.depth }) d.state (facing_seen d t).stencil e h

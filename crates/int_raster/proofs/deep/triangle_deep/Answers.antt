@@ -1,0 +1,42 @@
+use Rattle.std.proofs.Common.{◌≡◌, arith, ap, ◌∙◌}
+use Rattle.std.proofs.lemmas.Bool.{and_parts}
+use Rattle.int_raster.proofs.Spans.{length-deep}
+use Rattle.gfx_model.specs.Number.{map_from}
+use Rattle.gfx_model.specs.Raster.{contains, covers}
+use Rattle.fix_math.specs.Seen.{rect_seen}
+use Rattle.int_raster.specs.Places.{deep_pixels, above, is_drawn}
+use Rattle.int_raster.specs.Seen.{facing_seen, step_seen, change_seen}
+use Rattle.int_raster.proofs.Raster.{row_more, rows_before, rows_behind}
+use Rattle.int_raster.proofs.deep.triangle_deep.Goals as goal
+
+pub loop-y-init : goal.loop-y-init
+loop-y-init c =
+    let d = c.args.draw.now in
+    let f = facing_seen c.args.draw.now c.args.setup.now in
+    rows_before (step_seen c.args.draw.now c.args.setup.now) (is_drawn (rect_seen d.cut) f) c.args.width c.args.height c.drawn_rows-first.result.0 (deep_pixels c.args.colors.now c.args.depths.now) c.requires.wide
+    (length-deep c.args.colors.now c.args.depths.now c.requires.same ∙ c.requires.whole)
+    (λ x y b t. let p = and_parts (contains (rect_seen d.cut) x y) (covers f.triangle x y) t in (c.drawn_rows-first.ensures.all x y b p.0 p.1).0)
+
+pub drawn_columns-left-requires-clause-upper : goal.drawn_columns-left-requires-clause-upper
+drawn_columns-left-requires-clause-upper c = (c.drawn_rows-first.ensures.first c.loop-y.y c.loop-y.auto.y c.loop-y-test.true).0
+
+pub drawn_columns-left-requires-clause-lower : goal.drawn_columns-left-requires-clause-lower
+drawn_columns-left-requires-clause-lower c = (c.drawn_rows-first.ensures.first c.loop-y.y c.loop-y.auto.y c.loop-y-test.true).1
+
+pub loop-y-preserved : goal.loop-y-preserved
+loop-y-preserved c =
+    let d = c.args.draw.now in
+    let f = facing_seen c.args.draw.now c.args.setup.now in
+    row_more (step_seen c.args.draw.now c.args.setup.now) (is_drawn (rect_seen d.cut) f) c.args.width c.loop-y.y c.drawn_columns-left.result.0 c.drawn_columns-left.result.1
+    (deep_pixels c.args.colors.now c.args.depths.now) (deep_pixels c.loop-y.colors c.loop-y.depths) (deep_pixels c.span_deep.new.colors c.span_deep.new.depths)
+    c.requires.wide c.drawn_columns-left.ensures.within c.drawn_columns-left.ensures.columns c.loop-y.invariant c.span_deep.ensures
+
+pub returns : goal.returns
+returns c =
+    let d = c.args.draw.now in
+    let f = facing_seen c.args.draw.now c.args.setup.now in
+    let last : c.loop-y.y ≡ c.drawn_rows-first.result.1 = omega arith in
+    rows_behind (step_seen c.args.draw.now c.args.setup.now) (is_drawn (rect_seen d.cut) f) c.args.width c.args.height c.drawn_rows-first.result.1 (deep_pixels c.args.colors.now c.args.depths.now) (deep_pixels c.loop-y.colors c.loop-y.depths) c.requires.wide
+    (length-deep c.args.colors.now c.args.depths.now c.requires.same ∙ c.requires.whole)
+    (λ x y b t. let p = and_parts (contains (rect_seen d.cut) x y) (covers f.triangle x y) t in (c.drawn_rows-first.ensures.all x y b p.0 p.1).1)
+    (c.loop-y.invariant ∙ ap (λ n. map_from (above c.args.width n (change_seen c.args.draw.now c.args.setup.now)) 0 (deep_pixels c.args.colors.now c.args.depths.now)) last)

@@ -1,0 +1,50 @@
+// The rows and columns of a surface that a triangle may change.
+ghost use Rattle.std.specs.Prelude.{◌≡◌, ◌≤◌, ◌<◌, ◌+◌, ℕ, min, true, ◌&&◌, nat_le, nat_lt};
+ghost use Rattle.gfx_model.specs.Raster.{contains, covers};
+ghost use Rattle.fix_math.specs.Seen.{rect_seen};
+ghost use Rattle.tri_cover.specs.Shown.{setup_seen};
+
+use fix_math::Rect;
+use tri_cover::Setup;
+
+/// The end of a side that begins at a place, within a limit.
+fn end_within(start: u16, side: u16, limit: u16) -> u16
+    ensures { result ≡ min (start + side) limit }
+{
+    (start as u32 + side as u32).min(limit as u32) as u16
+}
+
+/// The rows of a surface that a triangle may change are among these, and they lie in the cut.
+pub(crate) fn drawn_rows(setup: &Setup, cut: &Rect, height: u16) -> (u16, u16)
+    ensures all { (x y : ℕ) → y < height → contains (rect_seen cut.now) x y ≡ true → covers (setup_seen setup.now).triangle x y ≡ true → (result.0 ≤ y) × (y < result.1) }
+    ensures order { result.0 ≤ result.1 }
+    ensures within { result.1 ≤ height }
+    ensures first { (y : ℕ) → result.0 ≤ y → y < result.1 → (cut.now.y ≤ y) × (y < cut.now.y + cut.now.h) }
+{
+    let (first, after) = setup.rows(height);
+    let first = first.max(cut.y);
+    let after = after.min(end_within(cut.y, cut.h, height));
+    if first < after {
+        (first, after)
+    } else {
+        (0, 0)
+    }
+}
+
+/// The columns of a row of the cut that a triangle changes.
+pub(crate) fn drawn_columns(setup: &Setup, cut: &Rect, y: u16, width: u16) -> (u16, u16)
+    requires upper { cut.now.y ≤ y }
+    requires lower { y < cut.now.y + cut.now.h }
+    ensures columns { (x : ℕ) → x < width → (contains (rect_seen cut.now) x y && covers (setup_seen setup.now).triangle x y) ≡ (nat_le result.0 x && nat_lt x result.1) }
+    ensures order { result.0 ≤ result.1 }
+    ensures within { result.1 ≤ width }
+{
+    let (first, after) = setup.span(y, width);
+    let first = first.max(cut.x);
+    let after = after.min(end_within(cut.x, cut.w, width));
+    if first < after {
+        (first, after)
+    } else {
+        (0, 0)
+    }
+}

@@ -1,0 +1,10 @@
+//! What one fragment does to one pixel: stencil test, depth test, blending and stores.
+#![tactic(auto)]
+
+mod blending;
+mod depths;
+mod pixels;
+
+pub use blending::{blend, multiply};
+pub use depths::{depth_test, stencil_step};
+pub use pixels::{Pixel, Shaded, pixel_step};

@@ -1,0 +1,4 @@
+pub mod FieldSpelling
+pub mod LineSpelling
+pub mod Spelling
+pub mod Written

@@ -1,0 +1,9 @@
+pub mod Half
+pub mod Narrow
+pub mod Cover
+pub mod Barycentre
+pub mod Fixed
+pub mod Means
+pub mod Steps
+pub mod Exact
+pub mod Shares

@@ -1,0 +1,105 @@
+// Edges, and the columns of a row on their inner side.
+ghost use Rattle.std.specs.Prelude.{◌≡◌, ◌≤◌, ◌<◌, ◌^◌, ◌*◌, ℕ, pos, ◌+ℤ◌, ◌*ℤ◌, ◌≤ℤ◌, ◌<ℤ◌, unsigned_abs, ◌&&◌, nat_le, nat_lt};
+ghost use Rattle.gfx_model.specs.Raster.{is_top_or_left};
+ghost use Rattle.tri_cover.specs.Seen.{screen_seen, IsEdge, IsNear, is_on_side};
+ghost use Rattle.tri_cover.specs.Columns.{is_between, is_reached, lost};
+
+use crate::corners::ScreenVertex;
+use crate::numbers::{difference, less, product};
+
+/// An edge: what it gains per row and loses per column, in 1/256 of each, and its value at the first pixel.
+#[derive(Clone, Copy)]
+pub struct Edge {
+    pub base: i64,
+    pub rise: i64,
+    pub fall: i64,
+}
+
+fn owns(p: &ScreenVertex, q: &ScreenVertex) -> bool
+    ensures { result ≡ is_top_or_left (screen_seen p.now) (screen_seen q.now) }
+{
+    if p.y <= q.y {
+        q.y <= p.y && p.x < q.x
+    } else {
+        true
+    }
+}
+
+/// 0 where the points on an edge belong to its triangle, and else 1.
+fn lost_by(p: &ScreenVertex, q: &ScreenVertex) -> i64
+    ensures value { result ≡ pos (lost (is_top_or_left (screen_seen p.now) (screen_seen q.now))) }
+    ensures near { unsigned_abs result < 2 }
+{
+    if owns(p, q) { 0 } else { 1 }
+}
+
+pub(crate) fn edge_between(p: &ScreenVertex, q: &ScreenVertex) -> Edge
+    ensures edge { IsEdge result p.now q.now }
+    ensures near { IsNear result }
+{
+    let rise = difference(q.x, p.x);
+    let fall = difference(q.y, p.y);
+    let base = less(
+        product(rise, difference(128, p.y)),
+        product(fall, difference(128, p.x)),
+        lost_by(p, q),
+    );
+    Edge { base, rise, fall }
+}
+
+/// The value of an edge at the left end of a row.
+fn reach(edge: &Edge, row: u16) -> i64
+    requires { IsNear edge.now }
+    ensures value { result ≡ edge.now.base +ℤ edge.now.rise *ℤ pos (256 * row) }
+    ensures near { unsigned_abs result < 2 ^ 62 }
+{
+    edge.base + product(edge.rise, 256 * row as i64)
+}
+
+/// The columns from first up to after that lie on the inner side of an edge.
+fn narrowed(first: i64, after: i64, reach: i64, fall: i64) -> (i64, i64)
+    requires first { unsigned_abs first < 2 ^ 62 }
+    requires reach { unsigned_abs reach < 2 ^ 62 }
+    requires fall { unsigned_abs fall < 2 ^ 29 }
+    ensures columns { (x : ℕ) → is_between result.0 result.1 x ≡ (is_between first after x && is_reached reach fall x) }
+    ensures first { first ≤ℤ result.0 }
+    ensures after { result.0 <ℤ result.1 → result.1 ≤ℤ after }
+    ensures low { unsigned_abs result.0 < 2 ^ 62 }
+{
+    if fall > 0 {
+        (first, after.min(reach.div_euclid(256 * fall) + 1))
+    } else if fall < 0 {
+        (first.max(-reach.div_euclid(256 * -fall)), after)
+    } else if reach >= 0 {
+        (first, after)
+    } else {
+        (first, first)
+    }
+}
+
+/// The columns from first up to after that lie on the inner side of an edge in a row.
+pub(crate) fn cut(first: i64, after: i64, edge: &Edge, row: u16) -> (i64, i64)
+    requires edge { IsNear edge.now }
+    requires first { unsigned_abs first < 2 ^ 62 }
+    ensures columns { (x : ℕ) → is_between result.0 result.1 x ≡ (is_between first after x && is_on_side edge.now row x) }
+    ensures first { first ≤ℤ result.0 }
+    ensures after { result.0 <ℤ result.1 → result.1 ≤ℤ after }
+    ensures low { unsigned_abs result.0 < 2 ^ 62 }
+{
+    narrowed(first, after, reach(edge, row), edge.fall)
+}
+
+/// The same columns as numbers of columns.
+pub(crate) fn ends(first: i64, after: i64, width: u16) -> (u16, u16)
+    requires first { pos 0 ≤ℤ first }
+    requires after { first <ℤ after → after ≤ℤ pos width }
+    ensures columns { (x : ℕ) → (nat_le result.0 x && nat_lt x result.1) ≡ is_between first after x }
+    ensures order { result.0 ≤ result.1 }
+    ensures within { result.1 ≤ width }
+{
+    if first < after {
+        (first as u16, after as u16)
+    } else {
+        (0, 0)
+    }
+}

@@ -1,0 +1,192 @@
+// Triangles that are ready to be drawn.
+ghost use Rattle.std.specs.Prelude.{true, ◌≡◌, ◌≤◌, ◌<◌, ◌^◌, ◌+◌, ◌*◌, ℕ, pos, ◌<ℤ◌, unsigned_abs, ◌&&◌, nat_le, nat_lt, IsSome, IfSome, IsTrue, ◌↔◌, ◌||◌, ◌==◌, not};
+ghost use Rattle.gfx_model.specs.Raster.{covers, area as area_spec, clockwise as clockwise_spec, is_front as faces_front, is_back, is_kept, edge, centre, fragment_at};
+ghost use Rattle.tri_cover.specs.Seen.{screen_seen, triangle_seen, IsEdge, IsNear, fragment_seen};
+
+use crate::averages::{Weights, mean_channel, mean_depth, mean_place};
+use crate::corners::{Fragment, ScreenVertex};
+use crate::edges::{Edge, cut, edge_between, ends};
+use crate::numbers::{difference, less, product};
+use crate::rows::{greatest, least, row_after, row_from, within};
+
+/// A triangle that is ready to be drawn, the clockwise way round.
+#[derive(Clone, Copy)]
+pub struct Setup {
+    pub a: ScreenVertex,
+    pub b: ScreenVertex,
+    pub c: ScreenVertex,
+    pub is_front: bool,
+    ab: Edge,
+    bc: Edge,
+    ca: Edge,
+    ghost first: { IsEdge ab a b },
+    ghost second: { IsEdge bc b c },
+    ghost third: { IsEdge ca c a },
+    ghost near_first: { IsNear ab },
+    ghost near_second: { IsNear bc },
+    ghost near_third: { IsNear ca },
+    ghost turned: { pos 0 <ℤ area_spec (triangle_seen a b c) },
+}
+
+fn centre_of(n: u16) -> i32
+    ensures value { result ≡ centre n }
+    ensures near { unsigned_abs result ≤ 2 ^ 27 }
+{
+    256 * n as i32 + 128
+}
+
+/// On which side of the line from p to q a pixel's centre lies.
+fn weight(p: &ScreenVertex, q: &ScreenVertex, x: u16, y: u16) -> i64
+    ensures value { result ≡ edge (screen_seen p.now) (screen_seen q.now) x y }
+    ensures near { unsigned_abs result < 2 ^ 60 }
+{
+    less(
+        product(difference(q.x, p.x), difference(centre_of(y), p.y)),
+        product(difference(q.y, p.y), difference(centre_of(x), p.x)),
+        0,
+    )
+}
+
+/// Twice the area of a triangle.
+fn area(a: &ScreenVertex, b: &ScreenVertex, c: &ScreenVertex) -> i64
+    ensures value { result ≡ area_spec (triangle_seen a.now b.now c.now) }
+    ensures near { unsigned_abs result < 2 ^ 60 }
+{
+    less(
+        product(difference(b.x, a.x), difference(c.y, a.y)),
+        product(difference(b.y, a.y), difference(c.x, a.x)),
+        0,
+    )
+}
+
+fn is_above(a: &ScreenVertex, b: &ScreenVertex, c: &ScreenVertex) -> bool
+    ensures { result ≡ faces_front (triangle_seen a.now b.now c.now) }
+{
+    area(a, b, c) > 0
+}
+
+fn is_below(a: &ScreenVertex, b: &ScreenVertex, c: &ScreenVertex) -> bool
+    ensures { result ≡ is_back (triangle_seen a.now b.now c.now) }
+{
+    area(a, b, c) < 0
+}
+
+fn keeps(front: bool, back: bool, cull: u8) -> bool
+    ensures { result ≡ ((front && not (cull == 1)) || (back && not (cull == 2))) }
+{
+    (front && cull != 1) || (back && cull != 2)
+}
+
+/// The triangle that is the clockwise way round already.
+fn clockwise(a: ScreenVertex, b: ScreenVertex, c: ScreenVertex, is_front: bool) -> Setup
+    requires turned { pos 0 <ℤ area_spec (triangle_seen a b c) }
+    ensures triangle { triangle_seen result.a result.b result.c ≡ triangle_seen a b c }
+    ensures front { result.is_front ≡ is_front }
+{
+    let ab = edge_between(&a, &b);
+    let bc = edge_between(&b, &c);
+    let ca = edge_between(&c, &a);
+    Setup {
+        a,
+        b,
+        c,
+        is_front,
+        ab,
+        bc,
+        ca,
+    }
+}
+
+impl Setup {
+    ghost use Rattle.std.specs.Prelude.{option_map};
+    ghost use Rattle.tri_cover.specs.Shown.{setup_seen, shown_unless_culled};
+
+    /// The triangle, the clockwise way round. `None` exactly where it has no area or is culled: by 1 where it faces the
+    /// front, by 2 where it faces the back.
+    pub fn new(a: ScreenVertex, b: ScreenVertex, c: ScreenVertex, cull: u8) -> Option<Setup>
+        ensures { option_map setup_seen result ≡ shown_unless_culled cull (triangle_seen a b c) }
+    {
+        let front = is_above(&a, &b, &c);
+        let back = is_below(&a, &b, &c);
+        if keeps(front, back, cull) {
+            Some(if back {
+                clockwise(a, c, b, front)
+            } else {
+                clockwise(a, b, c, front)
+            })
+        } else {
+            None
+        }
+    }
+
+    /// Whether it faced the front: clockwise as its corners were given.
+    pub fn front(&self) -> bool
+        ensures { result ≡ (setup_seen self.now).is_front }
+    {
+        self.is_front
+    }
+
+    /// The weights of the corners at a covered pixel.
+    fn weights(&self, x: u16, y: u16) -> Weights
+        requires { covers (triangle_seen self.now.a self.now.b self.now.c) x y ≡ true }
+        ensures a { result.a ≡ edge (screen_seen self.now.b) (screen_seen self.now.c) x y }
+        ensures b { result.b ≡ edge (screen_seen self.now.c) (screen_seen self.now.a) x y }
+        ensures c { result.c ≡ edge (screen_seen self.now.a) (screen_seen self.now.b) x y }
+        ensures sum { result.sum ≡ area_spec (triangle_seen self.now.a self.now.b self.now.c) }
+    {
+        let a = weight(&self.b, &self.c, x, y);
+        let b = weight(&self.c, &self.a, x, y);
+        let c = weight(&self.a, &self.b, x, y);
+        Weights {
+            a,
+            b,
+            c,
+            sum: area(&self.a, &self.b, &self.c),
+        }
+    }
+
+    /// The fragment at a covered pixel.
+    pub fn at(&self, x: u16, y: u16) -> Fragment
+        requires { covers (triangle_seen self.now.a self.now.b self.now.c) x y ≡ true }
+        ensures { fragment_seen result ≡ fragment_at (triangle_seen self.now.a self.now.b self.now.c) x y }
+    {
+        let by = self.weights(x, y);
+        let (a, b, c) = (&self.a, &self.b, &self.c);
+        Fragment {
+            depth: mean_depth(&by, a.depth, b.depth, c.depth),
+            color: [
+                mean_channel(&by, a.color[0], b.color[0], c.color[0]),
+                mean_channel(&by, a.color[1], b.color[1], c.color[1]),
+                mean_channel(&by, a.color[2], b.color[2], c.color[2]),
+                mean_channel(&by, a.color[3], b.color[3], c.color[3]),
+            ],
+            texcoord: [
+                mean_place(&by, a.texcoord[0], b.texcoord[0], c.texcoord[0]),
+                mean_place(&by, a.texcoord[1], b.texcoord[1], c.texcoord[1]),
+            ],
+        }
+    }
+
+    /// The rows that have covered pixels are among these, from the first up to the second number.
+    pub fn rows(&self, height: u16) -> (u16, u16)
+        ensures covered { (x y : ℕ) → y < height → covers (triangle_seen self.now.a self.now.b self.now.c) x y ≡ true → (result.0 ≤ y) × (y < result.1) }
+        ensures first { result.0 ≤ height }
+        ensures within { result.1 ≤ height }
+    {
+        let first = row_from(least(self.a.y, self.b.y, self.c.y));
+        let after = row_after(greatest(self.a.y, self.b.y, self.c.y));
+        (within(first, height), within(after, height))
+    }
+
+    /// The covered columns of a row, from the first up to the second number.
+    pub fn span(&self, row: u16, width: u16) -> (u16, u16)
+        ensures columns { (x : ℕ) → x < width → covers (triangle_seen self.now.a self.now.b self.now.c) x row ≡ (nat_le result.0 x && nat_lt x result.1) }
+        ensures order { result.0 ≤ result.1 }
+        ensures within { result.1 ≤ width }
+    {
+        let (first, after) = cut(0, width as i64, &self.ab, row);
+        let (first, after) = cut(first, after, &self.bc, row);
+        let (first, after) = cut(first, after, &self.ca, row);
+        ends(first, after, width)
+    }
+}

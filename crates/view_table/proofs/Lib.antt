@@ -1,0 +1,6 @@
+pub mod Lists
+pub mod Named
+pub mod Others
+pub mod Permuted
+pub mod Filled
+pub mod Kept
