@@ -6,3 +6,4 @@ pub mod Lines
 pub mod TableDigits
 pub mod WordTables
 pub mod LineParts
+pub mod Fronts

@@ -7,6 +7,7 @@ mod encoder_lines;
 mod fault;
 mod fields;
 mod frames;
+mod front;
 mod journal;
 mod lists;
 mod names;
@@ -24,6 +25,7 @@ mod view_lines;
 mod words;
 
 pub use fault::SceneFault;
+pub use front::read_front;
 pub use journal::{Journal, JournalEntry};
 pub use scene::{
     EncBlock, EncLine, LayoutPart, ResLine, Room, Scene, SceneFrame, SceneName, TexSource,

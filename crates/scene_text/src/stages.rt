@@ -106,3 +106,13 @@ pub fn can_stand(stage: Stage, word: Word) -> bool
         Stage::AtEnd => false,
     }
 }
+
+/// Whether the `done` line was read.
+pub fn is_at_end(stage: Stage) -> bool
+    ensures { result ≡ model.is_at_end (stage_seen stage) }
+{
+    match stage {
+        Stage::AtEnd => true,
+        _ => false,
+    }
+}

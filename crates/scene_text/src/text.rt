@@ -16,7 +16,7 @@ use crate::stages::Stage;
 use std::alloc::{AllocError, Global};
 
 /// The fault of a line.
-fn at(line: u32, fault: LineFault) -> SceneFault
+pub fn at(line: u32, fault: LineFault) -> SceneFault
     ensures { result ≡ at fault line }
 {
     match fault {
@@ -29,7 +29,7 @@ fn at(line: u32, fault: LineFault) -> SceneFault
 }
 
 /// The scene that was read.
-fn scene(alloc: Global, reading: Reading) -> Result<Scene, AllocError>
+pub fn scene(alloc: Global, reading: Reading) -> Result<Scene, AllocError>
     ensures { IfOk result (λ s. scene_seen s ≡ model.scene_read (reading_seen reading)) }
 {
     let names = reading.names.into_names(alloc)?;
@@ -44,7 +44,7 @@ fn scene(alloc: Global, reading: Reading) -> Result<Scene, AllocError>
 }
 
 /// What the last piece makes, which no newline ends.
-fn at_last_piece(
+pub fn at_last_piece(
     alloc: Global,
     line: u32,
     reading: Reading,
