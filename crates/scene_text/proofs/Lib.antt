@@ -7,3 +7,4 @@ pub mod TableDigits
 pub mod WordTables
 pub mod LineParts
 pub mod Fronts
+pub mod LineTails

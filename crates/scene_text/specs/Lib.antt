@@ -8,3 +8,4 @@ pub mod Digits
 pub mod Fields
 pub mod Names
 pub mod SeenNames
+pub mod Spelled

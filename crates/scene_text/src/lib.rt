@@ -17,12 +17,16 @@ mod reading;
 mod resource_lines;
 mod scene;
 mod sequence;
+mod spelled;
+mod spelled_words;
 mod splitting;
 mod stages;
 mod text;
 mod updates;
 mod view_lines;
 mod words;
+mod write_encoder_lines;
+mod write_resource_lines;
 
 pub use fault::SceneFault;
 pub use front::read_front;
