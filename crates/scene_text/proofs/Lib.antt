@@ -8,3 +8,4 @@ pub mod WordTables
 pub mod LineParts
 pub mod Fronts
 pub mod LineTails
+pub mod WrittenScenes

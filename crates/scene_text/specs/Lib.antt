@@ -9,3 +9,4 @@ pub mod Fields
 pub mod Names
 pub mod SeenNames
 pub mod Spelled
+pub mod WrittenParts

@@ -16,6 +16,7 @@ mod parts;
 mod reading;
 mod resource_lines;
 mod scene;
+mod scene_writing;
 mod sequence;
 mod spelled;
 mod spelled_words;
@@ -34,6 +35,7 @@ pub use journal::{Journal, JournalEntry};
 pub use scene::{
     EncBlock, EncLine, LayoutPart, ResLine, Room, Scene, SceneFrame, SceneName, TexSource,
 };
+pub use scene_writing::write;
 pub use sequence::Sequence;
 pub use text::read;
 pub use view_table::Clear;
