@@ -1,5 +1,5 @@
 -- The text of a scene's parts is the text of its lines.
-use Rattle.std.proofs.Common.{◌≡◌, ℕ, suc, Bool, true, false, not, eqb, ◌==◌, List, [], ◌∷◌, ◌++◌, length, map, flat_map, codes, refl, ap, sym, ◌∙◌, arith}
+use Rattle.std.proofs.Common.{◌≡◌, ℕ, Bool, true, false, not, ◌==◌, List, [], ◌∷◌, ◌++◌, length, map, flat_map, codes, refl, ap, sym, ◌∙◌, arith}
 use Rattle.std.proofs.lemmas.Bool.{ne_eqb}
 use Rattle.std.proofs.lemmas.List.{append_assoc, append-nil}
 use Rattle.std.proofs.lemmas.List.Folds.{flat_map-map}
@@ -46,9 +46,9 @@ frame names f = ap (λ t. line_text (codes "frame" ∷ []) ++ t)
     (flat_map-append line_text (map (resource_fields names) (map resource_line_seen f.before)) (flat_map (block_lines names) (map block_seen f.blocks) ++ beside_lines names (has_beside (frame_seen f)) (map resource_line_seen f.beside))
     ∙ ap (λ t. t ++ flat_map line_text (flat_map (block_lines names) (map block_seen f.blocks) ++ beside_lines names (has_beside (frame_seen f)) (map resource_line_seen f.beside))) (resources names f.before)
     ∙ ap (λ t. flat_map (resource_text names) f.before ++ t)
-        (flat_map-append line_text (flat_map (block_lines names) (map block_seen f.blocks)) (beside_lines names (has_beside (frame_seen f)) (map resource_line_seen f.beside))
-        ∙ ap (λ t. t ++ flat_map line_text (beside_lines names (has_beside (frame_seen f)) (map resource_line_seen f.beside))) (blocks names f.blocks)
-        ∙ ap (λ t. flat_map (block_text names) f.blocks ++ t) (beside names f.beside)))
+    (flat_map-append line_text (flat_map (block_lines names) (map block_seen f.blocks)) (beside_lines names (has_beside (frame_seen f)) (map resource_line_seen f.beside))
+    ∙ ap (λ t. t ++ flat_map line_text (beside_lines names (has_beside (frame_seen f)) (map resource_line_seen f.beside))) (blocks names f.blocks)
+    ∙ ap (λ t. flat_map (block_text names) f.blocks ++ t) (beside names f.beside)))
 
 frames : (names : List Field) (fs : List SceneFrame) → flat_map line_text (frames_lines names (map has_beside (map frame_seen fs)) (map frame_seen fs)) ≡ flat_map (frame_text names) fs
 frames names [] = refl

@@ -1,5 +1,5 @@
 -- The text of each part of a scene.
-use Rattle.std.specs.Prelude.{ℕ, List, [], ◌∷◌, ◌++◌, map, flat_map, codes}
+use Rattle.std.specs.Prelude.{ℕ, List, [], ◌∷◌, ◌++◌, flat_map, codes}
 use Rattle.std.specs.Fmt.{decimal}
 use Rattle.scene_model.specs.Grammar.{Field}
 use Rattle.spelling_model.specs.LineSpelling.{resource_fields, encoder_fields}

@@ -1,5 +1,5 @@
 // Which texts are refused where, and that all others are read with ample memory.
-use crate::{EncLine, ResLine, Scene, SceneFault, read};
+use crate::{EncLine, ResLine, Scene, SceneFault, read, read_front, write};
 use std::alloc::{AllocError, Global};
 use std::process::Abort;
 use std::test::Fail;
@@ -211,5 +211,52 @@ fn the_first_scene_is_read(rt: HostRuntime) -> Result<(), Fail> {
         return Err(SceneFault::OutOfMemory)?;
     };
     assert_eq!(rt; (block.encoder, *view), (0, 0));
+    Ok(())
+}
+
+static WRITTEN: &[u8] =
+    b"scene 1\nsize 2 2\nencoders 1\nroom 8191 262144 4096\nframe\nview 0 clear 1 ff0000ff 0 0\nencoder 0\ntouch 0\ndone\n";
+
+#[test]
+fn the_first_scene_is_written(rt: HostRuntime) -> Result<(), Fail> {
+    let alloc = rt.alloc();
+    let text = changed(alloc, 7, b"touch 0\n# more\nbeside")?;
+    let scene = read_small(alloc, &text)?;
+    let written = write(alloc, &scene)?;
+    assert_eq!(rt; written.as_slice(), WRITTEN);
+    Ok(())
+}
+
+#[test]
+fn every_form_is_written_as_it_is_read(rt: HostRuntime) -> Result<(), Fail> {
+    let alloc = rt.alloc();
+    let text = changed(alloc, 6, CREATES)?;
+    let scene = read_small(alloc, &text)?;
+    let first = write(alloc, &scene)?;
+    let again = read_small(alloc, &first)?;
+    let second = write(alloc, &again)?;
+    assert_eq!(rt; first.len(), text.len() + 22);
+    assert_eq!(rt; first.as_slice(), second.as_slice());
+    Ok(())
+}
+
+fn front(alloc: Global, text: &[u8]) -> Option<(usize, u32, u8)> {
+    if text.len() > 100_000 {
+        return None;
+    }
+    match read_front(alloc, text) {
+        Ok((_, place)) => Some((place, 0, 0)),
+        Err(SceneFault::At { line, cause }) => Some((0, line, cause)),
+        Err(SceneFault::OutOfMemory) => None,
+    }
+}
+
+#[test]
+fn a_front_ends_behind_its_done_line(rt: HostRuntime) -> Result<(), Fail> {
+    let alloc = rt.alloc();
+    let whole = changed(alloc, 8, b"done\nj 0:0")?;
+    assert_eq!(rt; front(alloc, &whole), Some((85, 0, 0)));
+    let cut = changed(alloc, 8, b"# done")?;
+    assert_eq!(rt; front(alloc, &cut), Some((0, 9, 2)));
     Ok(())
 }
