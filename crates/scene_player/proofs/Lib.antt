@@ -1,0 +1,10 @@
+pub mod ViewLines
+pub mod ClearLaws
+pub mod TouchLaws
+pub mod SerialLaws
+pub mod FrameLaws
+pub mod Pieces
+pub mod Replicas
+pub mod Steps
+pub mod LinesPlayed
+pub mod LinesRecorded

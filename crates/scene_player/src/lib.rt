@@ -1,0 +1,11 @@
+//! Plays a scene: from the bytes of its text to the bytes of its pictures and notes.
+#![tactic(auto)]
+
+mod input;
+mod item;
+mod output;
+mod recording;
+mod status;
+mod views;
+
+pub use status::Status;
