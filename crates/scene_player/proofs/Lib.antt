@@ -8,3 +8,6 @@ pub mod Replicas
 pub mod Steps
 pub mod LinesPlayed
 pub mod LinesRecorded
+pub mod BundlesRecorded
+pub mod FramesComposed
+pub mod ViewsEntered

@@ -5,3 +5,4 @@ pub mod Entered
 pub mod Io
 pub mod Numbers
 pub mod Recorded
+pub mod Frame

@@ -18,9 +18,16 @@ pub(crate) struct Recording {
 }
 
 impl Recording {
+    /// How many items were recorded.
+    pub(crate) fn count(&self) -> usize
+        ensures { result ≡ length self.now.items.items }
+    {
+        self.items.len()
+    }
+
     /// Whether one item more can be recorded in a view: the view is below 256, and the room is not used up.
-    fn has_room(&self, room: &Room, view: u16) -> bool
-        ensures { result ≡ can_touch 256 room.now.items view (length self.now.items.items) }
+    fn has_room(&self, room: Room, view: u16) -> bool
+        ensures { result ≡ can_touch 256 room.items view (length self.now.items.items) }
     {
         if view >= VIEWS {
             return false;
@@ -29,10 +36,10 @@ impl Recording {
     }
 
     /// One line, accepted or dropped.
-    fn play_line(&mut self, room: &Room, line: &EncLine) -> Result<(), AllocError>
+    fn play_line(&mut self, room: Room, line: &EncLine) -> Result<(), AllocError>
         requires { self.old.dropped < 18446744073709551615 }
-        ensures items { OnOk result (self.new.items.items ≡ items_after room.now.items self.old.items.items line.now) }
-        ensures dropped { OnOk result (self.new.dropped ≡ drops_after room.now.items self.old.items.items self.old.dropped line.now) }
+        ensures items { OnOk result (self.new.items.items ≡ items_after room.items self.old.items.items line.now) }
+        ensures dropped { OnOk result (self.new.dropped ≡ drops_after room.items self.old.items.items self.old.dropped line.now) }
         ensures one { self.new.dropped ≤ self.old.dropped + 1 }
     {
         match line {
@@ -51,12 +58,12 @@ impl Recording {
 /// Plays the lines of a block on an encoder with this room.
 pub(crate) fn record(
     alloc: Global,
-    room: &Room,
+    room: Room,
     lines: &[EncLine],
 ) -> Result<Recording, AllocError>
-    ensures few { IfOk result (λ r. length r.items.items ≤ room.now.items) }
+    ensures few { IfOk result (λ r. length r.items.items ≤ 4294967295) }
     ensures recorded { IfOk result (λ r. (p : Progress) (frame : ℕ)
-        → fold (after_encoder_line p) (recorder_seen frame (room_seen room.now) [] 0) (map encoder_line_seen lines.now) ≡ recorder_seen frame (room_seen room.now) r.items.items r.dropped) }
+        → fold (after_encoder_line p) (recorder_seen frame (room_seen room) [] 0) (map encoder_line_seen lines.now) ≡ recorder_seen frame (room_seen room) r.items.items r.dropped) }
 {
     let mut recording = Recording {
         items: Vec::new(alloc),
