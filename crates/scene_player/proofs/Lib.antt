@@ -11,3 +11,4 @@ pub mod LinesRecorded
 pub mod BundlesRecorded
 pub mod FramesComposed
 pub mod ViewsEntered
+pub mod ItemsOfFrame

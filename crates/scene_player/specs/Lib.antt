@@ -6,3 +6,4 @@ pub mod Io
 pub mod Numbers
 pub mod Recorded
 pub mod Frame
+pub mod Rendered

@@ -1,13 +1,14 @@
 // A frame, as it is handed to the renderer.
-ghost use Rattle.std.specs.Prelude.{◌≡◌, ◌≤◌, ◌+◌, ℕ, List, [], ◌++◌, map, length, IfOk, OnOk};
-ghost use Rattle.std.specs.List.{range_with_len};
+ghost use Rattle.std.specs.Prelude.{◌≡◌, ◌≤◌, ◌+◌, ℕ, List, [], ◌++◌, map, length, option_map, filter_map, IfOk, OnOk};
+ghost use Rattle.std.specs.List.{range_with_len, cons_option};
 ghost use Rattle.scene_model.specs.Fold.{Progress, accepted_of, recording_of, after_lines, at_start, plan_of};
-ghost use Rattle.scene_model.specs.Journal.{serial_from, entries_of};
+ghost use Rattle.scene_model.specs.Journal.{serial_from, entries_of, item_of};
 ghost use Rattle.scene_text.specs.Seen.{clear_seen, entry_seen, frame_seen, scene_seen, resource_line_seen};
 ghost use Rattle.scene_player.specs.Views.{IsPlain};
-ghost use Rattle.scene_player.specs.Recorded.{recording_seen};
+ghost use Rattle.scene_player.specs.Recorded.{item_seen, recording_seen};
 ghost use Rattle.scene_player.specs.Frame.{HasFewItems, IsComposed};
 
+use crate::item::Item;
 use crate::recording::{Recording, lines_of, record};
 use crate::views::Views;
 use scene_text::{Clear, JournalEntry, Scene, SceneFrame};
@@ -96,4 +97,40 @@ pub(crate) fn compose(
         journal,
         dropped: before + beside,
     })
+}
+
+/// The item of an entry, and none where there is no such encoder or item.
+fn item_at(bundles: &[Recording], entry: JournalEntry) -> Option<Item>
+    ensures { option_map item_seen result ≡ item_of (map recording_seen bundles.now) (entry_seen entry) }
+{
+    match bundles.get(usize::from(entry.encoder)) {
+        Some(bundle) => bundle.items.get(entry.ordinal as usize).copied(),
+        None => None,
+    }
+}
+
+/// One item more, if there is one.
+fn push_some(items: &mut Vec<Item>, item: Option<Item>) -> Result<(), AllocError>
+    ensures { OnOk result (map item_seen items.new.items ≡ map item_seen items.old.items ++ cons_option (option_map item_seen item) []) }
+{
+    match item {
+        Some(item) => {
+            items.push(item)?;
+            Ok(())
+        }
+        None => Ok(()),
+    }
+}
+
+impl Frame {
+    /// The items in the journal's order.
+    pub(crate) fn items(&self, alloc: Global) -> Result<Vec<Item>, AllocError>
+        ensures { IfOk result (λ items. map item_seen items.items ≡ filter_map (item_of (map recording_seen self.now.bundles.items)) (map entry_seen self.now.journal.items)) }
+    {
+        let mut items = Vec::new(alloc);
+        for entry in &self.journal {
+            push_some(&mut items, item_at(&self.bundles, *entry))?;
+        }
+        Ok(items)
+    }
 }

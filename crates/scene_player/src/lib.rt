@@ -6,7 +6,9 @@ mod frame;
 mod input;
 mod item;
 mod output;
+mod picture;
 mod recording;
+mod renderer;
 mod status;
 mod views;
 
