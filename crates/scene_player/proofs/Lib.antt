@@ -12,3 +12,4 @@ pub mod BundlesRecorded
 pub mod FramesComposed
 pub mod ViewsEntered
 pub mod ItemsOfFrame
+pub mod Rendering
