@@ -13,3 +13,4 @@ pub mod FramesComposed
 pub mod ViewsEntered
 pub mod ItemsOfFrame
 pub mod Rendering
+pub mod Counts

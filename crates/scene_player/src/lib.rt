@@ -5,6 +5,7 @@ mod canvas;
 mod frame;
 mod input;
 mod item;
+mod notes;
 mod output;
 mod picture;
 mod recording;
