@@ -14,3 +14,5 @@ pub mod ViewsEntered
 pub mod ItemsOfFrame
 pub mod Rendering
 pub mod Counts
+pub mod Frames
+pub mod Standing

@@ -7,3 +7,4 @@ pub mod Numbers
 pub mod Recorded
 pub mod Frame
 pub mod Rendered
+pub mod Ended
