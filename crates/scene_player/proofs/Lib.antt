@@ -16,3 +16,4 @@ pub mod Rendering
 pub mod Counts
 pub mod Frames
 pub mod Standing
+pub mod OneWord

@@ -1,7 +1,7 @@
 -- Where a play stands between two frames.
 use Rattle.std.proofs.Common.{◌≡◌, ℕ, zero, suc, ◌+◌, ◌*◌, ◌<◌, ◌≤◌, List, [], ◌∷◌, ◌++◌, length, map, take, drop, get_or, replicate, Option, refl, sym, ap, subst, ◌∙◌, arith, append-nil, append_assoc}
 use Rattle.std.specs.Prelude.{flat_map}
-use Rattle.std.proofs.lemmas.List.{take_all, take-append-le, drop_all, length-append, length-map, length-replicate}
+use Rattle.std.proofs.lemmas.List.{take_all, take-append-le, drop_all, drop_more, map-append, length-append, length-map, length-replicate}
 use Rattle.gfx_model.specs.Vertex.{Color}
 use Rattle.gfx_model.specs.Raster.{no_color, Texels}
 use Rattle.gfx_model.specs.World.{World, frame_step, first_world}
@@ -205,3 +205,11 @@ cut s number f frame clears colors journal old mid new notes stands rest compose
     let more = with-entries s number f frame clears colors journal old mid notes stands rest composed serial in
     let text : pictures_text (scene_seen s) (journal ++ map entry_seen frame.journal.items ∷ []) ≡ flat_map picture_text done ++ picture_text shown = ap (flat_map picture_text) more.1 ∙ texts-more done shown in
     (more.0, subst (λ (t : List ℕ). HasFront old t new) (sym text) (cut-short old mid new (flat_map picture_text done) (picture_text shown) stands.held put))
+
+-- the frames from a number on
+pub drop-at : (fs : List SceneFrame) (number : ℕ) (f : SceneFrame) → number < length fs → f ≡ get_or fs number f → drop number fs ≡ f ∷ drop (number + 1) fs
+drop-at fs number f lt is = drop_more fs number f lt ∙ ap (λ (g : SceneFrame). g ∷ drop (number + 1) fs) (sym is)
+
+-- the journal with a frame's entries
+pub lists-more : (lists lists' : List (List JournalEntry)) (entries : List JournalEntry) → lists' ≡ lists ++ entries ∷ [] → lists_seen lists' ≡ lists_seen lists ++ map entry_seen entries ∷ []
+lists-more lists lists' entries e = ap lists_seen e ∙ map-append (map entry_seen) lists (entries ∷ [])
