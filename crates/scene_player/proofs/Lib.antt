@@ -17,3 +17,4 @@ pub mod Counts
 pub mod Frames
 pub mod Standing
 pub mod OneWord
+pub mod Complete

@@ -11,7 +11,6 @@ mod picture;
 mod playing;
 mod recording;
 mod renderer;
-
 mod status;
 mod top;
 mod views;

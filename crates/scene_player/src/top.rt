@@ -1,11 +1,12 @@
 // The top call.
-ghost use Rattle.std.specs.Prelude.{◌≡◌, ◌≤◌, ◌<◌, ◌⊎◌, [], ℕ, List, Some, Ok, Err, map, length, string_bytes};
+ghost use Rattle.std.specs.Prelude.{◌≡◌, ◌≤◌, ◌<◌, ◌↔◌, [], false, ℕ, List, Some, Ok, Err, map, length, string_bytes};
 ghost use Rattle.io_edge.specs.Edge.{Rose};
 ghost use Rattle.scene_model.specs.Scene as model;
 ghost use Rattle.scene_model.specs.Grammar.{Fault, scene_of};
+ghost use Rattle.scene_model.specs.Journal as journals;
 ghost use Rattle.scene_text.specs.Seen.{scene_seen, journal_seen};
 ghost use Rattle.scene_text.specs.Spoken.{spoken};
-ghost use Rattle.scene_player.specs.Ended.{SceneEnded, BytesEnded, SourceEnded, Ended, HasLine, IsPlay, IsDoneOrOutOfMemory};
+ghost use Rattle.scene_player.specs.Ended.{SceneEnded, BytesEnded, SourceEnded, Ended, HasLine, IsPlay, IsUsage, IsDone, IsDoneOrOutOfMemory, IsRefusedOrOutOfMemory, IsTooLongOrOutOfMemory};
 
 use crate::input::{InputError, read_all};
 use crate::notes::{TOO_LONG, USAGE, scene_refused};
@@ -115,26 +116,16 @@ fn play_source<S: Source, P: Sink, N: Sink>(
     }
 }
 
-/// Plays the scene that the source gives: a picture for each frame goes to `pictures`, the report or the line of a
-/// refusal to `notes`. The source is read to its end, at most 16,777,216 bytes.
-///
-/// The order is: the words, which are to be the one word `play`; reading; the scene; the pictures frame by frame; the
-/// notes. A line whose call is refused is dropped and counted.
-///
-/// The status says how it ended. `Usage`, `Scene` and `TooLong` come exactly by the words and the bytes; `ReadFault`,
-/// `PictureFault` and `NoteFault` only where that object's count of faults rose in this call; `OutOfMemory` is free.
-pub fn play<R: Threads + Wait + Sync, S: Source, P: Sink + Send, N: Sink, G: Gate + Sync>(
-    _rt: &R,
+/// Plays what a source gives, where the words are taken.
+fn run<S: Source, P: Sink, N: Sink>(
     alloc: Global,
     words: &[String],
     source: &mut S,
     pictures: P,
     notes: &mut N,
-    _gate: &G,
 ) -> Played<P>
     ensures ended { Ended result.status (map string_bytes words.now) (S.left source.old) (S.left source.new) (P.held pictures) (P.held result.pictures) (journal_seen result.journal) (N.held notes.old) (N.held notes.new)
         (Rose (S.faults source.old) (S.faults source.new)) (Rose (P.faults pictures) (P.faults result.pictures)) (Rose (N.faults notes.old) (N.faults notes.new)) }
-    // The sinks keep their sure lengths.
     ensures sure { (P.sure result.pictures ≡ P.sure pictures) × (N.sure notes.new ≡ N.sure notes.old) }
 {
     let mut pictures = pictures;
@@ -152,4 +143,45 @@ pub fn play<R: Threads + Wait + Sync, S: Source, P: Sink + Send, N: Sink, G: Gat
         journal,
         pictures,
     }
+}
+
+/// Plays the scene that the source gives: a picture for each frame goes to `pictures`, the report or the line of a
+/// refusal to `notes`. The source is read to its end, at most 16,777,216 bytes.
+///
+/// The order is: the words, which are to be the one word `play`; reading; the scene; the pictures frame by frame; the
+/// notes. A line whose call is refused is dropped and counted.
+///
+/// The status says how it ended. `Usage`, `Scene` and `TooLong` come exactly by the words and the bytes; `ReadFault`,
+/// `PictureFault` and `NoteFault` only where that object's count of faults rose in this call; `OutOfMemory` is free.
+pub fn play<R: Threads + Wait + Sync, S: Source, P: Sink + Send, N: Sink, G: Gate + Sync>(
+    _rt: &R,
+    alloc: Global,
+    words: &[String],
+    source: &mut S,
+    pictures: P,
+    notes: &mut N,
+    _gate: &G,
+) -> Played<P>
+    // What the pictures, the journal and the notes are after each status, and its cause.
+    ensures ended { Ended result.status (map string_bytes words.now) (S.left source.old) (S.left source.new) (P.held pictures) (P.held result.pictures) (journal_seen result.journal) (N.held notes.old) (N.held notes.new)
+        (Rose (S.faults source.old) (S.faults source.new)) (Rose (P.faults pictures) (P.faults result.pictures)) (Rose (N.faults notes.old) (N.faults notes.new)) }
+    // The sinks keep their sure lengths.
+    ensures sure { (P.sure result.pictures ≡ P.sure pictures) × (N.sure notes.new ≡ N.sure notes.old) }
+    // Where no key is shared between encoders, the pictures are those of one thread.
+    ensures one_thread { (bytes : List ℕ) (s : model.Scene) → S.left source.old ≡ Some bytes → scene_of spoken bytes ≡ Ok s → IsDone result.status
+        → journals.shares_key s ≡ false → journals.pictures s (journal_seen result.journal) ≡ journals.pictures s (journals.serial s) }
+    // Exactly other words than `play` are refused.
+    ensures usage { IsUsage result.status ↔ ¬ IsPlay (map string_bytes words.now) }
+    // Bytes that are no scene are refused for the first fault.
+    ensures refused { (bytes : List ℕ) (fault : Fault) → IsPlay (map string_bytes words.now) → S.left source.old ≡ Some bytes → length bytes ≤ 16777216 → scene_of spoken bytes ≡ Err fault
+        → ¬ Rose (S.faults source.old) (S.faults source.new) → IsRefusedOrOutOfMemory result.status fault }
+    // More bytes than a scene may have are refused.
+    ensures too_long { (bytes : List ℕ) → IsPlay (map string_bytes words.now) → S.left source.old ≡ Some bytes → 16777216 < length bytes
+        → ¬ Rose (S.faults source.old) (S.faults source.new) → IsTooLongOrOutOfMemory result.status }
+    // Each scene is played, unless a source or a sink fails or memory runs out.
+    ensures complete { (bytes : List ℕ) (s : model.Scene) → IsPlay (map string_bytes words.now) → S.left source.old ≡ Some bytes → length bytes ≤ 16777216 → scene_of spoken bytes ≡ Ok s
+        → ¬ Rose (S.faults source.old) (S.faults source.new) → ¬ Rose (P.faults pictures) (P.faults result.pictures) → ¬ Rose (N.faults notes.old) (N.faults notes.new)
+        → IsDoneOrOutOfMemory result.status }
+{
+    run(alloc, words, source, pictures, notes)
 }
