@@ -37,8 +37,8 @@ composed s f number p count before beside frame old mid new plain first second b
     record {
       plain = last;
       plan =
-        ap (λ (cs : List Change). plan cs (after_all s f number p).resources.views (map (λ e. accepted_of (recording_of (scene_seen s) number (after_before s f number p) (frame_seen f) e)) (range_with_len 0 s.encoders)) (after_all s f number p).dropped) last.changes
-        ∙ ap (λ (vs : Views). plan [] vs (map (λ e. accepted_of (recording_of (scene_seen s) number (after_before s f number p) (frame_seen f) e)) (range_with_len 0 s.encoders)) (after_all s f number p).dropped) last.views
-        ∙ ap (λ (es : List Accepted). plan [] (views_of_clears (map clear_seen frame.clears.items)) es (after_all s f number p).dropped) bundles
-        ∙ ap (λ n. plan [] (views_of_clears (map clear_seen frame.clears.items)) (map recording_seen frame.bundles.items) n) last.dropped;
+          ap (λ (cs : List Change). plan cs (after_all s f number p).resources.views (map (λ e. accepted_of (recording_of (scene_seen s) number (after_before s f number p) (frame_seen f) e)) (range_with_len 0 s.encoders)) (after_all s f number p).dropped) last.changes
+          ∙ ap (λ (vs : Views). plan [] vs (map (λ e. accepted_of (recording_of (scene_seen s) number (after_before s f number p) (frame_seen f) e)) (range_with_len 0 s.encoders)) (after_all s f number p).dropped) last.views
+          ∙ ap (λ (es : List Accepted). plan [] (views_of_clears (map clear_seen frame.clears.items)) es (after_all s f number p).dropped) bundles
+          ∙ ap (λ n. plan [] (views_of_clears (map clear_seen frame.clears.items)) (map recording_seen frame.bundles.items) n) last.dropped;
     }

@@ -16,3 +16,5 @@ pub mod Rendering
 pub mod Counts
 pub mod Frames
 pub mod Standing
+pub mod OneWord
+pub mod Complete

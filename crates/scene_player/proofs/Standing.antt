@@ -1,7 +1,7 @@
 -- Where a play stands between two frames.
 use Rattle.std.proofs.Common.{◌≡◌, ℕ, zero, suc, ◌+◌, ◌*◌, ◌<◌, ◌≤◌, List, [], ◌∷◌, ◌++◌, length, map, take, drop, get_or, replicate, Option, refl, sym, ap, subst, ◌∙◌, arith, append-nil, append_assoc}
 use Rattle.std.specs.Prelude.{flat_map}
-use Rattle.std.proofs.lemmas.List.{take_all, take-append-le, drop_all, length-append, length-map, length-replicate}
+use Rattle.std.proofs.lemmas.List.{take_all, take-append-le, drop_all, drop_more, map-append, length-append, length-map, length-replicate}
 use Rattle.gfx_model.specs.Vertex.{Color}
 use Rattle.gfx_model.specs.Raster.{no_color, Texels}
 use Rattle.gfx_model.specs.World.{World, frame_step, first_world}
@@ -112,13 +112,13 @@ next s number f frame clears colors colors' journal old mid new notes notes' sta
       many = omega (arith, length-append journal (entries ∷ []), length-append stands.done (p ∷ []), stands.many);
       few = omega (arith, length-append stands.done (p ∷ []), stands.few);
       held =
-        put-whole old mid new before (picture_text (frame_step stands.world (content_seen frame)).back.color) stands.held put
-        ∙ ap (with_back old) (ap (λ (w : World). before ++ picture_text w.back.color) reached
-        ∙ sym (ap (flat_map picture_text) (pictures-more first stands.done journal p entries stands.many) ∙ texts-more (pictures_from first stands.done journal) (frame_step (world_after first stands.done journal) (frame_content p entries)).back.color));
+          put-whole old mid new before (picture_text (frame_step stands.world (content_seen frame)).back.color) stands.held put
+          ∙ ap (with_back old) (ap (λ (w : World). before ++ picture_text w.back.color) reached
+          ∙ sym (ap (flat_map picture_text) (pictures-more first stands.done journal p entries stands.many) ∙ texts-more (pictures_from first stands.done journal) (frame_step (world_after first stands.done journal) (frame_content p entries)).back.color));
       report =
-        note ∙ ap (λ (text : List ℕ). text ++ frame_note number p) stands.report
-        ∙ ap (λ n. report_from 0 stands.done ++ frame_note n p) (sym at)
-        ∙ sym (report-more 0 stands.done p);
+          note ∙ ap (λ (text : List ℕ). text ++ frame_note number p) stands.report
+          ∙ ap (λ n. report_from 0 stands.done ++ frame_note n p) (sym at)
+          ∙ sym (report-more 0 stands.done p);
     }
 
 -- where a play stops between two frames
@@ -130,9 +130,10 @@ stopped s number clears colors journal old new notes stands =
     let front : pictures (scene_seen s) journal ≡ pictures_from first stands.done journal =
     ap (λ (ps : List FramePlan). pictures_from first ps journal) stands.plans ∙ pictures-front first stands.done later journal stands.many in
     let whole : take (length journal) (pictures (scene_seen s) journal) ≡ pictures_from first stands.done journal =
-    take_all (length journal) (pictures (scene_seen s) journal) (length-pictures first (plans (scene_seen s)) journal) ∙ front in
-    (subst (λ (ps : List FramePlan). AreLawful ps journal) (sym stands.plans) (lawful-front stands.done later journal stands.many stands.lawful),
-    (length journal, omega arith, stands.held ∙ ap (λ (ts : List Texels). with_back old (flat_map picture_text ts)) (sym whole)))
+    take_all (length journal) (pictures (scene_seen s) journal) (length-pictures first (plans (scene_seen s)) journal) ∙ front in (
+      subst (λ (ps : List FramePlan). AreLawful ps journal) (sym stands.plans) (lawful-front stands.done later journal stands.many stands.lawful),
+      (length journal, omega arith, stands.held ∙ ap (λ (ts : List Texels). with_back old (flat_map picture_text ts)) (sym whole)),
+    )
 
 -- where all frames are done
 pub finished : (s : Scene) (number : ℕ) (clears : List Clear) (colors : List Color) (journal : Journal) (old new : Option (List ℕ)) (notes : List ℕ) → StandsAt s number clears colors journal old new notes
@@ -141,10 +142,11 @@ finished s number clears colors journal old new notes stands last =
     let none : drop number s.frames ≡ [] = drop_all number s.frames (omega arith) in
     let all : plans (scene_seen s) ≡ stands.done =
     stands.plans ∙ ap (λ (fs : List SceneFrame). stands.done ++ plans_from (scene_seen s) number [] stands.progress (map frame_seen fs)) none ∙ append-nil stands.done in
-    let many : length journal ≡ length (map frame_seen s.frames) = omega (arith, stands.many, stands.few, length-map s.frames frame_seen) in
-    ((subst (λ (ps : List FramePlan). AreLawful ps journal) (sym all) stands.lawful, many),
-    stands.held ∙ ap (λ (ps : List FramePlan). with_back old (flat_map picture_text (pictures_from (first_world s.width s.height) ps journal))) (sym all),
-    stands.report ∙ ap (report_from 0) (sym all))
+    let many : length journal ≡ length (map frame_seen s.frames) = omega (arith, stands.many, stands.few, length-map s.frames frame_seen) in (
+      (subst (λ (ps : List FramePlan). AreLawful ps journal) (sym all) stands.lawful, many),
+      stands.held ∙ ap (λ (ps : List FramePlan). with_back old (flat_map picture_text (pictures_from (first_world s.width s.height) ps journal))) (sym all),
+      stands.report ∙ ap (report_from 0) (sym all),
+    )
 
 -- with a frame's entries in the journal: it is lawful, and has one picture more
 with-entries : (s : Scene) (number : ℕ) (f : SceneFrame) (frame : Frame) (clears : List Clear) (colors : List Color) (journal : Journal) (old mid : Option (List ℕ)) (notes : List ℕ)
@@ -164,12 +166,13 @@ with-entries s number f frame clears colors journal old mid notes stands rest co
     let all : plans (scene_seen s) ≡ (stands.done ++ p ∷ []) ++ more =
     stands.plans ∙ ap (λ (ps : List FramePlan). stands.done ++ ps) onward ∙ sym (append_assoc stands.done (p ∷ []) more) in
     let many : length (journal ++ entries ∷ []) ≡ length (stands.done ++ p ∷ []) = omega (arith, length-append journal (entries ∷ []), length-append stands.done (p ∷ []), stands.many) in
-    let lawful = lawful-more stands.done journal p entries stands.many stands.lawful (subst (IsLawfulFrame p) (sym serial) (serial-lawful p)) in
-    (subst (λ (ps : List FramePlan). AreLawful ps (journal ++ entries ∷ [])) (sym all) (lawful-front (stands.done ++ p ∷ []) more (journal ++ entries ∷ []) many lawful),
-    ap (λ (ps : List FramePlan). pictures_from first ps (journal ++ entries ∷ [])) all
-    ∙ pictures-front first (stands.done ++ p ∷ []) more (journal ++ entries ∷ []) many
-    ∙ pictures-more first stands.done journal p entries stands.many
-    ∙ ap (λ (w : World). pictures_from first stands.done journal ++ (frame_step w (frame_content p entries)).back.color ∷ []) (sym stands.reached))
+    let lawful = lawful-more stands.done journal p entries stands.many stands.lawful (subst (IsLawfulFrame p) (sym serial) (serial-lawful p)) in (
+      subst (λ (ps : List FramePlan). AreLawful ps (journal ++ entries ∷ [])) (sym all) (lawful-front (stands.done ++ p ∷ []) more (journal ++ entries ∷ []) many lawful),
+      ap (λ (ps : List FramePlan). pictures_from first ps (journal ++ entries ∷ [])) all
+          ∙ pictures-front first (stands.done ++ p ∷ []) more (journal ++ entries ∷ []) many
+          ∙ pictures-more first stands.done journal p entries stands.many
+          ∙ ap (λ (w : World). pictures_from first stands.done journal ++ (frame_step w (frame_content p entries)).back.color ∷ []) (sym stands.reached),
+    )
 
 -- where memory runs out in a frame whose entries stand in the journal already
 pub unshown : (s : Scene) (number : ℕ) (f : SceneFrame) (frame : Frame) (clears : List Clear) (colors : List Color) (journal : Journal) (old mid new : Option (List ℕ)) (notes : List ℕ)
@@ -186,9 +189,14 @@ unshown s number f frame clears colors journal old mid new notes stands rest com
     let more = with-entries s number f frame clears colors journal old mid notes stands rest composed serial in
     let shown = (frame_step stands.world (content_seen frame)).back.color in
     let whole : take (length done) (pictures (scene_seen s) (journal ++ entries ∷ [])) ≡ done =
-    ap (take (length done)) more.1 ∙ take-append-le (length done) done (shown ∷ []) (omega arith) ∙ take_all (length done) done (omega arith) in
-    (more.0, (length done, omega (arith, length-pictures first stands.done journal, length-append journal (entries ∷ [])),
-    same ∙ stands.held ∙ ap (λ (ts : List Texels). with_back old (flat_map picture_text ts)) (sym whole)))
+    ap (take (length done)) more.1 ∙ take-append-le (length done) done (shown ∷ []) (omega arith) ∙ take_all (length done) done (omega arith) in (
+      more.0,
+      (
+        length done,
+        omega (arith, length-pictures first stands.done journal, length-append journal (entries ∷ [])),
+        same ∙ stands.held ∙ ap (λ (ts : List Texels). with_back old (flat_map picture_text ts)) (sym whole),
+      ),
+    )
 
 -- where a picture is put in part
 pub cut : (s : Scene) (number : ℕ) (f : SceneFrame) (frame : Frame) (clears : List Clear) (colors : List Color) (journal : Journal) (old mid new : Option (List ℕ)) (notes : List ℕ)
@@ -205,3 +213,11 @@ cut s number f frame clears colors journal old mid new notes stands rest compose
     let more = with-entries s number f frame clears colors journal old mid notes stands rest composed serial in
     let text : pictures_text (scene_seen s) (journal ++ map entry_seen frame.journal.items ∷ []) ≡ flat_map picture_text done ++ picture_text shown = ap (flat_map picture_text) more.1 ∙ texts-more done shown in
     (more.0, subst (λ (t : List ℕ). HasFront old t new) (sym text) (cut-short old mid new (flat_map picture_text done) (picture_text shown) stands.held put))
+
+-- the frames from a number on
+pub drop-at : (fs : List SceneFrame) (number : ℕ) (f : SceneFrame) → number < length fs → f ≡ get_or fs number f → drop number fs ≡ f ∷ drop (number + 1) fs
+drop-at fs number f lt is = drop_more fs number f lt ∙ ap (λ (g : SceneFrame). g ∷ drop (number + 1) fs) (sym is)
+
+-- the journal with a frame's entries
+pub lists-more : (lists lists' : List (List JournalEntry)) (entries : List JournalEntry) → lists' ≡ lists ++ entries ∷ [] → lists_seen lists' ≡ lists_seen lists ++ map entry_seen entries ∷ []
+lists-more lists lists' entries e = ap lists_seen e ∙ map-append (map entry_seen) lists (entries ∷ [])

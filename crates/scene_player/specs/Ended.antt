@@ -98,8 +98,30 @@ Ended status.Usage words given left old new journal old_notes new_notes read_fau
 Ended st words given left old new journal old_notes new_notes read_faults picture_faults note_faults =
     IsPlay words × SourceEnded st given left old new journal old_notes new_notes read_faults picture_faults note_faults
 
+-- the words were refused
+abbrev pub IsUsage : Status → Type 0
+IsUsage status.Usage = Unit {0}
+IsUsage _ = ⊥
+
+-- all was written
+abbrev pub IsDone : Status → Type 0
+IsDone status.Done = Unit {0}
+IsDone _ = ⊥
+
 -- all was written, or memory ran out
 abbrev pub IsDoneOrOutOfMemory : Status → Type 0
 IsDoneOrOutOfMemory status.Done = Unit {0}
 IsDoneOrOutOfMemory status.OutOfMemory = Unit {0}
 IsDoneOrOutOfMemory _ = ⊥
+
+-- the scene was refused for this fault, or memory ran out
+abbrev pub IsRefusedOrOutOfMemory : Status → Fault → Type 0
+IsRefusedOrOutOfMemory (status.Scene line cause) fault = (line ≡ fault.line) × (cause ≡ fault.cause)
+IsRefusedOrOutOfMemory status.OutOfMemory fault = Unit {0}
+IsRefusedOrOutOfMemory _ fault = ⊥
+
+-- the input was too long, or memory ran out
+abbrev pub IsTooLongOrOutOfMemory : Status → Type 0
+IsTooLongOrOutOfMemory status.TooLong = Unit {0}
+IsTooLongOrOutOfMemory status.OutOfMemory = Unit {0}
+IsTooLongOrOutOfMemory _ = ⊥

@@ -8,3 +8,4 @@ pub mod Recorded
 pub mod Frame
 pub mod Rendered
 pub mod Ended
+pub mod Shown

@@ -14,11 +14,7 @@ use scene_text::Clear;
 use std::alloc::{AllocError, Global};
 
 /// Colours of zeros.
-pub(crate) fn blank(
-    alloc: Global,
-    width: u16,
-    height: u16,
-) -> Result<Vec<[u8; 4]>, AllocError>
+pub(crate) fn blank(alloc: Global, width: u16, height: u16) -> Result<Vec<[u8; 4]>, AllocError>
     ensures { IfOk result (λ colors. colors.items ≡ replicate (width * height) no_color) }
 {
     let count = usize::from(width) * usize::from(height);

@@ -30,7 +30,7 @@ fn record_all(
     scene: &Scene,
     frame: &SceneFrame,
 ) -> Result<Vec<Recording>, AllocError>
-    ensures many { IfOk result (λ bundles. length bundles.items ≡ scene.now.encoders) }
+    ensures many { IfOk result (λ bundles. length bundles.items ≤ 255) }
     ensures few { IfOk result (λ bundles. HasFewItems 4294967295 bundles.items) }
     ensures recorded { IfOk result (λ bundles. (number : ℕ) (p : Progress)
         → map (λ e. accepted_of (recording_of (scene_seen scene.now) number p (frame_seen frame.now) e)) (range_with_len 0 scene.now.encoders) ≡ map recording_seen bundles.items) }
@@ -81,7 +81,6 @@ pub(crate) fn compose(
     frame: &SceneFrame,
     views: &mut Views,
 ) -> Result<Frame, AllocError>
-    requires { scene.now.encoders ≤ 255 }
     ensures clears { IfOk result (λ f. f.clears.items ≡ views.new) }
     ensures journal { IfOk result (λ f. map entry_seen f.journal.items ≡ serial_from 0 (map recording_seen f.bundles.items)) }
     ensures composed { IfOk result (λ f. (number : ℕ) (p : Progress) (count : ℕ) → IsPlain p (map clear_seen views.old) count → IsComposed scene.now frame.now number p f) }

@@ -8,9 +8,13 @@ mod item;
 mod notes;
 mod output;
 mod picture;
+mod playing;
 mod recording;
 mod renderer;
 mod status;
+mod top;
 mod views;
+mod words;
 
 pub use status::Status;
+pub use top::{Played, play};

@@ -56,11 +56,7 @@ impl Recording {
 }
 
 /// Plays the lines of a block on an encoder with this room.
-pub(crate) fn record(
-    alloc: Global,
-    room: Room,
-    lines: &[EncLine],
-) -> Result<Recording, AllocError>
+pub(crate) fn record(alloc: Global, room: Room, lines: &[EncLine]) -> Result<Recording, AllocError>
     ensures few { IfOk result (λ r. length r.items.items ≤ 4294967295) }
     ensures recorded { IfOk result (λ r. (p : Progress) (frame : ℕ)
         → fold (after_encoder_line p) (recorder_seen frame (room_seen room) [] 0) (map encoder_line_seen lines.now) ≡ recorder_seen frame (room_seen room) r.items.items r.dropped) }

@@ -14,8 +14,8 @@ loop-encoder-preserved c =
       many = omega (arith, ap length c.in_ok-push.ensures.items, length-append c.loop-encoder.bundles.items (c.in_ok-record.field-0 ∷ []), c.loop-encoder.invariant.many);
       few = rw c.in_ok-push.ensures.items (few-more 4294967295 c.loop-encoder.bundles.items c.in_ok-record.field-0 c.loop-encoder.invariant.few c.in_ok-record.ensures.few);
       recorded = λ number p.
-        recorded-more c.args.scene.now c.args.frame.now number p c.loop-encoder.encoder c.loop-encoder.bundles.items c.push.new.self.items c.in_ok-record.field-0 c.lines_of-lines.result.now
-        c.in_ok-push.ensures.items own (c.in_ok-record.ensures.recorded p number) (c.loop-encoder.invariant.recorded number p);
+          recorded-more c.args.scene.now c.args.frame.now number p c.loop-encoder.encoder c.loop-encoder.bundles.items c.push.new.self.items c.in_ok-record.field-0 c.lines_of-lines.result.now
+          c.in_ok-push.ensures.items own (c.in_ok-record.ensures.recorded p number) (c.loop-encoder.invariant.recorded number p);
     }
 
 pub returns-clause-recorded : goal.returns-clause-recorded

@@ -15,8 +15,8 @@ loop-line-preserved c =
     record {
       few = elim c.if-not-play_line.branch [ then-not-play_line w ↦ omega arith | else-not-play_line w ↦ omega arith ];
       after = λ names p count plain.
-        line-counted names p c.args.lines.now c.loop-line.line-index _ c.loop-line.self c.play_line.new.self count c.loop-line.dropped c.if-not-play_line.dropped c.play_line.result
-        (omega arith) c.play_line.ensures.many c.play_line.ensures.after c.play_line.ensures.accepted more (c.loop-line.invariant.after names p count plain);
+          line-counted names p c.args.lines.now c.loop-line.line-index _ c.loop-line.self c.play_line.new.self count c.loop-line.dropped c.if-not-play_line.dropped c.play_line.result
+          (omega arith) c.play_line.ensures.many c.play_line.ensures.after c.play_line.ensures.accepted more (c.loop-line.invariant.after names p count plain);
     }
 
 pub returns-clause-after : goal.returns-clause-after
