@@ -6,6 +6,7 @@ ghost use Rattle.scene_text.specs.Gives.{Gives, MayGive};
 
 use crate::fault::{Cause, LineFault};
 use crate::sequence::Sequence;
+use crate::words::is;
 use std::alloc::Global;
 
 // The values of the digits of sixteen, and 255 for every other byte.
