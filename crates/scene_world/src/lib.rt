@@ -1,13 +1,20 @@
-// A library with one function.
+//! The things of a scene and its back buffer, and what the items of a frame do to them.
 #![tactic(auto)]
 
-ghost use Rattle.std.specs.Prelude.{◌≡◌};
-ghost use Rattle.scene_world.specs.Echo.{echo_of};
+mod clearing;
+mod clears;
+mod content;
+mod entering;
+mod items;
+mod keys;
+mod looks;
+mod painting;
+mod preparing;
+mod shapes;
+mod things;
+mod world;
 
-// The `ensures` clause is the contract: what `echo` returns is `echo_of` of its argument, a definition
-// in `specs/Echo.antt`, which a caller's clause can cite too.
-pub fn echo(x: usize) -> usize
-    ensures { result ≡ echo_of x }
-{
-    x
-}
+pub use clears::ViewClear;
+pub use content::Content;
+pub use items::{Item, Submit, UniformSet};
+pub use world::World;
