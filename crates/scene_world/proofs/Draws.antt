@@ -1,10 +1,9 @@
 -- A prepared draw is the definition's draw.
-use Rattle.std.proofs.Common.{◌≡◌, ℕ, zero, suc, ◌+◌, ◌*◌, ◌/◌, ◌%◌, ◌<◌, Bool, true, false, List, [], ◌∷◌, ◌++◌, map, take, filter, length, get_or, Option, Some, None, refl, ap, sym, ◌∙◌, arith}
+use Rattle.std.proofs.Common.{◌≡◌, ℕ, zero, suc, ◌+◌, ◌<◌, Bool, true, false, List, [], ◌∷◌, ◌++◌, map, take, filter, length, get_or, Option, Some, None, refl, ap, sym, ◌∙◌}
 use Rattle.std.specs.Prelude.{option_map, fold, ◌&&◌, ℤ, pos, negsuc, if◌then◌else◌}
 use Rattle.std.proofs.lemmas.List.{take_more, map-append}
 use Rattle.std.proofs.lemmas.List.Elements.{filter-append}
 use Rattle.std.proofs.lemmas.List.Sums.{fold-append}
-use Rattle.gfx_model.specs.Number.{map_from}
 use Rattle.gfx_model.specs.Pixel.{Pixel}
 use Rattle.gfx_model.specs.Raster.{contains}
 use Rattle.gfx_model.specs.Words.{int, solid, vertex_color, textured, textured_color}
@@ -16,10 +15,9 @@ use Rattle.scene_world.specs.declared.content.Content as code
 use Rattle.scene_world.specs.declared.items.Submit.{Submit}
 use Rattle.scene_world.specs.declared.keys.Keyed.{Keyed}
 use Rattle.scene_world.specs.Items.{draw_seen, item_by}
-use Rattle.scene_world.specs.Keys.{item_at}
 use Rattle.scene_world.specs.Things.{set_in, things_seen}
 use Rattle.scene_world.specs.Painted.{cleared_view, whole, paint_in, prepared_in}
-use Rattle.scene_world.specs.Entered.{world_of, DoesTo, DoesIf}
+use Rattle.scene_world.specs.Entered.{world_of, DoesIf}
 
 -- values that are set change only the things
 pub sets-things : (w : World) (vs : List UniformSet) → fold set_uniform w vs ≡ record { back = w.back; things = fold set_in w.things vs }

@@ -1,12 +1,12 @@
 -- The triangles of a draw that count are those that were kept.
-use Rattle.std.proofs.Common.{◌≡◌, ℕ, Bool, true, false, cond, List, [], ◌∷◌, map, Option, Some, None, refl, ap, sym, ◌∙◌}
-use Rattle.std.specs.Prelude.{option_map, option_and_then, filter_map, ◌||◌, ◌==◌}
+use Rattle.std.proofs.Common.{◌≡◌, ℕ, Bool, true, false, List, [], ◌∷◌, map, Option, Some, None, refl, ap, ◌∙◌}
+use Rattle.std.specs.Prelude.{option_map, option_and_then, filter_map}
 use Rattle.std.specs.List.{cons_option}
-use Rattle.gfx_model.specs.Vertex.{Vertex, Triangle, listed_triangles}
-use Rattle.gfx_model.specs.Raster.{Rect, ScreenVertex, is_kept, identity, place}
-use Rattle.gfx_model.specs.Views.{View, Clear}
-use Rattle.gfx_model.specs.World.{World, UniformSet, Facing, facing_of, kept_facing, all_three, placed_vertex, placed_facing, draw_vertices, vertex_range, facings_of}
-use Rattle.tri_cover.specs.Shown.{Shown, shown_unless_culled}
+use Rattle.gfx_model.specs.Vertex.{Triangle, listed_triangles}
+use Rattle.gfx_model.specs.Raster.{Rect, ScreenVertex, is_kept}
+use Rattle.gfx_model.specs.Views.{Clear}
+use Rattle.gfx_model.specs.World.{World, UniformSet, kept_facing, all_three, placed_facing, draw_vertices, vertex_range, facings_of}
+use Rattle.tri_cover.specs.Shown.{shown_unless_culled}
 use Rattle.int_raster.specs.Drawing.{facing_shown}
 use Rattle.scene_world.specs.declared.items.Submit.{Submit}
 use Rattle.scene_world.specs.Items.{draw_seen}

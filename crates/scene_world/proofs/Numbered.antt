@@ -1,9 +1,8 @@
 -- Things that are numbered from 1 on.
-use Rattle.std.proofs.Common.{◌≡◌, ℕ, zero, suc, ◌+◌, ◌<◌, ◌≤◌, Bool, true, false, cond, ◌==◌, List, [], ◌∷◌, ◌++◌, take, map, length, get_or, Option, Some, None, slice_get, refl, ap, sym, ◌∙◌, arith}
-use Rattle.std.specs.Prelude.{option_map, slice_set, fold}
+use Rattle.std.proofs.Common.{◌≡◌, ℕ, zero, suc, ◌+◌, ◌<◌, ◌≤◌, true, ◌==◌, List, [], ◌∷◌, ◌++◌, take, length, get_or, Option, Some, None, refl, ap, sym, ◌∙◌, arith}
+use Rattle.std.specs.Prelude.{slice_set}
 use Rattle.std.proofs.lemmas.Bool.{ne_eqb, eq-eqb}
 use Rattle.std.proofs.lemmas.List.{take_more}
-use Rattle.gfx_model.specs.Number.{map_from}
 use Rattle.gfx_model.specs.Words.{UniformKind, UniformValue}
 use Rattle.gfx_model.specs.World as world
 use Rattle.gfx_model.specs.World.{content_in, change_thing, newest_value, value_named, later_of}
@@ -73,4 +72,3 @@ newest_more name kind cs i d lt =
     ap (λ (xs : List Content). newest_value name kind (things_seen xs)) (take_more cs i d lt)
     ∙ ap (newest_value name kind) (from_append 0 (take i cs) (get_or cs i d ∷ []))
     ∙ newest_append name kind (things_seen (take i cs)) (thing_at (0 + length (take i cs)) (get_or cs i d))
-

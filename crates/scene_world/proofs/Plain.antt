@@ -1,12 +1,12 @@
 -- Views that only have clears.
-use Rattle.std.proofs.Common.{◌≡◌, ℕ, zero, suc, ◌+◌, ◌<◌, ◌≤◌, ◌==◌, Bool, true, false, List, [], ◌∷◌, map, length, filter, refl, ap, sym, ◌∙◌, arith}
+use Rattle.std.proofs.Common.{◌≡◌, ℕ, zero, suc, ◌+◌, ◌<◌, true, List, [], ◌∷◌, map, length, filter, refl, ap, sym, ◌∙◌, arith}
 use Rattle.std.specs.Prelude.{slice_index_or}
 use Rattle.std.specs.List.{range_with_len}
 use Rattle.std.proofs.lemmas.Bool.{ne_eqb, eq-eqb}
 use Rattle.std.proofs.lemmas.List.{length-map}
 use Rattle.std.proofs.Math.ListN.{get_or-map}
 use Rattle.gfx_model.specs.Number.{place_of}
-use Rattle.gfx_model.specs.Views.{View, Views, Clear, ViewMode, default_mode, plain_view, view_at, view_order, position_of_view, sort_key}
+use Rattle.gfx_model.specs.Views.{View, Clear, ViewMode, default_mode, view_at, view_order, position_of_view, sort_key}
 use Rattle.gfx_model.specs.Raster.{no_color}
 use Rattle.gfx_model.specs.World.{UniformSet, draw_item, touch_item, key_of_item}
 use Rattle.scene_world.specs.declared.items.Submit.{Submit}

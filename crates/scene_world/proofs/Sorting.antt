@@ -1,9 +1,9 @@
 -- A stable sort by the key is the order of the definitions.
-use Rattle.std.proofs.Common.{◌≡◌, ℕ, zero, suc, ◌+◌, ◌<◌, ◌≤◌, ◌==◌, Bool, true, false, cond, not, List, [], ◌∷◌, ◌++◌, map, take, length, filter, get_or, Option, Some, None, refl, ap, sym, subst, ◌∙◌, inl, inr, arith}
+use Rattle.std.proofs.Common.{◌≡◌, ℕ, suc, ◌+◌, ◌<◌, ◌≤◌, ◌==◌, Bool, true, false, cond, not, List, [], ◌∷◌, ◌++◌, map, take, length, filter, get_or, Option, Some, None, refl, ap, sym, ◌∙◌, inl, inr, arith}
 use Rattle.std.specs.Prelude.{◌&&◌, nat_lt, slice_index_or}
 use Rattle.std.specs.Ordering.{is_lt, nat_cmp}
 use Rattle.std.specs.List.Sorted.{ties, IsStableByKey, IsNonDecreasingBy}
-use Rattle.std.proofs.lemmas.Bool.{cases_order, ne_eqb, eq-eqb, lt-ltb, le-leb}
+use Rattle.std.proofs.lemmas.Bool.{cases_order, ne_eqb, eq-eqb, lt-ltb}
 use Rattle.std.proofs.lemmas.List.{take_more, map-append, length-map, length-take-le, get_or-map}
 use Rattle.gfx_model.specs.Number.{map_from}
 use Rattle.gfx_model.specs.Views.{Views}

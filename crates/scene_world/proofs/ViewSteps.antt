@@ -2,17 +2,18 @@
 use Rattle.std.proofs.Common.{◌≡◌, ℕ, zero, suc, ◌+◌, ◌<◌, Bool, true, false, cond, not, List, [], ◌∷◌, ◌++◌, map, filter, length, get_or, refl, ap, sym, ◌∙◌, arith}
 use Rattle.std.specs.Prelude.{if◌then◌else◌, fold, slice_index_or}
 use Rattle.std.specs.List.{range_with_len, list_any}
-use Rattle.std.proofs.lemmas.List.{get_or-map, append-nil, append_assoc, length-map}
+use Rattle.std.proofs.lemmas.List.{get_or-map, append-nil, append_assoc}
 use Rattle.std.proofs.lemmas.List.Sums.{fold-append}
 use Rattle.std.proofs.lemmas.List.Elements.{filter-append}
-use Rattle.gfx_model.specs.Number.{map_from, is_among}
-use Rattle.gfx_model.specs.Views.{View, Views, Clear, view_at, view_order}
+use Rattle.gfx_model.specs.Number.{is_among}
+use Rattle.gfx_model.specs.Views.{Views, Clear, view_at, view_order}
 use Rattle.gfx_model.specs.World as model
 use Rattle.gfx_model.specs.World.{World, FrameContent, is_blit, is_of_view, begin_frame, things_after, enter_view, entered_views, frame_step, ordered}
 use Rattle.scene_world.specs.declared.content.Content.{Content}
 use Rattle.scene_world.specs.declared.clears.ViewClear.{ViewClear}
 use Rattle.scene_world.specs.Cleared.{clear_seen}
-use Rattle.scene_world.specs.Things.{content_seen, thing_at, things_from, create_at, creates_from}
+use Rattle.scene_world.specs.Things.{thing_at, things_from, things_seen, creates_from}
+use Rattle.scene_world.proofs.Numbered.{from_append}
 use Rattle.scene_world.specs.Painted.{cleared_view, views_of_clears}
 use Rattle.scene_world.specs.Drawn.{no_clear, after_view, after_views}
 use Rattle.scene_world.proofs.Plain.{plain-view, plain-order}
@@ -96,3 +97,21 @@ frame-is clears f w old n created items gone changes views same none many made =
     let drawn : ordered f.views f.items ≡ ordered (views_of_clears clears) items = (λ i. ordered (views i) (same i)) in
     sym ((λ i. fold (enter_view f (drawn i)) (begun i) (order i))
     ∙ entered-all clears f (ordered (views_of_clears clears) items) old (filter (λ v. list_any (is_of_view v) items) (range_with_len 0 256)) views (ap (filter is_blit) same ∙ none))
+
+length-from : (n : ℕ) (cs : List Content) → length (things_from n cs) ≡ length cs
+length-from n [] = refl
+length-from n (c ∷ cs) = ap suc (length-from (n + 1) cs)
+
+pub frame-made : (clears : List Clear) (f : FrameContent) (w : World) (back : model.Surface) (things created : List Content) (items : List model.Item) (new : World)
+    → record { back = back; things = things_seen things } ≡ w
+    → f.gone ≡ [] → f.changes ≡ creates_from (length w.things) created → f.views ≡ views_of_clears clears → f.items ≡ items → filter is_blit items ≡ [] → length clears ≡ 256
+    → new ≡ after_views clears (ordered (views_of_clears clears) items) (record { back = back; things = things_seen (things ++ created) }) (filter (λ v. list_any (is_of_view v) items) (range_with_len 0 256))
+    → new ≡ frame_step w f
+frame-made clears f w back things created items new view gone changes views same none many drawn =
+    let n = length w.things in
+    let len : 0 + length things ≡ n = omega (arith, length-from 0 things, ap (λ (u : World). length u.things) view) in
+    let old : World = record { back = back; things = things_seen (things ++ created) } in
+    let made : old ≡ record { back = w.back; things = w.things ++ things_from n created } =
+    ap (λ (ts : List (ℕ × model.Content)). record { back = back; things = ts }) (from_append 0 things created ∙ ap (λ k. things_seen things ++ things_from k created) len)
+    ∙ ap (λ (u : World). record { back = u.back; things = u.things ++ things_from n created }) view in
+    drawn ∙ frame-is clears f w old n created items gone changes views same none many made

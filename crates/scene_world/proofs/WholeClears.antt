@@ -1,11 +1,11 @@
 -- A surface whose pixels are all cleared.
-use Rattle.std.proofs.Common.{◌≡◌, ℕ, zero, suc, ◌+◌, ◌*◌, ◌/◌, ◌%◌, ◌<◌, ◌≤◌, true, false, List, [], ◌∷◌, map, take, drop, get_or, replicate, length, Some, None, refl, ap, sym, ◌∙◌, arith}
-use Rattle.std.specs.Prelude.{if◌then◌else◌, nat_le, nat_lt, ◌&&◌, slice_set}
+use Rattle.std.proofs.Common.{◌≡◌, ℕ, zero, suc, ◌+◌, ◌*◌, ◌/◌, ◌%◌, ◌<◌, ◌≤◌, true, false, List, [], ◌∷◌, map, take, drop, get_or, replicate, length, Some, refl, ap, ◌∙◌, arith}
+use Rattle.std.specs.Prelude.{if◌then◌else◌, slice_set}
 use Rattle.std.proofs.lemmas.Bool.{lt-ltb, le-leb}
 use Rattle.std.proofs.Math.Nat.{div-lt_iff_lt-mul, mul_comm}
 use Rattle.gfx_model.specs.Number.{map_from, u32_at, is_bit_set}
 use Rattle.gfx_model.specs.Vertex.{Color}
-use Rattle.gfx_model.specs.Raster.{Rect, contains, view_rect}
+use Rattle.gfx_model.specs.Raster.{contains, view_rect}
 use Rattle.gfx_model.specs.Views.{Clear, empty_rect}
 use Rattle.gfx_model.specs.Pixel.{Pixel}
 use Rattle.gfx_model.specs.World.{cleared}

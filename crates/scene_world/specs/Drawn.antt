@@ -1,5 +1,5 @@
 -- What entering a view does in a scene whose views only have clears.
-use Rattle.std.specs.Prelude.{ℕ, List, if◌then◌else◌, fold, filter, slice_index_or}
+use Rattle.std.specs.Prelude.{ℕ, List, fold, filter, slice_index_or}
 use Rattle.gfx_model.specs.Raster.{no_color}
 use Rattle.gfx_model.specs.Views.{Clear}
 use Rattle.gfx_model.specs.World as model

@@ -1,5 +1,5 @@
 -- Items as the definitions see them.
-use Rattle.std.specs.Prelude.{ℕ, List, Option, Some, None, [], ◌∷◌, map}
+use Rattle.std.specs.Prelude.{ℕ, List, Option, Some, None, map}
 use Rattle.gfx_model.specs.Words.{Handle}
 use Rattle.gfx_model.specs.World as world
 use Rattle.gfx_model.specs.Recorder.{plain_state}

@@ -1,5 +1,5 @@
 -- Items with their keys.
-use Rattle.std.specs.Prelude.{ℕ, List, [], map, slice_index_or}
+use Rattle.std.specs.Prelude.{ℕ, List, [], slice_index_or}
 use Rattle.gfx_model.specs.Number.{map_from}
 use Rattle.gfx_model.specs.Views.{Views}
 use Rattle.gfx_model.specs.World as model

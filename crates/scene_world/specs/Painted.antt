@@ -1,6 +1,6 @@
 -- What a draw in the plain draw state paints, in a view that only has a clear.
-use Rattle.std.specs.Prelude.{ℕ, List, [], ◌∷◌, Option, Some, None, option_map, option_and_then, filter_map, map}
-use Rattle.gfx_model.specs.Words.{solid, vertex_color, textured, textured_color, vec4, Handle, cull_of}
+use Rattle.std.specs.Prelude.{ℕ, List, [], Option, Some, None, option_map, option_and_then, filter_map, map}
+use Rattle.gfx_model.specs.Words.{solid, vertex_color, textured, textured_color, vec4, Handle}
 use Rattle.gfx_model.specs.Vertex.{Vertex, Triangle, listed_triangles}
 use Rattle.gfx_model.specs.Raster.{Rect, ScreenVertex, identity, place}
 use Rattle.gfx_model.specs.Views.{View, Views, Clear, plain_view}

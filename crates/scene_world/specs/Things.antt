@@ -1,5 +1,5 @@
 -- Things by their serials, counted from 1, and the creates that make them.
-use Rattle.std.specs.Prelude.{ℕ, ◌+◌, List, fold}
+use Rattle.std.specs.Prelude.{ℕ, ◌+◌, List}
 use Rattle.gfx_model.specs.Number.{map_from}
 use Rattle.gfx_model.specs.World as world
 use Rattle.gfx_words.specs.Seen.{program_seen, value_seen}

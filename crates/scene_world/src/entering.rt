@@ -57,7 +57,15 @@ fn do_item<'x>(
     set_values(things, item.values());
     match &item.submit {
         Some(draw) => {
-            add_draw(alloc, things, draw, item.bytes.as_slice(), sides, list, vertices)?;
+            add_draw(
+                alloc,
+                things,
+                draw,
+                item.bytes.as_slice(),
+                sides,
+                list,
+                vertices,
+            )?;
             Ok(())
         }
         None => Ok(()),
@@ -120,7 +128,9 @@ pub(crate) fn do_view<'x>(
 {
     let mut list = DrawList::new(alloc);
     for keyed in order {
-        do_item_at(alloc, things, view, items, *keyed, sides, &mut list, vertices)?;
+        do_item_at(
+            alloc, things, view, items, *keyed, sides, &mut list, vertices,
+        )?;
     }
     Ok(list)
 }

@@ -111,7 +111,14 @@ fn triangles_of(
 {
     match &draw.layout {
         Some(layout) => {
-            let triangles = transient_triangles(alloc, things, layout, bytes, sides.whole(), vertices)?;
+            let triangles = transient_triangles(
+                alloc,
+                things,
+                layout,
+                bytes,
+                sides.whole(),
+                vertices,
+            )?;
             Ok(triangles)
         }
         None => Ok(Vec::new(alloc)),

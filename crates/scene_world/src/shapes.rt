@@ -13,7 +13,12 @@ use tri_cover::{ScreenVertex, Setup, place};
 use vertex_layout::VertexLayout;
 
 /// A vertex on the target, if it is there and within the guard range.
-fn placed_vertex(layout: &VertexLayout, bytes: &[u8], number: u32, rect: Rect) -> Option<ScreenVertex>
+fn placed_vertex(
+    layout: &VertexLayout,
+    bytes: &[u8],
+    number: u32,
+    rect: Rect,
+) -> Option<ScreenVertex>
     ensures { option_map screen_seen result ≡ placed (rect_seen rect) (fetch layout.now bytes.now number) }
 {
     match layout.fetch(bytes, number) {
@@ -48,7 +53,11 @@ pub(crate) fn place_vertices(
 }
 
 /// A triangle, if its corners are placed and it has an area.
-fn triangle(a: Option<ScreenVertex>, b: Option<ScreenVertex>, c: Option<ScreenVertex>) -> Option<Setup>
+fn triangle(
+    a: Option<ScreenVertex>,
+    b: Option<ScreenVertex>,
+    c: Option<ScreenVertex>,
+) -> Option<Setup>
     ensures { option_map setup_seen result ≡ kept (record { a = option_map screen_seen a; b = option_map screen_seen b; c = option_map screen_seen c }) }
 {
     match (a, b, c) {
@@ -71,7 +80,10 @@ fn push_some(triangles: &mut Vec<Setup>, triangle: Option<Setup>) -> Result<(), 
 }
 
 /// The triangles of a list of vertices, three at a time.
-pub(crate) fn list_triangles(alloc: Global, vertices: &[Option<ScreenVertex>]) -> Result<Vec<Setup>, AllocError>
+pub(crate) fn list_triangles(
+    alloc: Global,
+    vertices: &[Option<ScreenVertex>],
+) -> Result<Vec<Setup>, AllocError>
     ensures { IfOk result (λ ts. map setup_seen ts.items ≡ kept_of (map (option_map screen_seen) vertices.now)) }
 {
     let mut triangles = Vec::new(alloc);

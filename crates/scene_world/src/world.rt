@@ -1,5 +1,5 @@
 // The world of a scene: its things and its back buffer.
-ghost use Rattle.std.specs.Prelude.{◌≡◌, ◌≤◌, [], ℕ, length, map, filter, IfOk, OnOk, true, false, slice_index_or, if◌then◌else◌, slice_set};
+ghost use Rattle.std.specs.Prelude.{◌≡◌, ◌≤◌, ◌<◌, ◌++◌, [], ℕ, length, map, filter, IfOk, OnOk, true, false, slice_index_or, if◌then◌else◌, slice_set};
 ghost use Rattle.std.specs.List.{list_any, range_with_len};
 ghost use Rattle.gfx_model.specs.World as model;
 ghost use Rattle.gfx_model.specs.World.{FrameContent, is_of_view};
@@ -120,7 +120,7 @@ fn enter_all(
     requires few { length clears.now ≤ 256 }
     ensures { OnOk result (world_seen back.new things.new
         ≡ after_views (map clear_seen clears.now) (map (item_at (map (λ i. item_seen i.now) items.now)) order.now) (world_seen back.old things.old)
-            (filter (λ v. slice_index_or marks.now v false) (range_with_len 0 (length clears.now)))) }
+        (filter (λ v. slice_index_or marks.now v false) (range_with_len 0 (length clears.now)))) }
 {
     for view in 0..clears.len() {
         enter_if(
@@ -150,7 +150,7 @@ fn draw_views(
     requires { length clears.now ≡ 256 }
     ensures { OnOk result (world_seen back.new things.new
         ≡ after_views (map clear_seen clears.now) (model.ordered (views_of_clears (map clear_seen clears.now)) (map (λ i. item_seen i.now) items.now)) (world_seen back.old things.old)
-            (filter (λ v. list_any (is_of_view v) (map (λ i. item_seen i.now) items.now)) (range_with_len 0 256))) }
+        (filter (λ v. list_any (is_of_view v) (map (λ i. item_seen i.now) items.now)) (range_with_len 0 256))) }
 {
     if items.len() > 1_048_576 {
         return Err(AllocError);

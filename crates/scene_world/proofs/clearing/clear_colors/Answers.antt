@@ -1,4 +1,4 @@
-use Rattle.std.proofs.Common.{◌≡◌, sym, ◌∙◌}
+use Rattle.std.proofs.Common.{sym, ◌∙◌}
 use Rattle.scene_world.specs.Cleared.{clear_seen}
 use Rattle.scene_world.proofs.WholeClears.{color-cleared, color-kept}
 use Rattle.scene_world.proofs.clearing.clear_colors.Goals as goal

@@ -1,4 +1,4 @@
-use Rattle.std.proofs.Common.{◌≡◌, ◌<◌, [], map, take, drop, length, ap, sym, ◌∙◌, arith}
+use Rattle.std.proofs.Common.{◌<◌, [], length, ap, ◌∙◌, arith}
 use Rattle.std.proofs.lemmas.List.{length-set}
 use Rattle.scene_world.specs.Cleared.{clear_seen, cleared_word, word_in, word_cleared}
 use Rattle.scene_world.proofs.WholeClears.{set-left, set-done}

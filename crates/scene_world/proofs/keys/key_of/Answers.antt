@@ -1,6 +1,5 @@
 use Rattle.std.proofs.Common.{◌≡◌, ◌<◌, ℕ, Option, length, map, sym, ap, ◌∙◌, arith}
 use Rattle.gfx_model.specs.Views.{sort_key, default_mode}
-use Rattle.gfx_model.specs.World as model
 use Rattle.gfx_model.specs.World.{view_of_item, key_of_item}
 use Rattle.scene_world.specs.declared.items.Submit.{Submit}
 use Rattle.scene_world.specs.Items.{item_by, set_seen}

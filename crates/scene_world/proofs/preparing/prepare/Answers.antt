@@ -1,7 +1,7 @@
-use Rattle.std.proofs.Common.{map, ap, sym, Some, ◌≡◌, ◌∙◌}
+use Rattle.std.proofs.Common.{map, ap, sym, Some, ◌∙◌}
 use Rattle.std.specs.Prelude.{option_map}
 use Rattle.gfx_model.specs.World.{World, Paint, facings_of}
-use Rattle.int_raster.specs.Drawing.{facing_shown, PreparedDraw}
+use Rattle.int_raster.specs.Drawing.{facing_shown}
 use Rattle.int_raster.specs.Seen.{paint_seen}
 use Rattle.scene_world.specs.Things.{things_seen}
 use Rattle.scene_world.specs.Items.{draw_seen}

@@ -1,8 +1,7 @@
 use Rattle.std.proofs.Common.{◌≡◌, ◌+◌, ap, sym, ◌∙◌, arith}
 use Rattle.gfx_model.specs.World.{change_thing, with_value}
 use Rattle.gfx_words.specs.Seen.{value_seen}
-use Rattle.scene_world.specs.declared.content.Content.{Content}
-use Rattle.scene_world.specs.Things.{content_seen, things_seen}
+use Rattle.scene_world.specs.Things.{things_seen}
 use Rattle.scene_world.proofs.Numbered.{changed, unchanged_above}
 use Rattle.scene_world.proofs.things.set_at.Goals as goal
 
