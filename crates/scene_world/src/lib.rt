@@ -18,3 +18,6 @@ pub use clears::ViewClear;
 pub use content::Content;
 pub use items::{Item, Submit, UniformSet};
 pub use world::World;
+
+#[cfg(test)]
+mod tests;
