@@ -18,7 +18,7 @@ use pixel_ops::Pixel;
 use tri_cover::Setup;
 
 /// Steps the pixels of a span by the exact means at each.
-fn step_exactly(colors: &mut [[u8; 4]], span: &Span, setup: &Setup, draw: &Prepared)
+pub(crate) fn step_exactly(colors: &mut [[u8; 4]], span: &Span, setup: &Setup, draw: &Prepared)
     requires inside { span.now.y * span.now.width + span.now.width ≤ length colors.old }
     requires covered { (x : ℕ) → span.now.first ≤ x → x < span.now.after → covers (setup_seen setup.now).triangle x span.now.y ≡ true }
     ensures { flat_pixels colors.new ≡ map_from (spanned (by_place span.now.width (step_seen draw.now setup.now)) (span.now.y * span.now.width + span.now.first) (span.now.y * span.now.width + span.now.after)) 0 (flat_pixels colors.old) }

@@ -16,3 +16,8 @@ mod surfaces;
 pub use drawing::draw_view;
 pub use lists::{DrawList, Paint, Prepared, Triangles};
 pub use surfaces::Surface;
+
+#[cfg(test)]
+mod exactness;
+#[cfg(test)]
+mod tests;

@@ -1,0 +1,229 @@
+// Draws by painters and ramps beside the same draws by the exact means at each pixel.
+ghost use Rattle.std.specs.Prelude.{◌≡◌, ◌≤◌, ◌*◌, length};
+
+use crate::columns::{drawn_columns, drawn_rows};
+use crate::spans::Span;
+use crate::tests::{blank, setups, state, stencil, vertex};
+use crate::{DrawList, Paint, Prepared, Surface, deep_spans, draw_view, flat};
+use fix_math::{Rect, Texels};
+use std::alloc::Global;
+use std::process::Abort;
+use std::test::Fail;
+use tri_cover::Setup;
+use vertex_layout::Vertex;
+
+fn flat_exactly(colors: &mut [[u8; 4]], width: u16, height: u16, setup: &Setup, draw: &Prepared)
+    requires wide { 1 ≤ width }
+    requires whole { length colors.old ≡ width * height }
+{
+    let (top, bottom) = drawn_rows(setup, &draw.cut, height);
+    for y in top..bottom {
+        let (first, after) = drawn_columns(setup, &draw.cut, y, width);
+        let span = Span {
+            width,
+            y,
+            first,
+            after,
+        };
+        flat::step_exactly(colors, &span, setup, draw);
+    }
+}
+
+fn deep_exactly(
+    colors: &mut [[u8; 4]],
+    depths: &mut [[u8; 4]],
+    width: u16,
+    height: u16,
+    setup: &Setup,
+    draw: &Prepared,
+)
+    requires wide { 1 ≤ width }
+    requires whole { length colors.old ≡ width * height }
+    requires same { length depths.old ≡ length colors.old }
+{
+    let (top, bottom) = drawn_rows(setup, &draw.cut, height);
+    for y in top..bottom {
+        let (first, after) = drawn_columns(setup, &draw.cut, y, width);
+        let span = Span {
+            width,
+            y,
+            first,
+            after,
+        };
+        deep_spans::step_exactly(colors, depths, &span, setup, draw);
+    }
+}
+
+/// A draw by the exact means alone.
+fn draw_exactly(surface: &mut Surface, draw: &Prepared) {
+    let width = surface.color.width;
+    let height = surface.color.height;
+    let colors = surface.color.texels.as_mut_slice();
+    match &mut surface.depth {
+        None => {
+            for setup in draw.triangles.as_slice() {
+                flat_exactly(colors, width, height, setup, draw);
+            }
+        }
+        Some(depth) => {
+            let depths = depth.texels.as_mut_slice();
+            for setup in draw.triangles.as_slice() {
+                deep_exactly(colors, depths, width, height, setup, draw);
+            }
+        }
+    }
+}
+
+#[derive(Drop)]
+struct Numbers {
+    last: u32,
+}
+
+impl Numbers {
+    fn next(&mut self) -> u32 {
+        self.last = self.last.wrapping_mul(1664525).wrapping_add(1013904223);
+        self.last >> 8
+    }
+
+    // a position within the guard range, often on a pixel's centre or on another vertex's column
+    fn position(&mut self) -> i32 {
+        match self.next() & 7 {
+            0 => (self.next() & 15) as i32 * 8192 - 65536,
+            1 => (self.next() & 0xfffff) as i32 - 524288,
+            2 => 524288,
+            3 => -524288,
+            _ => (self.next() & 0x1ffff) as i32 - 65536,
+        }
+    }
+
+    fn vertex(&mut self) -> Vertex {
+        let color = self.next().to_le_bytes();
+        let texcoord = [
+            (self.next() & 0x7ffff) as i32 - 262144,
+            (self.next() & 0xff_ffff) as i32,
+        ];
+        let (x, y) = (self.position(), self.position());
+        let z = if self.next() & 1 == 0 {
+            0
+        } else {
+            (self.next() & 0xffff) as i32
+        };
+        vertex(x, y, z, color, texcoord)
+    }
+
+    fn cut(&mut self) -> Rect {
+        match self.next() & 3 {
+            0 => Rect {
+                x: 3,
+                y: 2,
+                w: 9,
+                h: 65535,
+            },
+            1 => Rect {
+                x: 0,
+                y: 5,
+                w: 65535,
+                h: 7,
+            },
+            _ => Rect {
+                x: 0,
+                y: 0,
+                w: 65535,
+                h: 65535,
+            },
+        }
+    }
+}
+
+const TARGET: Rect = Rect {
+    x: 0,
+    y: 0,
+    w: 24,
+    h: 20,
+};
+
+// Opaque, with depth tests, masked, blended, and with stencils.
+const WORDS: [(u64, u32, u32); 8] = [
+    (15, 0, 0),
+    (15 + (2 << 4) + (1 << 38), 0, 0),
+    (15 + (5 << 4) + (1 << 38), 0, 0),
+    (15 + (6 << 4), 0, 0),
+    (5 + (1 << 4) + (1 << 38), 0, 0),
+    (15 + (0x6565 << 12), 0, 0),
+    (15 + (4 << 4) + (1 << 38), 0x3346_ff07, 0),
+    (15 + (3 << 4), 0x7118_0f80, 0x4358_ff01),
+];
+
+fn paint_of<'x>(kind: u32, texels: &'x Texels) -> Paint<'x> {
+    match kind {
+        0 => Paint::Solid([9, 80, 200, 130]),
+        1 => Paint::Vertex,
+        2 => Paint::Texture(texels),
+        3 => Paint::TexColor(texels),
+        4 => Paint::Nothing,
+        _ => Paint::NothingColor,
+    }
+}
+
+// A few triangles with random words, paint and cut.
+fn random_draw<'x, R: Abort>(
+    rt: &R,
+    alloc: Global,
+    numbers: &mut Numbers,
+    texels: &'x Texels,
+) -> Result<Prepared<'x>, Fail> {
+    let mut vertices = Vec::new(alloc);
+    for _ in 0..12u8 {
+        vertices.push(numbers.vertex())?;
+    }
+    let (word, front, back) = WORDS[(numbers.next() & 7) as usize];
+    Ok(Prepared {
+        triangles: setups(alloc, &vertices, TARGET, 0)?,
+        cut: numbers.cut(),
+        state: state(rt, word),
+        front: stencil(rt, front),
+        back: stencil(rt, back),
+        paint: paint_of(numbers.next() & 7, texels),
+    })
+}
+
+fn same_texels<R: Abort>(rt: &R, left: &Texels, right: &Texels, round: u32) {
+    for (a, b) in left.texels.as_slice().iter().zip(right.texels.as_slice()) {
+        assert_eq!(rt; *a, *b, "in round {round}");
+    }
+}
+
+fn one_round<R: Abort>(
+    rt: &R,
+    alloc: Global,
+    numbers: &mut Numbers,
+    round: u32,
+) -> Result<(), Fail> {
+    let mut texels = Texels::filled(alloc, 5, 3, [200, 100, 50, 255])?;
+    for texel in texels.texels.as_mut_slice() {
+        *texel = numbers.next().to_le_bytes();
+    }
+    let mut fast = blank(alloc, TARGET, [0, 0, 128, 3])?;
+    let mut exact = blank(alloc, TARGET, [0, 0, 128, 3])?;
+    for _ in 0..3u8 {
+        let draw = random_draw(rt, alloc, numbers, &texels)?;
+        draw_exactly(&mut exact, &draw);
+        let mut list = DrawList::new(alloc);
+        list.push(draw)?;
+        draw_view(&mut fast, &list);
+    }
+    same_texels(rt, &fast.color, &exact.color, round);
+    if let (Some(a), Some(b)) = (&fast.depth, &exact.depth) {
+        same_texels(rt, a, b, round);
+    }
+    Ok(())
+}
+
+#[test]
+fn painters_and_exact_means_agree(rt: HostRuntime) -> Result<(), Fail> {
+    let mut numbers = Numbers { last: 2024 };
+    for round in 0..100u32 {
+        one_round(&rt, rt.alloc(), &mut numbers, round)?;
+    }
+    Ok(())
+}
