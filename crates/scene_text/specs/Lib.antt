@@ -6,3 +6,5 @@ pub mod Gives
 pub mod Reads
 pub mod Digits
 pub mod Fields
+pub mod Names
+pub mod SeenNames

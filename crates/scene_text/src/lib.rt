@@ -1,12 +1,16 @@
 //! Scenes, and the text that stands for one.
 #![tactic(auto)]
 
+mod bytes;
+mod creates;
 mod encoder_lines;
 mod fault;
 mod fields;
 mod frames;
 mod journal;
+mod names;
 mod numbers;
+mod parts;
 mod reading;
 mod resource_lines;
 mod scene;
@@ -14,11 +18,14 @@ mod sequence;
 mod splitting;
 mod stages;
 mod text;
+mod view_lines;
 mod words;
 
 pub use fault::SceneFault;
 pub use journal::{Journal, JournalEntry};
-pub use scene::{Clear, EncBlock, EncLine, ResLine, Room, Scene, SceneFrame, SceneName};
+pub use scene::{
+    Clear, EncBlock, EncLine, LayoutPart, ResLine, Room, Scene, SceneFrame, SceneName,
+};
 pub use sequence::Sequence;
 pub use text::read;
 

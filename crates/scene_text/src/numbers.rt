@@ -1,8 +1,8 @@
-// Numbers and colours.
-ghost use Rattle.std.specs.Prelude.{◌≡◌, ◌<◌, ◌≤◌, MatchOption, IfOk};
+// Numbers.
+ghost use Rattle.std.specs.Prelude.{◌≡◌, ◌<◌, ◌≤◌, ◌^◌, ◌-◌, MatchOption, IfOk, FitsSigned};
+ghost use Rattle.std.specs.Int.{w32};
 ghost use Rattle.std.specs.List.{list_all};
-ghost use Rattle.scene_model.specs.Field.{is_digit, is_numeral, value_onto, number_in, u8_number, u16_number, hex_byte, color_field};
-ghost use Rattle.scene_text.specs.Digits.{digit_or_none};
+ghost use Rattle.scene_model.specs.Field.{is_digit, is_numeral, value_onto, number_in, u8_number, u16_number, u32_number, i32_number, is_negative_numeral, number_to};
 ghost use Rattle.scene_text.specs.Gives.{Gives};
 
 use crate::fault::Cause;
@@ -78,57 +78,72 @@ pub fn u16_number(field: &[u8]) -> Result<u16, Cause>
     Ok(n as u16)
 }
 
-// The values of the digits of sixteen, and 255 for every other byte.
-static DIGITS: [u8; 256] = [
-    255, 255, 255, 255, 255, 255, 255, 255, 255, 255, 255, 255, 255, 255, 255, 255, 255, 255, 255,
-    255, 255, 255, 255, 255, 255, 255, 255, 255, 255, 255, 255, 255, 255, 255, 255, 255, 255, 255,
-    255, 255, 255, 255, 255, 255, 255, 255, 255, 255, 0, 1, 2, 3, 4, 5, 6, 7, 8, 9, 255, 255, 255,
-    255, 255, 255, 255, 255, 255, 255, 255, 255, 255, 255, 255, 255, 255, 255, 255, 255, 255, 255,
-    255, 255, 255, 255, 255, 255, 255, 255, 255, 255, 255, 255, 255, 255, 255, 255, 255, 10, 11,
-    12, 13, 14, 15, 255, 255, 255, 255, 255, 255, 255, 255, 255, 255, 255, 255, 255, 255, 255, 255,
-    255, 255, 255, 255, 255, 255, 255, 255, 255, 255, 255, 255, 255, 255, 255, 255, 255, 255, 255,
-    255, 255, 255, 255, 255, 255, 255, 255, 255, 255, 255, 255, 255, 255, 255, 255, 255, 255, 255,
-    255, 255, 255, 255, 255, 255, 255, 255, 255, 255, 255, 255, 255, 255, 255, 255, 255, 255, 255,
-    255, 255, 255, 255, 255, 255, 255, 255, 255, 255, 255, 255, 255, 255, 255, 255, 255, 255, 255,
-    255, 255, 255, 255, 255, 255, 255, 255, 255, 255, 255, 255, 255, 255, 255, 255, 255, 255, 255,
-    255, 255, 255, 255, 255, 255, 255, 255, 255, 255, 255, 255, 255, 255, 255, 255, 255, 255, 255,
-    255, 255, 255, 255, 255, 255, 255, 255, 255, 255, 255, 255, 255, 255, 255, 255, 255, 255, 255,
-    255, 255, 255, 255,
-];
-
-#[inline(always)]
-fn hex_digit(byte: u8) -> u8
-    ensures { result ≡ digit_or_none byte }
+pub fn u32_number(field: &[u8]) -> Result<u32, Cause>
+    ensures { Gives (λ n. n) result (u32_number field.now) }
 {
-    DIGITS[byte as usize]
+    let n = number(field, 0, 4_294_967_295)?;
+    Ok(n)
 }
 
-/// The byte of two digits.
-#[inline(always)]
-fn hex_pair(a: u8, b: u8) -> Result<u8, Cause>
-    ensures { Gives (λ v. v) result (hex_byte a b) }
+/// The value of digits, up to `high`, of 64 bits.
+fn wide_value_to(digits: &[u8], high: u64) -> Option<u64>
+    ensures { MatchOption result (high < value_onto 0 digits.now) (λ n. n ≡ value_onto 0 digits.now) }
 {
-    let high = hex_digit(a);
-    let low = hex_digit(b);
-    if high >= 16 {
-        return Err(Cause::Misspelt);
+    let mut value: u128 = 0;
+    for digit in digits {
+        value = value * 10 + u128::from(digit.saturating_sub(b'0'));
+        if value > u128::from(high) {
+            return None;
+        }
     }
-    if low >= 16 {
-        return Err(Cause::Misspelt);
-    }
-    Ok(16 * high + low)
+    Some(value as u64)
 }
 
-/// Eight digits: red, green, blue and alpha.
-pub fn color_field(field: &[u8]) -> Result<[u8; 4], Cause>
-    ensures { Gives (λ c. c) result (color_field field.now) }
+pub fn u64_number(field: &[u8]) -> Result<u64, Cause>
+    ensures { Gives (λ n. n) result (number_to (2 ^ 64 - 1) field.now) }
 {
-    let [a, b, c, d, e, f, g, h] = field else {
-        return Err(Cause::Misspelt);
-    };
-    let red = hex_pair(*a, *b)?;
-    let green = hex_pair(*c, *d)?;
-    let blue = hex_pair(*e, *f)?;
-    let alpha = hex_pair(*g, *h)?;
-    Ok([red, green, blue, alpha])
+    if !is_numeral(field) {
+        return Err(Cause::NoNumber);
+    }
+    match wide_value_to(field, 18_446_744_073_709_551_615) {
+        Some(n) => Ok(n),
+        None => Err(Cause::OutOfRange),
+    }
+}
+
+fn is_negative_numeral(field: &[u8]) -> bool
+    ensures { result ≡ is_negative_numeral field.now }
+{
+    match field {
+        [] => false,
+        [first, rest @ ..] => {
+            if *first != b'-' {
+                return false;
+            }
+            if !is_numeral(rest) {
+                return false;
+            }
+            rest[0] != b'0'
+        }
+    }
+}
+
+#[tactic(auto, unfolding(scene_model::specs::Field::i32_number))]
+pub fn i32_number(field: &[u8]) -> Result<i32, Cause>
+    ensures value { Gives (λ n. n) result (i32_number field.now) }
+    ensures fits { IfOk result (λ n. FitsSigned w32 n) }
+{
+    if is_numeral(field) {
+        return match value_to(field, 2_147_483_647) {
+            Some(n) => Ok(n as i32),
+            None => Err(Cause::OutOfRange),
+        };
+    }
+    if !is_negative_numeral(field) {
+        return Err(Cause::NoNumber);
+    }
+    match value_to(&field[1..], 2_147_483_648) {
+        Some(n) => Ok((-i64::from(n)) as i32),
+        None => Err(Cause::OutOfRange),
+    }
 }

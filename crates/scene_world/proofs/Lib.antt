@@ -1,0 +1,8 @@
+mod Numbered
+mod Places
+mod Facings
+mod Plain
+mod WholeClears
+mod Sorting
+mod Draws
+mod ViewSteps

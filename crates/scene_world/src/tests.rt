@@ -1,0 +1,135 @@
+// Worked scenes: what their items leave in the back buffer.
+ghost use Rattle.std.specs.Prelude.{◌≡◌, ◌≤◌, ◌<◌, length, IfOk};
+
+use crate::{Content, Item, Submit, UniformSet, ViewClear, World};
+use gfx_words::{Handle, Info, Kind, ProgramKind, UniformKind, UniformValue};
+use std::alloc::{AllocError, Global};
+use vertex_layout::{Attr, AttrType, LayoutBuilder};
+
+// A triangle that covers the whole target: x and y of three vertices, in 1/65536, lowest byte first.
+const WHOLE: [u8; 24] = [
+    0, 0, 255, 255, 0, 0, 1, 0, 0, 0, 3, 0, 0, 0, 1, 0, 0, 0, 255, 255, 0, 0, 253, 255,
+];
+
+// A triangle whose left edge is the diagonal from the upper left to the lower right.
+const DIAGONAL: [u8; 24] = [
+    0, 0, 255, 255, 0, 0, 1, 0, 0, 0, 1, 0, 0, 0, 1, 0, 0, 0, 1, 0, 0, 0, 255, 255,
+];
+
+// A triangle with a corner 524,289 to the right, which is past the guard range.
+const FAR: [u8; 24] = [
+    0, 0, 255, 255, 0, 0, 1, 0, 1, 0, 8, 0, 0, 0, 1, 0, 0, 0, 255, 255, 0, 0, 253, 255,
+];
+
+/// A layout of positions, the uniform that solid draws paint, and a solid program.
+fn things(alloc: Global) -> Result<Vec<Content>, AllocError> {
+    let mut all = Vec::new(alloc);
+    let mut builder = LayoutBuilder::new();
+    builder.add(Attr::Position, AttrType::Fixed, 2);
+    match builder.end() {
+        Ok(layout) => all.push(Content::Layout(layout))?,
+        Err(_) => {}
+    }
+    all.push(Content::Uniform {
+        name: b"u_color".to_vec(alloc)?,
+        value: UniformValue::Vec4([0; 4]),
+    })?;
+    all.push(Content::Program(ProgramKind::Solid))?;
+    Ok(all)
+}
+
+fn clears(alloc: Global) -> Result<Vec<ViewClear>, AllocError>
+    ensures { IfOk result (λ c. length c.items ≡ 256) }
+{
+    let clear = ViewClear {
+        flags: 0,
+        color: [0; 4],
+        depth: 0,
+        stencil: 0,
+    };
+    vec![in alloc; clear; 256]
+}
+
+/// A grey draw, or a draw that sets no value.
+fn draw(
+    alloc: Global,
+    view: u16,
+    depth: u32,
+    grey: Option<i32>,
+    bytes: &[u8; 24],
+) -> Result<Item, AllocError>
+    requires { view < 256 }
+{
+    let mut values = Vec::new(alloc);
+    if let Some(grey) = grey {
+        values.push(UniformSet {
+            uniform: Handle::of(Kind::Uniform, 0, 2, Info::Uniform(UniformKind::Vec4)),
+            value: UniformValue::Vec4([grey, grey, grey, 65536]),
+        })?;
+    }
+    let submit = Submit {
+        program: Handle::of(Kind::Program, 0, 3, Info::Plain),
+        depth,
+        layout: Some(Handle::of(Kind::Layout, 0, 1, Info::Plain)),
+    };
+    let bytes = bytes.as_slice().to_vec(alloc)?;
+    Ok(Item {
+        view,
+        submit: Some(submit),
+        bytes,
+        values,
+    })
+}
+
+#[test]
+fn a_diagonal_is_a_left_edge(rt: HostRuntime) -> Result<(), AllocError> {
+    let alloc = rt.alloc();
+    let mut world = World::new(alloc, 4, 4)?;
+    let item = draw(alloc, 0, 0, Some(4112), &DIAGONAL)?;
+    world.draw_frame(alloc, things(alloc)?, &clears(alloc)?, &[&item])?;
+    let mut red = Vec::new(alloc);
+    for color in world.colors() {
+        red.push(color[0])?;
+    }
+    let want: [u8; 16] = [16, 16, 16, 16, 0, 16, 16, 16, 0, 0, 16, 16, 0, 0, 0, 16];
+    assert_eq!(rt; red.as_slice(), want.as_slice());
+    Ok(())
+}
+
+#[test]
+fn draws_come_by_view_key_and_number(rt: HostRuntime) -> Result<(), AllocError> {
+    let alloc = rt.alloc();
+    for (first_view, first_depth, want) in [(1, 0, 16), (0, 5, 16), (0, 3, 32), (0, 2, 32)] {
+        let mut world = World::new(alloc, 1, 1)?;
+        let first = draw(alloc, first_view, first_depth, Some(4112), &WHOLE)?;
+        let second = draw(alloc, 0, 3, Some(8224), &WHOLE)?;
+        world.draw_frame(alloc, things(alloc)?, &clears(alloc)?, &[&first, &second])?;
+        for color in world.colors() {
+            assert_eq!(rt;
+                *color,
+                [want, want, want, 255],
+                "view {first_view} depth {first_depth}"
+            );
+        }
+    }
+    Ok(())
+}
+
+#[test]
+fn a_value_stays_over_frames_and_a_far_corner_paints_nothing(
+    rt: HostRuntime,
+) -> Result<(), AllocError> {
+    let alloc = rt.alloc();
+    let mut world = World::new(alloc, 1, 1)?;
+    let far = draw(alloc, 0, 0, Some(4112), &FAR)?;
+    world.draw_frame(alloc, things(alloc)?, &clears(alloc)?, &[&far])?;
+    for color in world.colors() {
+        assert_eq!(rt; *color, [0; 4]);
+    }
+    let plain = draw(alloc, 0, 0, None, &WHOLE)?;
+    world.draw_frame(alloc, Vec::new(alloc), &clears(alloc)?, &[&plain])?;
+    for color in world.colors() {
+        assert_eq!(rt; *color, [16, 16, 16, 255]);
+    }
+    Ok(())
+}
