@@ -1,49 +1,77 @@
--- Resource lines on the views of the code.
-use Rattle.std.proofs.Common.{◌≡◌, ℕ, ◌+◌, ◌<◌, Bool, true, false, List, map, take, length, get_or, ap, sym, subst, ◌∙◌, refl, arith}
-use Rattle.std.specs.Prelude.{if◌then◌else◌, slice_set}
-use Rattle.std.proofs.lemmas.List.{length-map, map-set}
-use Rattle.gfx_model.specs.Views as views
-use Rattle.scene_model.specs.Scene.{clear_line}
-use Rattle.scene_model.specs.Fold.{Progress, after_line, after_lines}
-use Rattle.scene_text.specs.declared.scene.Clear.{Clear}
-use Rattle.scene_text.specs.declared.scene.ResLine.{ResLine}
-use Rattle.scene_text.specs.declared.scene.ResLine.TheVariants.{ViewClear}
-use Rattle.scene_text.specs.Seen.{clear_seen, resource_line_seen}
-use Rattle.scene_player.specs.Views.{IsPlain, can_clear, is_accepted, clears_after}
-use Rattle.scene_player.proofs.ViewLines.{clear-line}
-use Rattle.scene_player.proofs.Steps.{fold-next}
+-- Lines on the state of the code.
+use Rattle.std.proofs.Common.{◌≡◌, ◌≤◌, ◌+◌, ℕ, List, [], ◌∷◌, ◌++◌, map, length, Option, Some, None, Result, Ok, Err, refl, sym, ap, subst, ◌∙◌, append-nil}
+use Rattle.std.specs.Prelude.{IfSome, MatchOption}
+use Rattle.gfx_model.specs.Words.{Handle}
+use Rattle.gfx_model.specs.Views.{Clear}
+use Rattle.gfx_model.specs.World.{Change}
+use Rattle.gfx_model.specs.Recorder as recorders
+use Rattle.gfx_model.specs.Resources.{Resources, ResourceCall, Refusal, Effect, answer, word_of, set_view_clear, no_change}
+use Rattle.scene_model.specs.Scene.{Name, ResourceLine, clear_line}
+use Rattle.scene_model.specs.Fold as model
+use Rattle.gfx_words.specs.declared.refusals.Refusal as code
+use Rattle.gfx_words.specs.Seen.{refusal_seen}
+use Rattle.scene_calls.specs.Made.{changes_since, Makes, Grows, Sets}
+use Rattle.scene_calls.specs.Recording.{Answers}
+use Rattle.scene_player.specs.Lines.{Answered, Recorded, IsDropped}
 
-choice : (b : Bool) (old : List Clear) (v : ℕ) (c : Clear) → (if b then slice_set (map clear_seen old) v (clear_seen c) else map clear_seen old) ≡ map clear_seen (if b then slice_set old v c else old)
-choice true old v c = sym (map-set clear_seen old v c)
-choice false old v c = refl
+-- the state of the lines by its parts
+abbrev pub state : Resources → model.Bindings → List Change → ℕ → model.Progress
+state resources bindings changes dropped = record { resources = resources; bindings = bindings; changes = changes; dropped = dropped }
 
--- a line on the clears
-pub line-played : (names : List (List ℕ)) (p : Progress) (old : List Clear) (count : ℕ) (line : ResLine) → length old ≡ 256 → IsPlain p (map clear_seen old) count
-    → IsPlain (after_line names p (resource_line_seen line)) (map clear_seen (clears_after old line)) (if is_accepted line then count else count + 1)
-line-played names p old count (ViewClear v c) many plain =
-    let at : length (map clear_seen old) ≡ 256 = length-map old clear_seen ∙ many in
-    subst (λ (cs : List views.Clear). IsPlain (after_line names p (clear_line v (clear_seen c))) cs (if can_clear 256 v (clear_seen c) then count else count + 1)) (choice (can_clear 256 v (clear_seen c)) old v c)
-    (subst (λ (n : ℕ). IsPlain (after_line names p (clear_line v (clear_seen c))) (if can_clear n v (clear_seen c) then slice_set (map clear_seen old) v (clear_seen c) else map clear_seen old) (if can_clear n v (clear_seen c) then count else count + 1)) at
-    (clear-line names p (map clear_seen old) count v (clear_seen c) plain))
+-- a create line, from the answers to its call and to the binding of its name
+pub create-line : (names : List (List ℕ)) (p : model.Progress) (line : ResourceLine) (call : ResourceCall) (n : Name) (first : ℕ) (made : Result Handle code.Refusal) (resources : Resources) (new : model.Progress)
+    → model.created_name line ≡ Some n → model.resource_call p.bindings names line ≡ Some call
+    → p.changes ≡ changes_since first p.resources.things → first ≤ length p.resources.things
+    → Makes made (answer p.resources call) p.resources resources → Grows p.resources.things resources.things
+    → Answered made n (state resources p.bindings (changes_since first resources.things) p.dropped) new
+    → new ≡ model.after_line names p line
+create-line names p line call n first (Ok h) resources new named called changes le makes grows answered =
+    let bound : (n, h) ∷ p.bindings ≡ model.bound_by (model.created_name line) (Some h) p.bindings = ap (λ (o : Option Name). model.bound_by o (Some h) p.bindings) (sym named) in
+    let more : changes_since first resources.things ≡ p.changes ++ changes_since (length p.resources.things) resources.things =
+    grows.since first le ∙ ap (λ (cs : List Change). cs ++ changes_since (length p.resources.things) resources.things) (sym changes) in
+    answered
+    ∙ ap (λ (bs : model.Bindings). state resources bs (changes_since first resources.things) p.dropped) bound
+    ∙ ap (λ (cs : List Change). state resources (model.bound_by (model.created_name line) (Some h) p.bindings) cs p.dropped) more
+    ∙ sym (ap (model.after_call p line) called ∙ ap (model.after_answer p line) makes)
+create-line names p line call n first (Err r) resources new named called changes le makes grows answered =
+    let refused : answer p.resources call ≡ Err answered.0.0 = subst (λ (o : Option Refusal). IfSome o (λ x. answer p.resources call ≡ Err x)) answered.0.1 makes.0 in
+    let same : resources ≡ p.resources = subst (λ (o : Option Refusal). IfSome o (λ _. resources ≡ p.resources)) answered.0.1 makes.1 in
+    answered.1
+    ∙ ap (λ (r : Resources). model.drop_line (state r p.bindings (changes_since first r.things) p.dropped)) same
+    ∙ ap (λ (cs : List Change). model.drop_line (state p.resources p.bindings cs p.dropped)) (sym changes)
+    ∙ sym (ap (model.after_call p line) called ∙ ap (model.after_answer p line) refused)
 
--- one line more of those that were played
-pub line-next : (names : List (List ℕ)) (p : Progress) (lines : List ResLine) (i : ℕ) (d : ResLine) (clears : List Clear) (count : ℕ) → i < length lines → length clears ≡ 256
-    → IsPlain (after_lines names p (map resource_line_seen (take i lines))) (map clear_seen clears) count
-    → IsPlain (after_lines names p (map resource_line_seen (take (i + 1) lines))) (map clear_seen (clears_after clears (get_or lines i d))) (if is_accepted (get_or lines i d) then count else count + 1)
-line-next names p lines i d clears count lt many h =
-    rw (fold-next (after_line names) p resource_line_seen lines i d lt) (line-played names (after_lines names p (map resource_line_seen (take i lines))) clears count (get_or lines i d) many h)
+-- the clear of a view that was set
+pub clear-set : (names : List (List ℕ)) (p : model.Progress) (v : ℕ) (c : Clear) (first : ℕ) (resources : Resources)
+    → p.changes ≡ changes_since first p.resources.things
+    → answer p.resources (set_view_clear v c) ≡ Ok (no_change resources) → resources.things ≡ p.resources.things
+    → state resources p.bindings (changes_since first resources.things) p.dropped ≡ model.after_line names p (clear_line v c)
+clear-set names p v c first resources changes set same =
+    ap (λ ts. state resources p.bindings (changes_since first ts) p.dropped) same
+    ∙ ap (λ (cs : List Change). state resources p.bindings cs p.dropped) (sym changes ∙ sym (append-nil p.changes))
+    ∙ sym (ap (model.after_answer p (clear_line v c)) set)
 
--- one line more, with the number of those that were dropped
-pub line-counted : (names : List (List ℕ)) (p : Progress) (lines : List ResLine) (i : ℕ) (d : ResLine) (old new : List Clear) (count dropped after : ℕ) (ok : Bool) → i < length lines → length old ≡ 256
-    → new ≡ clears_after old (get_or lines i d) → ok ≡ is_accepted (get_or lines i d) → after ≡ (if ok then dropped else dropped + 1)
-    → IsPlain (after_lines names p (map resource_line_seen (take i lines))) (map clear_seen old) (count + dropped)
-    → IsPlain (after_lines names p (map resource_line_seen (take (i + 1) lines))) (map clear_seen new) (count + after)
-line-counted names p lines i d old new count dropped after ok lt many set is more h =
-    let one = line-next names p lines i d old (count + dropped) lt many h in
-    let sum : (if is_accepted (get_or lines i d) then count + dropped else count + dropped + 1) ≡ count + after =
-    ap (λ b. if b then count + dropped else count + dropped + 1) (sym is) ∙ total ok ∙ ap (λ n. count + n) (sym more) in
-    rw set (subst (λ (n : ℕ). IsPlain (after_lines names p (map resource_line_seen (take (i + 1) lines))) (map clear_seen (clears_after old (get_or lines i d))) n) sum one)
-  where
-    total : (b : Bool) → (if b then count + dropped else count + dropped + 1) ≡ count + (if b then dropped else dropped + 1)
-    total true = refl
-    total false = omega arith
+-- the same where it is refused
+pub clear-refused : (names : List (List ℕ)) (p : model.Progress) (v : ℕ) (c : Clear) (first : ℕ) (resources : Resources) (o : Option Refusal)
+    → p.changes ≡ changes_since first p.resources.things
+    → MatchOption o ⊥ (λ x. answer p.resources (set_view_clear v c) ≡ Err x) → resources ≡ p.resources
+    → model.drop_line (state resources p.bindings (changes_since first resources.things) p.dropped) ≡ model.after_line names p (clear_line v c)
+clear-refused names p v c first resources None changes refused same = absurd refused
+clear-refused names p v c first resources (Some x) changes refused same =
+    ap (λ (r : Resources). model.drop_line (state r p.bindings (changes_since first r.things) p.dropped)) same
+    ∙ ap (λ (cs : List Change). model.drop_line (state p.resources p.bindings cs p.dropped)) (sym changes)
+    ∙ sym (ap (model.after_answer p (clear_line v c)) refused)
+
+-- a call of an encoder, from its answer
+pub encoder-line : (resources : Resources) (r : model.Recording) (call : recorders.EncoderCall) (result : Result (Unit {0}) code.Refusal) (recorder : recorders.Recorder) (new : model.Recording)
+    → Answers result (recorders.answer r.recorder (map (word_of resources) (recorders.asked call)) call) r.recorder recorder
+    → Recorded result (record { recorder = recorder; dropped = r.dropped }) new
+    → new ≡ model.after_encoder_call resources r (Some call)
+encoder-line resources r call (Ok u) recorder new answers recorded = recorded ∙ sym (ap (model.recording_after r) answers)
+encoder-line resources r call (Err e) recorder new answers recorded =
+    let words = map (word_of resources) (recorders.asked call) in
+    let refused : recorders.answer r.recorder words call ≡ Err recorded.0.0 = subst (λ (o : Option Refusal). IfSome o (λ x. recorders.answer r.recorder words call ≡ Err x)) recorded.0.1 answers.0 in
+    let same : recorder ≡ r.recorder = subst (λ (o : Option Refusal). IfSome o (λ _. recorder ≡ r.recorder)) recorded.0.1 answers.1 in
+    recorded.1
+    ∙ ap (λ (e : recorders.Recorder). record { recorder = e; dropped = r.dropped + 1 }) same
+    ∙ sym (ap (model.recording_after r) refused)

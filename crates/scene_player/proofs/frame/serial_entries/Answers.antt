@@ -1,12 +1,8 @@
 use Rattle.std.proofs.Common.{arith}
-use Rattle.scene_player.proofs.BundlesRecorded.{serial-next, few-at}
+use Rattle.scene_player.proofs.BundlesRecorded.{serial-next}
 use Rattle.scene_player.proofs.frame.serial_entries.Goals as goal
-
-pub push_entries-requires : goal.push_entries-requires
-push_entries-requires c =
-    rw c.count.ensures (few-at 4294967295 c.args.bundles.now c.loop-encoder.encoder c.index-bundles-encoder.result (omega arith) c.index-bundles-encoder.is c.requires.few)
 
 pub loop-encoder-preserved : goal.loop-encoder-preserved
 loop-encoder-preserved c =
     serial-next c.args.bundles.now c.loop-encoder.encoder c.index-bundles-encoder.result c.loop-encoder.entries.items c.push_entries.new.entries.items c.count.result
-    (omega arith) c.index-bundles-encoder.is c.count.ensures c.loop-encoder.invariant c.in_ok-push_entries.ensures
+    (omega arith) c.index-bundles-encoder.is c.count.ensures.count c.loop-encoder.invariant c.in_ok-push_entries.ensures

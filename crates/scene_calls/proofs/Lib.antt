@@ -1,0 +1,5 @@
+mod Books
+mod CreateLaws
+mod Frames
+mod Places
+mod References
