@@ -1,5 +1,6 @@
 // Whole texts.
 ghost use Rattle.std.specs.Prelude.{◌≡◌, ◌≤◌, length, IfOk};
+ghost use Rattle.scene_model.specs.Scene.{HasSides};
 ghost use Rattle.scene_model.specs.Grammar.{scene_of};
 ghost use Rattle.scene_model.specs.Grammar as model;
 ghost use Rattle.scene_text.specs.Reads.{Reads, at};
@@ -79,6 +80,7 @@ fn at_last_piece(
 pub fn read(alloc: Global, bytes: &[u8]) -> Result<Scene, SceneFault>
     requires { length bytes.now ≤ 4294967294 }
     ensures exact { Reads result (scene_of spoken bytes.now) }
+    ensures sides { IfOk result (λ s. HasSides (scene_seen s)) }
 {
     let mut reading = Reading::new(alloc);
     let mut fields = Vec::new(alloc);
