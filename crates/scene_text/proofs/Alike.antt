@@ -72,8 +72,8 @@ unfolding after_word
 frame_alike names b f = (
   λ r. refl,
   alike_joined (map (resource_fields names) (map resource_line_seen f.before)) (flat_map (block_lines names) (map block_seen f.blocks) ++ beside_lines names b (map resource_line_seen f.beside))
-  (resources_alike names f.before)
-  (alike_joined (flat_map (block_lines names) (map block_seen f.blocks)) (beside_lines names b (map resource_line_seen f.beside)) (blocks_alike names f.blocks) (beside_alike names b f.beside)),
+      (resources_alike names f.before)
+      (alike_joined (flat_map (block_lines names) (map block_seen f.blocks)) (beside_lines names b (map resource_line_seen f.beside)) (blocks_alike names f.blocks) (beside_alike names b f.beside)),
 )
 
 frames_alike : (names : List Field) (besides : List Bool) (fs : List SceneFrame) → AreAlike (frames_lines names besides (map frame_seen fs))

@@ -40,7 +40,7 @@ setting_wider f s e = by (find_word spoken.settings f) refl e
 view_wider : (names : List BoundName) (fs : List Field) (l : Named ResourceLine) → view_form spoken names fs ≡ Ok l → view_form whole_language names fs ≡ Ok l
 view_wider names fs l e =
     stays (has_field 1 fs) _ _ l (λ a. stays (u16_number (field fs 1)) _ _ l (λ v. stays (has_field 2 fs) _ _ l (λ b.
-        follows (word_in spoken.settings (field fs 2)) (word_in settings (field fs 2)) (λ s. are_filled fs >>= λ _. setting_form names fs v s >>= λ k. Ok (k, names)) l (λ s. setting_wider (field fs 2) s)))) e
+    follows (word_in spoken.settings (field fs 2)) (word_in settings (field fs 2)) (λ s. are_filled fs >>= λ _. setting_form names fs v s >>= λ k. Ok (k, names)) l (λ s. setting_wider (field fs 2) s)))) e
 
 resource_wider : (r q : Reading) (fs : List Field) (w : Word) → ((l : Named ResourceLine) → resource_form spoken r.names fs w ≡ Ok l → resource_form whole_language r.names fs w ≡ Ok l) → after_resource spoken r fs w ≡ Ok q → after_resource whole_language r fs w ≡ Ok q
 unfolding after_resource

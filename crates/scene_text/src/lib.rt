@@ -36,4 +36,8 @@ pub use sequence::Sequence;
 pub use text::read;
 
 #[cfg(test)]
+mod form_tests;
+#[cfg(test)]
 mod tests;
+#[cfg(test)]
+mod writing_tests;

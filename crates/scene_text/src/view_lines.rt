@@ -58,4 +58,3 @@ pub fn view(names: &Names, fields: &[&[u8]]) -> Result<ResLine, Cause>
     let line = view_setting(names, fields, view, setting)?;
     Ok(line)
 }
-
