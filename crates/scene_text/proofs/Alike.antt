@@ -1,10 +1,9 @@
 -- Lines that this reader's language and the whole one read alike, and texts of such lines.
-use Rattle.std.proofs.Common.{◌≡◌, ℕ, ◌+◌, Bool, true, false, not, cond, List, [], ◌∷◌, ◌++◌, map, filter, Result, Ok, Err, refl, ap, sym, ◌∙◌}
+use Rattle.std.proofs.Common.{◌≡◌, ℕ, ◌+◌, Bool, true, false, not, cond, List, [], ◌∷◌, ◌++◌, map, filter, Ok, Err, refl, ap, ◌∙◌}
 use Rattle.std.specs.Prelude.{codes, flat_map}
 use Rattle.std.specs.List.{list_all}
-use Rattle.scene_model.specs.Scene.{Scene}
 use Rattle.scene_model.specs.Field.{Read, ◌>>=◌, bad_byte, split_at, find_word, word_in}
-use Rattle.scene_model.specs.Grammar.{Field, field, Reading, Fault, nothing_read, words, whole_language, unless, is_text_byte, is_skipped, after_resource, after_encoder_line, after_word, after_fields, after_line, line_read, read_pieces, scene_of}
+use Rattle.scene_model.specs.Grammar.{Field, field, Reading, nothing_read, words, whole_language, unless, is_text_byte, is_skipped, after_resource, after_encoder_line, after_word, after_fields, after_line, line_read, read_pieces, scene_of}
 use Rattle.gfx_model.specs.Recorder.{Room}
 use Rattle.spelling_model.specs.LineSpelling.{resource_fields, encoder_fields, block_lines, beside_lines, frame_lines, frames_lines, room_lines, head_lines, spelled_lines}
 use Rattle.spelling_model.specs.Spelling.{kept_fields}

@@ -1,10 +1,10 @@
 -- What this reader's language reads is read by the whole one too.
-use Rattle.std.proofs.Common.{◌≡◌, ℕ, ◌+◌, Bool, true, false, not, cond, List, [], ◌∷◌, Option, Some, None, Result, Ok, Err, refl, ap, sym, ◌∙◌}
+use Rattle.std.proofs.Common.{◌≡◌, ℕ, ◌+◌, Bool, true, false, not, cond, List, [], ◌∷◌, Option, Some, None, Ok, Err, refl, ap, ◌∙◌}
 use Rattle.std.specs.List.{list_all}
 use Rattle.scene_model.specs.Scene.{Scene}
-use Rattle.scene_model.specs.Field.{Read, ◌>>=◌, bad_byte, misplaced_word, wrong_field_count, unknown_version, BoundName, split_at, find_word, word_in, or_misspelt, u16_number}
+use Rattle.scene_model.specs.Field.{Read, ◌>>=◌, bad_byte, misplaced_word, unknown_version, BoundName, split_at, find_word, word_in, or_misspelt, u16_number}
 use Rattle.scene_model.specs.Scene.{ResourceLine}
-use Rattle.scene_model.specs.Grammar.{Field, field, Word, scene_word, size_word, encoders_word, room_word, frame_word, encoder_word, beside_word, done_word, journal_word, layout_word, vertex_buffer_word, index_buffer_word, texture_word, frame_buffer_word, program_word, uniform_word, update_word, texel_update_word, destroy_word, view_word, order_word, state_word, stencil_word, scissor_word, transform_word, vertices_word, indices_word, transient_vertices_word, transient_indices_word, bind_word, set_word, submit_word, touch_word, blit_word, Setting, words, settings, whole_language, Named, Reading, Fault, nothing_read, with_names, with_resource_line, unless, has_field, are_filled, setting_form, view_form, resource_form, is_text_byte, is_skipped, is_other_version, is_in_place, are_filled_before, after_resource, after_word, after_fields, after_line, line_read, read_pieces, scene_of}
+use Rattle.scene_model.specs.Grammar.{Field, field, Word, scene_word, size_word, encoders_word, room_word, frame_word, encoder_word, beside_word, done_word, journal_word, layout_word, vertex_buffer_word, index_buffer_word, texture_word, frame_buffer_word, program_word, uniform_word, update_word, texel_update_word, destroy_word, view_word, order_word, state_word, stencil_word, scissor_word, transform_word, vertices_word, indices_word, transient_vertices_word, transient_indices_word, bind_word, set_word, submit_word, touch_word, blit_word, Setting, words, settings, whole_language, Named, Reading, nothing_read, with_names, with_resource_line, unless, has_field, are_filled, setting_form, view_form, resource_form, is_text_byte, is_skipped, is_other_version, is_in_place, are_filled_before, after_resource, after_word, after_fields, after_line, line_read, read_pieces, scene_of}
 use Rattle.scene_text.specs.Spoken.{spoken}
 use Rattle.scene_text.proofs.WordTables.{AreRows, found_in}
 
