@@ -184,8 +184,17 @@ fn names_are_bound_once_but_for_uniforms(rt: HostRuntime) {
     check(&rt, rt.alloc(), &NAMES);
 }
 
-static THREE_NAMES: &[u8] =
-    b"scene 1\nsize 1 1\nencoders 1\nframe\nuniform u int\nprogram s solid\nuniform u vec4\nbeside\nprogram t color\ndone\n";
+static THREE_NAMES: &[u8] = b"\
+scene 1\n\
+size 1 1\n\
+encoders 1\n\
+frame\n\
+uniform u int\n\
+program s solid\n\
+uniform u vec4\n\
+beside\n\
+program t color\n\
+done\n";
 
 fn three_names(alloc: Global) -> Result<Scene, SceneFault> {
     if THREE_NAMES.len() > 1_000 {

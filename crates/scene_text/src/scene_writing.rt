@@ -155,8 +155,8 @@ fn put_head(text: &mut Vec<u8>, scene: &Scene) -> Result<(), AllocError>
 
 /// The text of a scene: the `room` line always, `beside` only where lines follow it, and no skipped lines.
 ///
-/// A scene that [`read`](crate::read) answers is read again from it. So is any scene whose numbers are in range, whose
-/// names are bound before they are used, and whose lines stand in order.
+/// A scene that some text stands for, so each that `read` answers, is read again from what is written. Any other, as one
+/// with a side of 0, is spelled alike, and nothing is said of how that is read.
 ///
 /// # Errors
 ///

@@ -18,9 +18,13 @@ use vertex_layout::{Attr, AttrType};
 pub enum Spelled<'a> {
     /// A word or a name.
     Text(&'a [u8]),
+    /// A number in decimal digits.
     Number(u64),
+    /// The same behind `-` where it is below 0.
     Signed(i32),
+    /// Bytes as pairs of digits, or `-` for none.
     Hex(&'a [u8]),
+    /// Red, green, blue and alpha as pairs of digits.
     Color([u8; 4]),
 }
 

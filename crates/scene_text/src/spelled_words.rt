@@ -7,6 +7,7 @@ ghost use Rattle.scene_text.specs.Seen.{name_seen};
 use crate::scene::SceneName;
 use gfx_words::{ProgramKind, UniformKind};
 
+/// The word of a kind of program.
 pub fn program_text(kind: ProgramKind) -> &'static [u8]
     ensures { result.now ≡ program_word (program_seen kind) }
 {
@@ -18,6 +19,7 @@ pub fn program_text(kind: ProgramKind) -> &'static [u8]
     }
 }
 
+/// The word of a kind of uniform.
 pub fn uniform_text(kind: UniformKind) -> &'static [u8]
     ensures { result.now ≡ uniform_kind_word (uniform_seen kind) }
 {

@@ -5,16 +5,81 @@ use std::alloc::Global;
 use std::test::Fail;
 
 // A scene of all forms: with skipped lines, and with a `beside` line that nothing follows.
-static ALL_FORMS: &[u8] =
-    b"# all forms\nscene 1\nsize 2048 1\nencoders 2\nroom 1 0 8191\n\nframe\nlayout p position:fixed:2 color0:u8:4 skip:1\nlayout q normal:i16:3 tangent:u8:1 texcoord1:fixed:2\nprogram s solid\nuniform u vec4\nuniform u int\nview 65535 clear 7 00a9ff10 16777215 255\nencoder 0\ntvertices p 00ff0a\ntvertices q -\nset u -2147483648\nset u 1 -20 300 2147483647\nsubmit 65535 s 4294967295 255\ntouch 9\nencoder 1\nbeside\nprogram c color\nprogram t texture\nprogram tc texcolor\nframe\n#\tframe 2\nencoder 1\nsubmit 0 tc 10 0\nbeside\ndone\n# end\n";
+static ALL_FORMS: &[u8] = b"\
+# all forms\n\
+scene 1\n\
+size 2048 1\n\
+encoders 2\n\
+room 1 0 8191\n\
+\n\
+frame\n\
+layout p position:fixed:2 color0:u8:4 skip:1\n\
+layout q normal:i16:3 tangent:u8:1 texcoord1:fixed:2\n\
+program s solid\n\
+uniform u vec4\n\
+uniform u int\n\
+view 65535 clear 7 00a9ff10 16777215 255\n\
+encoder 0\n\
+tvertices p 00ff0a\n\
+tvertices q -\n\
+set u -2147483648\n\
+set u 1 -20 300 2147483647\n\
+submit 65535 s 4294967295 255\n\
+touch 9\n\
+encoder 1\n\
+beside\n\
+program c color\n\
+program t texture\n\
+program tc texcolor\n\
+frame\n\
+#\tframe 2\n\
+encoder 1\n\
+submit 0 tc 10 0\n\
+beside\n\
+done\n\
+# end\n";
 
 // The same scene as the formats have it, without them.
-static WRITTEN: &[u8] =
-    b"scene 1\nsize 2048 1\nencoders 2\nroom 1 0 8191\nframe\nlayout p position:fixed:2 color0:u8:4 skip:1\nlayout q normal:i16:3 tangent:u8:1 texcoord1:fixed:2\nprogram s solid\nuniform u vec4\nuniform u int\nview 65535 clear 7 00a9ff10 16777215 255\nencoder 0\ntvertices p 00ff0a\ntvertices q -\nset u -2147483648\nset u 1 -20 300 2147483647\nsubmit 65535 s 4294967295 255\ntouch 9\nencoder 1\nbeside\nprogram c color\nprogram t texture\nprogram tc texcolor\nframe\nencoder 1\nsubmit 0 tc 10 0\ndone\n";
+static WRITTEN: &[u8] = b"\
+scene 1\n\
+size 2048 1\n\
+encoders 2\n\
+room 1 0 8191\n\
+frame\n\
+layout p position:fixed:2 color0:u8:4 skip:1\n\
+layout q normal:i16:3 tangent:u8:1 texcoord1:fixed:2\n\
+program s solid\n\
+uniform u vec4\n\
+uniform u int\n\
+view 65535 clear 7 00a9ff10 16777215 255\n\
+encoder 0\n\
+tvertices p 00ff0a\n\
+tvertices q -\n\
+set u -2147483648\n\
+set u 1 -20 300 2147483647\n\
+submit 65535 s 4294967295 255\n\
+touch 9\n\
+encoder 1\n\
+beside\n\
+program c color\n\
+program t texture\n\
+program tc texcolor\n\
+frame\n\
+encoder 1\n\
+submit 0 tc 10 0\n\
+done\n";
 
 // The first scene with the plain room, which its text leaves out.
-static FIRST: &[u8] =
-    b"scene 1\nsize 2 2\nencoders 1\nroom 8191 262144 4096\nframe\nview 0 clear 1 ff0000ff 0 0\nencoder 0\ntouch 0\ndone\n";
+static FIRST: &[u8] = b"\
+scene 1\n\
+size 2 2\n\
+encoders 1\n\
+room 8191 262144 4096\n\
+frame\n\
+view 0 clear 1 ff0000ff 0 0\n\
+encoder 0\n\
+touch 0\n\
+done\n";
 
 #[test]
 fn every_form_is_written_as_the_formats_have_it(rt: HostRuntime) -> Result<(), Fail> {
