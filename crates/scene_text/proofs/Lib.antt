@@ -6,3 +6,8 @@ pub mod Lines
 pub mod TableDigits
 pub mod WordTables
 pub mod LineParts
+pub mod LineTails
+pub mod WrittenScenes
+pub mod Alike
+pub mod Wider
+pub mod Again

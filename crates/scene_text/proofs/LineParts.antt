@@ -1,8 +1,8 @@
 -- A line that is not skipped is read by its fields.
-use Rattle.std.proofs.Common.{◌≡◌, ℕ, Bool, true, false, List, Option, refl, ap, sym, ◌∙◌}
+use Rattle.std.proofs.Common.{◌≡◌, ℕ, true, false, List, Option, refl, ap, sym, ◌∙◌}
 use Rattle.std.specs.List.{list_all}
 use Rattle.scene_model.specs.Field.{split_at}
-use Rattle.scene_model.specs.Grammar.{Reading, Field, Word, field, has_count, is_skipped, is_text_byte, after_fields, line_read}
+use Rattle.scene_model.specs.Grammar.{Reading, Field, Word, field, is_skipped, is_text_byte, after_fields, line_read}
 use Rattle.scene_text.specs.Spoken.{spoken, word_of, after_parts}
 
 -- the fields of a line with the word that the first one is

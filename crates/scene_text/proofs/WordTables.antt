@@ -1,16 +1,16 @@
 -- A word that a part of a table has is the whole table's.
-use Rattle.std.proofs.Common.{◌≡◌, ℕ, Bool, true, false, cond, List, [], ◌∷◌, Option, Some, bytes_eq, refl, ap, sym, ◌∙◌}
+use Rattle.std.proofs.Common.{◌≡◌, ℕ, Bool, true, false, cond, List, [], ◌∷◌, Some, bytes_eq, refl, ap, sym, ◌∙◌}
 use Rattle.std.proofs.lemmas.Slice.Eq.{bytes_eq-Decides}
 use Rattle.scene_model.specs.Field.{find_word}
 use Rattle.scene_model.specs.Grammar.{Word}
 use Rattle.scene_text.specs.Spoken.{spoken, encoder_words, word_of}
 
 -- each word of a table has its meaning of the whole one
-abbrev pub AreRows : List (List ℕ × Word) → List (List ℕ × Word) → Type 0
+abbrev pub AreRows : {A : Type 0} → List (List ℕ × A) → List (List ℕ × A) → Type 0
 AreRows [] all = Unit {0}
 AreRows (r ∷ rest) all = (find_word all r.0 ≡ Some r.1) × AreRows rest all
 
-pub found_in : (sub all : List (List ℕ × Word)) (f : List ℕ) (w : Word) → AreRows sub all → find_word sub f ≡ Some w → find_word all f ≡ Some w
+pub found_in : {A : Type 0} (sub all : List (List ℕ × A)) (f : List ℕ) (w : A) → AreRows sub all → find_word sub f ≡ Some w → find_word all f ≡ Some w
 found_in [] all f w rows e = absurd (cc e)
 found_in (r ∷ rest) all f w rows e = by (bytes_eq r.0 f) refl e (λ h. found_in rest all f w rows.1 h)
   where

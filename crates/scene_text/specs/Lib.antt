@@ -8,3 +8,5 @@ pub mod Digits
 pub mod Fields
 pub mod Names
 pub mod SeenNames
+pub mod Spelled
+pub mod WrittenParts

@@ -1,7 +1,8 @@
 -- The language that this reader knows.
-use Rattle.std.specs.Prelude.{ℕ, List, [], ◌∷◌, Option, codes, take, drop}
+use Rattle.std.specs.Prelude.{◌≡◌, ℕ, List, [], ◌∷◌, Option, Ok, codes, take, drop}
+use Rattle.scene_model.specs.Scene.{Scene}
 use Rattle.scene_model.specs.Field.{Read, programs, uniform_kinds, find_word}
-use Rattle.scene_model.specs.Grammar.{Language, Word, scene_word, size_word, encoders_word, room_word, frame_word, encoder_word, beside_word, done_word, journal_word, layout_word, program_word, uniform_word, view_word, transient_vertices_word, set_word, submit_word, touch_word, clear_setting, Field, field, Reading, after_fields}
+use Rattle.scene_model.specs.Grammar.{Language, Word, scene_word, size_word, encoders_word, room_word, frame_word, encoder_word, beside_word, done_word, journal_word, layout_word, program_word, uniform_word, view_word, transient_vertices_word, set_word, submit_word, touch_word, clear_setting, Field, field, Reading, after_fields, scene_of}
 
 -- each word has its meaning of the whole language
 abbrev pub spoken : Language
@@ -34,3 +35,7 @@ resource_words = take 4 (drop 9 spoken.words)
 
 abbrev pub encoder_words : List (List ℕ × Word)
 encoder_words = drop 13 spoken.words
+
+-- some text of this language is the scene
+abbrev pub IsSpoken : Scene → Type 0
+IsSpoken s = (text : List ℕ) × (scene_of spoken text ≡ Ok s)

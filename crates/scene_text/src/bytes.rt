@@ -94,4 +94,3 @@ pub fn hex_bytes(alloc: Global, field: &[u8]) -> Result<Sequence<u8>, LineFault>
     let bytes = pairs(alloc, field)?;
     Ok(Sequence::from_vec(bytes))
 }
-

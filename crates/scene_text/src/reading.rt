@@ -281,14 +281,11 @@ impl Reading {
             Word::Beside => self.after_beside(fields)?,
             Word::Done => self.after_done(fields)?,
             Word::Journal => return Err(LineFault::Bad(Cause::MisplacedWord)),
-            Word::Layout
-            | Word::Program
-            | Word::Uniform
-            | Word::View => self.after_resource(alloc, fields, word)?,
-            Word::TransientVertices
-            | Word::Set
-            | Word::Submit
-            | Word::Touch => self.after_encoder_line(alloc, fields, word)?,
+            Word::Layout | Word::Program | Word::Uniform | Word::View => self.after_resource(
+                alloc, fields, word,
+            )?,
+            Word::TransientVertices | Word::Set | Word::Submit | Word::Touch =>
+                self.after_encoder_line(alloc, fields, word)?,
         }
         Ok(())
     }

@@ -76,7 +76,12 @@ fn at_last_piece(
 
 /// The scene that the bytes are, or the first line that fails, counted from 1, with its first cause.
 ///
-/// The lines are those of the scene text of `docs/behaviour.md`. One pass over the bytes, and no line is copied.
+/// The lines are those of the scene text of `docs/formats.md` that are built. One pass over the bytes, and no line is
+/// copied. The bytes are at most 4,294,967,294.
+///
+/// # Errors
+///
+/// `SceneFault::At` where the bytes are no scene, and `SceneFault::OutOfMemory` where no memory is left for it.
 pub fn read(alloc: Global, bytes: &[u8]) -> Result<Scene, SceneFault>
     requires { length bytes.now ≤ 4294967294 }
     ensures exact { Reads result (scene_of spoken bytes.now) }

@@ -1,4 +1,4 @@
-// The forms of view lines and of the order of views.
+// The forms of view lines.
 ghost use Rattle.scene_model.specs.Grammar.{clear_fields, setting_form, view_form};
 ghost use Rattle.scene_text.specs.Fields.{texts};
 ghost use Rattle.scene_text.specs.Gives.{Gives};
@@ -58,4 +58,3 @@ pub fn view(names: &Names, fields: &[&[u8]]) -> Result<ResLine, Cause>
     let line = view_setting(names, fields, view, setting)?;
     Ok(line)
 }
-
