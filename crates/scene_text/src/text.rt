@@ -1,5 +1,6 @@
 // Whole texts.
 ghost use Rattle.std.specs.Prelude.{◌≡◌, ◌≤◌, length, IfOk};
+ghost use Rattle.scene_model.specs.Scene.{HasSides};
 ghost use Rattle.scene_model.specs.Grammar.{scene_of};
 ghost use Rattle.scene_model.specs.Grammar as model;
 ghost use Rattle.scene_text.specs.Reads.{Reads, at};
@@ -76,7 +77,8 @@ fn at_last_piece(
 /// The scene that the bytes are, or the first line that fails, counted from 1, with its first cause.
 ///
 /// The lines are those of the scene text of `docs/formats.md` that are built. One pass over the bytes, and no line is
-/// copied. The bytes are at most 4,294,967,294.
+/// copied. The bytes are at most 4,294,967,294. What is read has sides of 1 to 2,048 pixels and at most 1,024
+/// frames.
 ///
 /// # Errors
 ///
@@ -84,6 +86,8 @@ fn at_last_piece(
 pub fn read(alloc: Global, bytes: &[u8]) -> Result<Scene, SceneFault>
     requires { length bytes.now ≤ 4294967294 }
     ensures exact { Reads result (scene_of spoken bytes.now) }
+    ensures sides { IfOk result (λ s. HasSides (scene_seen s)) }
+    ensures few { IfOk result (λ s. length (scene_seen s).frames ≤ 1024) }
 {
     let mut reading = Reading::new(alloc);
     let mut fields = Vec::new(alloc);
