@@ -1,10 +1,12 @@
 pub mod SerialLaws
 pub mod Pieces
 pub mod Steps
+pub mod Dropped
 pub mod LinesPlayed
 pub mod NamesBound
 pub mod Counts
 pub mod Frames
+pub mod FramesComposed
 pub mod Standing
 pub mod BundlesRecorded
 pub mod ItemsOfFrame

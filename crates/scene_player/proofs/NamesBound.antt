@@ -22,6 +22,9 @@ widened (x ∷ xs) n (suc name) = widened xs n name
 pub set-at : (xs : List (Option Handle)) (place name : ℕ) (h : Handle) → place < length xs → slice_index_or (slice_set xs place (Some h)) name None ≡ (if place == name then Some h else slice_index_or xs name None)
 set-at [] place name h lt = absurd (omega arith)
 set-at (x ∷ xs) zero zero h lt = refl
-set-at (x ∷ xs) zero (suc name) h lt = refl
-set-at (x ∷ xs) (suc place) zero h lt = refl
-set-at (x ∷ xs) (suc place) (suc name) h lt = set-at xs place name h (omega arith)
+set-at (x ∷ xs) zero (suc name) h lt = grind arith
+set-at (x ∷ xs) (suc place) zero h lt = grind arith
+set-at (x ∷ xs) (suc place) (suc name) h lt = set-at xs place name h (omega arith) ∙ ap (λ b. if b then Some h else slice_index_or xs name None) (same place name)
+  where
+    same : (m n : ℕ) → (m == n) ≡ (suc m == suc n)
+    same m n = grind arith

@@ -6,4 +6,3 @@ pub mod Frame
 pub mod Rendered
 pub mod Ended
 pub mod Shown
-pub mod Sides

@@ -1,6 +1,8 @@
 //! Plays a scene: from the bytes of its text to the bytes of its pictures and notes.
 #![tactic(auto)]
 
+mod composing;
+mod dropping;
 mod frame;
 mod input;
 mod layouts;

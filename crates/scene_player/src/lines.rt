@@ -12,6 +12,7 @@ ghost use Rattle.scene_world.specs.Cleared as cleared;
 ghost use Rattle.scene_world.specs.Painted.{views_of_clears};
 ghost use Rattle.scene_player.specs.Lines.{started, progress_seen, Answered};
 
+use crate::dropping::drops;
 use crate::layouts::layout_of;
 use crate::names::Names;
 use crate::progress::Progress;
@@ -79,6 +80,7 @@ impl Progress {
 
     /// The clears of the views. No thing dies.
     pub(crate) fn clears(&self) -> &[ViewClear]
+        ensures many { length result.now ≡ 256 }
         ensures views { self.now.resources.views ≡ views_of_clears (map cleared.clear_seen result.now) }
         ensures alive { (frame : ℕ) → deaths_in frame self.now.resources ≡ [] }
     {
@@ -110,8 +112,10 @@ impl Progress {
     {
         match made {
             Ok(handle) => self.names.bind(name, handle),
-            Err(Refusal::OutOfMemory) => Err(AllocError),
-            Err(_) => {
+            Err(refusal) => {
+                if !drops(&refusal) {
+                    return Err(AllocError);
+                }
                 self.drop_line();
                 Ok(())
             }

@@ -1,15 +1,17 @@
 // Plays the frames of a scene, one after another.
-ghost use Rattle.std.specs.Prelude.{◌≡◌, ◌≤◌, ◌++◌, ◌∷◌, [], map, IfOk, OnErr};
+ghost use Rattle.std.specs.Prelude.{◌≡◌, ◌≤◌, ◌++◌, ◌∷◌, [], map, length, IfOk, OnErr};
 ghost use Rattle.gfx_model.specs.World.{first_world};
-ghost use Rattle.scene_player.specs.Sides.{HasSides};
+ghost use Rattle.scene_model.specs.Scene.{HasSides};
 ghost use Rattle.scene_model.specs.Output.{frame_note};
 ghost use Rattle.io_edge.specs.Edge.{Rose};
 ghost use Rattle.scene_text.specs.Seen.{scene_seen, journal_seen};
 ghost use Rattle.scene_player.specs.Lines.{started, progress_seen};
 ghost use Rattle.scene_player.specs.Frame.{plan_seen, IsComposed};
+ghost use Rattle.scene_player.specs.Rendered.{Fits};
 ghost use Rattle.scene_player.specs.Shown.{IsShown};
 
-use crate::frame::{Frame, compose};
+use crate::composing::compose;
+use crate::frame::Frame;
 use crate::notes::push_frame;
 use crate::renderer::{Canvas, Outcome};
 use crate::progress::Progress;
@@ -52,6 +54,7 @@ fn start(alloc: Global, scene: &Scene) -> Result<(Progress, Canvas), AllocError>
     requires { HasSides (scene_seen scene.now) }
     ensures progress { IfOk result (λ r. progress_seen r.0 ≡ started) }
     ensures world { IfOk result (λ r. r.1.world ≡ first_world scene.now.width scene.now.height) }
+    ensures fits { IfOk result (λ r. Fits r.1) }
 {
     let progress = Progress::new(alloc)?;
     let canvas = Canvas::new(alloc, scene.width, scene.height)?;
@@ -60,7 +63,8 @@ fn start(alloc: Global, scene: &Scene) -> Result<(Progress, Canvas), AllocError>
 
 /// Plays all frames, and puts a picture for each.
 pub(crate) fn play_frames<P: Sink>(alloc: Global, scene: &Scene, pictures: &mut P) -> FramesPlayed
-    requires { HasSides (scene_seen scene.now) }
+    requires sides { HasSides (scene_seen scene.now) }
+    requires few { length (scene_seen scene.now).frames ≤ 1024 }
     ensures shown { IsShown result.outcome (scene_seen scene.now) (P.held pictures.old) (P.held pictures.new)
         (journal_seen result.journal) result.report.items
         (Rose (P.faults pictures.old) (P.faults pictures.new)) }

@@ -10,6 +10,7 @@ ghost use Rattle.scene_text.specs.Seen.{encoder_line_seen, block_seen};
 ghost use Rattle.scene_calls.specs.Recording as calls;
 ghost use Rattle.scene_player.specs.Lines.{progress_seen, Recorded};
 
+use crate::dropping::drops;
 use crate::progress::Progress;
 use gfx_words::{Refusal, UniformValue};
 use scene_calls::Recorder;
@@ -84,8 +85,10 @@ impl Recording {
     {
         match answer {
             Ok(()) => Ok(()),
-            Err(Refusal::OutOfMemory) => Err(AllocError),
-            Err(_) => {
+            Err(refusal) => {
+                if !drops(&refusal) {
+                    return Err(AllocError);
+                }
                 self.drop_line();
                 Ok(())
             }

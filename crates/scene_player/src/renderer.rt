@@ -3,9 +3,10 @@ ghost use Rattle.std.specs.Prelude.{◌≡◌, ◌*◌, ◌≤◌, ◌+◌, ℕ,
 ghost use Rattle.gfx_model.specs.World.{first_world, frame_step};
 ghost use Rattle.io_edge.specs.Edge.{Rose};
 ghost use Rattle.scene_model.specs.Output.{picture_text};
-ghost use Rattle.scene_player.specs.Rendered.{content_seen, IsRendered};
+ghost use Rattle.scene_player.specs.Rendered.{Fits, content_seen, IsRendered};
 
-use crate::frame::{Frame, items_of};
+use crate::composing::items_of;
+use crate::frame::Frame;
 use crate::output::put_all;
 use crate::picture::PictureText;
 use io_edge::Sink;
@@ -27,9 +28,7 @@ pub(crate) enum Outcome {
 #[derive(Drop)]
 pub(crate) struct Canvas {
     pub(crate) world: World,
-    text: PictureText,
-    ghost wide: { text.width ≡ world.back.color.width },
-    ghost high: { text.height ≡ world.back.color.height },
+    pub(crate) text: PictureText,
 }
 
 impl Canvas {
@@ -39,7 +38,8 @@ impl Canvas {
         requires high { 1 ≤ height }
         requires narrow { width ≤ 2048 }
         requires low { height ≤ 2048 }
-        ensures { IfOk result (λ c. c.world ≡ first_world width height) }
+        ensures world { IfOk result (λ c. c.world ≡ first_world width height) }
+        ensures fits { IfOk result (λ c. Fits c) }
     {
         let world = World::new(alloc, width, height)?;
         let text = PictureText::new(alloc, width, height)?;
@@ -48,6 +48,8 @@ impl Canvas {
 
     /// Draws a frame, and writes the text of its picture.
     fn draw(&mut self, alloc: Global, frame: Frame) -> Result<(), AllocError>
+        requires { Fits self.old }
+        ensures fits { OnOk result (Fits self.new) }
         ensures world { OnOk result (frame.first ≡ length self.old.world.things → self.new.world ≡ frame_step self.old.world (content_seen frame)) }
         ensures count { OnOk result (length self.new.world.things ≡ length self.old.world.things + length frame.created.items) }
         ensures text { OnOk result (self.new.text.text.items ≡ picture_text self.new.world.back.color) }
@@ -72,9 +74,10 @@ impl Canvas {
         frame: Frame,
         pictures: &mut P,
     ) -> Outcome
+        requires { Fits self.old }
         // From a world to the next.
         ensures rendered { frame.first ≡ length self.old.world.things
-            → IsRendered result (frame_step self.old.world (content_seen frame)) self.new.world (length self.old.world.things + length frame.created.items)
+            → IsRendered result (frame_step self.old.world (content_seen frame)) self.new (length self.old.world.things + length frame.created.items)
             (P.held pictures.old) (P.held pictures.new)
             (Rose (P.faults pictures.old) (P.faults pictures.new)) }
         ensures sure { P.sure pictures.new ≡ P.sure pictures.old }

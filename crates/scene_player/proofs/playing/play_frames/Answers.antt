@@ -6,6 +6,7 @@ use Rattle.scene_player.proofs.playing.play_frames.Goals as goal
 pub loop-number-init : goal.loop-number-init
 loop-number-init g c = record {
   stands = rw (c.new-lists.ensures.items, c.new-report.ensures.items) (start c.args.scene.now c.in-Ok.first.0 c.in-Ok.first.1.world (g.P.Sink.held c.args.pictures.now) c.in-Ok.ensures.progress c.in-Ok.ensures.world (with_back-nothing (g.P.Sink.held c.args.pictures.now)));
+  fits = c.in-Ok.ensures.fits;
   sure = refl;
   faults = omega arith;
 }
@@ -59,6 +60,7 @@ loop-number-preserved g c =
     stands rest composed rendered.0 rendered.1 rendered.2 c.in-Ok-next_frame.ensures.note in
     record {
       stands = rw (lists-more c.loop-number.lists.items c.next_frame.new.journal.items frame.journal.items c.in-Ok-next_frame.ensures.pushed) after;
+      fits = rendered.3;
       sure = c.render.ensures.sure ∙ c.loop-number.invariant.sure;
       faults = omega (arith, c.render.ensures.no_fewer, c.loop-number.invariant.faults);
     }

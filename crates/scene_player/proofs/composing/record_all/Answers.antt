@@ -4,7 +4,7 @@ use Rattle.scene_model.specs.Fold.{lines_of}
 use Rattle.scene_text.specs.Seen.{block_seen, encoder_line_seen}
 use Rattle.scene_player.specs.Lines.{progress_seen}
 use Rattle.scene_player.proofs.BundlesRecorded.{recorded-more}
-use Rattle.scene_player.proofs.frame.record_all.Goals as goal
+use Rattle.scene_player.proofs.composing.record_all.Goals as goal
 
 pub loop-encoder-preserved : goal.loop-encoder-preserved
 loop-encoder-preserved c =

@@ -1,6 +1,6 @@
 use Rattle.std.proofs.Common.{arith}
 use Rattle.scene_player.proofs.BundlesRecorded.{serial-next}
-use Rattle.scene_player.proofs.frame.serial_entries.Goals as goal
+use Rattle.scene_player.proofs.composing.serial_entries.Goals as goal
 
 pub loop-encoder-preserved : goal.loop-encoder-preserved
 loop-encoder-preserved c =

@@ -3,7 +3,7 @@ use Rattle.std.specs.List.{range_with_len}
 use Rattle.scene_model.specs.Fold.{accepted_of, recording_of}
 use Rattle.scene_text.specs.Seen.{scene_seen, frame_seen}
 use Rattle.scene_player.specs.Lines.{progress_seen}
-use Rattle.scene_player.proofs.frame.record_all.Given as goal
+use Rattle.scene_player.proofs.composing.record_all.Given as goal
 
 abbrev pub invariant-loop-encoder : goal.invariant-loop-encoder
 invariant-loop-encoder l = record {
