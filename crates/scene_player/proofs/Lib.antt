@@ -1,9 +1,6 @@
 pub mod SerialLaws
 pub mod Pieces
 pub mod Steps
-pub mod Dropped
-pub mod LinesPlayed
-pub mod NamesBound
 pub mod Counts
 pub mod Frames
 pub mod FramesComposed

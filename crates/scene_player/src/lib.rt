@@ -19,6 +19,8 @@ mod status;
 #[cfg(test)]
 mod tests;
 mod top;
+#[cfg(test)]
+mod triangle_tests;
 mod words;
 
 pub use status::Status;
