@@ -1,0 +1,4 @@
+mod Books
+mod CreateLaws
+mod Frames
+mod Places
