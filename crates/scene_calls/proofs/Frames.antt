@@ -1,7 +1,8 @@
 -- A frame's start and a view's clear, where nothing is destroyed and views only have clears.
-use Rattle.std.proofs.Common.{◌≡◌, ℕ, zero, suc, ◌+◌, ◌<◌, ◌≤◌, true, false, List, [], ◌∷◌, map, length, filter, replicate, refl, ap, sym, ◌∙◌, arith}
+use Rattle.std.proofs.Common.{◌≡◌, ℕ, zero, suc, ◌+◌, ◌<◌, ◌≤◌, true, false, nat_le, nat_lt, Ok, List, [], ◌∷◌, map, length, filter, replicate, refl, ap, sym, ◌∙◌, arith}
 use Rattle.std.specs.Prelude.{slice_index_or, slice_set}
 use Rattle.std.proofs.lemmas.List.{map-set, length-map}
+use Rattle.std.proofs.lemmas.Bool.Decides.{nat_tests}
 use Rattle.std.proofs.Math.ListN.{get_or-map}
 use Rattle.gfx_model.specs.Raster.{no_color}
 use Rattle.gfx_model.specs.Views.{View, Clear, plain_view}
@@ -39,6 +40,14 @@ pub view_set : (cs : List Clear) (v : ℕ) (c : Clear) → slice_set (map cleare
 view_set cs v c =
     ap (λ (x : View). slice_set (map cleared_view cs) v (record x { clear = c })) (get_or-map cleared_view cs v no_clear)
     ∙ sym (map-set cleared_view cs v c)
+
+pub clear_set : (f : ℕ) (things : List model.Thing) (l p u : ℕ) (cs : List Clear) (v : ℕ) (c : Clear) → length cs ≡ 256 → v < 256 → c.flags ≤ 7 → c.depth ≤ 16777215
+    → model.answer (made f things l p u (views_of_clears cs)) (model.set_view_clear v c) ≡ Ok (model.no_change (made f things l p u (views_of_clears (slice_set cs v c))))
+clear_set f things l p u cs v c many lt flags depth =
+    let within : nat_le (length (map cleared_view cs)) v ≡ false = ap (λ n. nat_le n v) (length-map cs cleared_view ∙ many) ∙ grind (arith, nat_tests) in
+    let few : nat_lt 7 c.flags ≡ false = grind (arith, nat_tests) in
+    let shallow : nat_lt 16777215 c.depth ≡ false = grind (arith, nat_tests) in
+    rw (within, few, shallow, view_set cs v c) refl
 
 pub map-replicate : {X Y : Type 0} (f : X → Y) (n : ℕ) (x : X) → map f (replicate n x) ≡ replicate n (f x)
 map-replicate f zero x = refl

@@ -3,7 +3,7 @@ use Rattle.std.proofs.Common.{◌≡◌, ℕ, zero, suc, ◌+◌, ◌<◌, ◌�
 use Rattle.std.specs.Prelude.{slice_set, slice_get}
 use Rattle.std.specs.List.{range_with_len, find}
 use Rattle.std.proofs.lemmas.Bool.{ne_eqb, eq-eqb}
-use Rattle.std.proofs.lemmas.List.{drop_more, take_more, get_or-map, get_or-drop, map-append, length-append, length-drop}
+use Rattle.std.proofs.lemmas.List.{drop_more, take_more, get_or-map, get_or-drop, map-append, length-append, length-drop, length-map, drop-map, take_all, drop_all}
 use Rattle.std.proofs.lemmas.List.FromFn.{get_or-range_with_len}
 use Rattle.gfx_model.specs.World.{Change, create_thing}
 use Rattle.gfx_model.specs.Resources as model
@@ -22,6 +22,11 @@ pub passed : (p : model.Thing → Bool) (ts : List Thing) (i : ℕ) (d : Thing) 
     → find p (map thing_seen (drop i ts)) ≡ find p (map thing_seen (drop (i + 1) ts))
 passed p ts i d lt is = rw (drop_more ts i d lt, is) refl
 
+pub seen_at : (ts : List Thing) (i : ℕ) (d : Thing) → i < length ts → slice_get (map thing_seen ts) i ≡ Some (thing_seen (get_or ts i d))
+seen_at [] i d lt = absurd (omega arith)
+seen_at (t ∷ ts) zero d lt = refl
+seen_at (t ∷ ts) (suc i) d lt = seen_at ts i d (omega arith)
+
 -- ---- numbers
 
 pub serial_at : (ts : List Thing) (k : ℕ) (d : Thing) → map serial_of ts ≡ range_with_len 1 (length ts) → k < length ts → serial_of (get_or ts k d) ≡ k + 1
@@ -31,7 +36,7 @@ serial_at ts k d numbered lt =
 
 count_more : (a n j : ℕ) → a + n ≡ j → range_with_len a (n + 1) ≡ range_with_len a n ++ j ∷ []
 count_more a zero j e = let at : a ≡ j = omega arith in ap (λ k. k ∷ []) at
-count_more a (suc n) j e = ap (λ (ks : List ℕ). a ∷ ks) (count_more (a + 1) n j (omega arith))
+count_more a (suc n) j e = let on : suc n + 1 ≡ suc (n + 1) = omega arith in ap (range_with_len a) on ∙ ap (λ (ks : List ℕ). a ∷ ks) (count_more (a + 1) n j (omega arith))
 
 pub numbered_more : (ts : List Thing) (t : Thing) → map serial_of ts ≡ range_with_len 1 (length ts) → serial_of t ≡ length ts + 1
     → map serial_of (ts ++ t ∷ []) ≡ range_with_len 1 (length (ts ++ t ∷ []))
@@ -39,6 +44,10 @@ numbered_more ts t numbered is =
     let e : length ts + 1 ≡ length (ts ++ t ∷ []) = omega (arith, length-append ts (t ∷ [])) in
     map-append serial_of ts (t ∷ []) ∙ (λ i. numbered i ++ is i ∷ [])
     ∙ sym (count_more 1 (length ts) (length ts + 1) (omega arith)) ∙ ap (range_with_len 1) e
+
+pub numbered_after : (ts new : List Thing) (t : Thing) → map serial_of ts ≡ range_with_len 1 (length ts) → serial_of t ≡ length ts + 1 → new ≡ ts ++ t ∷ []
+    → map serial_of new ≡ range_with_len 1 (length new)
+numbered_after ts new t numbered is push = ap (map serial_of) push ∙ numbered_more ts t numbered is ∙ ap (λ (xs : List Thing). range_with_len 1 (length xs)) (sym push)
 
 -- the thing of a serial is changed
 pub changed_by_serial : (f : model.Thing → model.Thing) (n k : ℕ) (ts : List Thing) (t d : Thing) → ((j : ℕ) → j < length ts → serial_of (get_or ts j d) ≡ n + j)
@@ -61,15 +70,26 @@ from_push n (x ∷ cs) c =
     let e : n + 1 + length cs ≡ n + suc (length cs) = omega arith in
     ap (λ (ys : List Change). create_at n x ∷ ys) (from_push (n + 1) cs c ∙ ap (λ k. creates_from (n + 1) cs ++ create_at k c ∷ []) e)
 
-pub created_more : (first i : ℕ) (ts : List Thing) (d : Thing) (cs : List Content) (c : Content) → map serial_of ts ≡ range_with_len 1 (length ts)
-    → i < length (drop first ts) → length cs ≡ i → content_seen c ≡ content_seen (get_or (drop first ts) i d).content
-    → creates_from first cs ≡ map change_of (map thing_seen (take i (drop first ts)))
-    → creates_from first (cs ++ c ∷ []) ≡ map change_of (map thing_seen (take (i + 1) (drop first ts)))
-created_more first i ts d cs c numbered lt many is same =
-    let x : Thing = get_or (drop first ts) i d in
-    let within : first + i < length ts = omega (arith, length-drop first ts) in
-    let serial : first + length cs + 1 ≡ serial_of x = ap (λ k. first + k + 1) many ∙ sym (serial_at ts (first + i) d numbered within) ∙ ap serial_of (sym (get_or-drop first ts i d)) in
+pub serial_in : (first i : ℕ) (ts xs : List Thing) (d : Thing) → xs ≡ drop first ts → map serial_of ts ≡ range_with_len 1 (length ts) → i < length xs → serial_of (get_or xs i d) ≡ first + i + 1
+serial_in first i ts xs d is numbered lt =
+    let within : first + i < length ts = omega (arith, length-drop first ts, ap length is) in
+    ap (λ ys. serial_of (get_or ys i d)) is ∙ ap serial_of (get_or-drop first ts i d) ∙ serial_at ts (first + i) d numbered within
+
+pub created_more : (first i : ℕ) (xs : List Thing) (d : Thing) (cs : List Content) (c : Content) → i < length xs → length cs ≡ i → serial_of (get_or xs i d) ≡ first + i + 1
+    → content_seen c ≡ content_seen (get_or xs i d).content → creates_from first cs ≡ map change_of (map thing_seen (take i xs))
+    → creates_from first (cs ++ c ∷ []) ≡ map change_of (map thing_seen (take (i + 1) xs))
+created_more first i xs d cs c lt many number is same =
+    let x : Thing = get_or xs i d in
+    let serial : first + length cs + 1 ≡ serial_of x = ap (λ k. first + k + 1) many ∙ sym number in
     from_push first cs c
     ∙ (λ j. same j ++ create_thing (serial j) (is j) ∷ [])
-    ∙ sym (ap (λ (ys : List Thing). map change_of (map thing_seen ys)) (take_more (drop first ts) i d lt)
-    ∙ ap (map change_of) (map-append thing_seen (take i (drop first ts)) (x ∷ [])) ∙ map-append change_of (map thing_seen (take i (drop first ts))) (thing_seen x ∷ []))
+    ∙ sym (ap (λ (ys : List Thing). map change_of (map thing_seen ys)) (take_more xs i d lt)
+    ∙ ap (map change_of) (map-append thing_seen (take i xs) (x ∷ [])) ∙ map-append change_of (map thing_seen (take i xs)) (thing_seen x ∷ []))
+
+pub created_all : (first i : ℕ) (ts xs : List Thing) (cs : List Content) → xs ≡ drop first ts → length xs ≤ i → creates_from first cs ≡ map change_of (map thing_seen (take i xs))
+    → changes_since first (map thing_seen ts) ≡ creates_from first cs
+created_all first i ts xs cs is le same =
+    ap (map change_of) (drop-map thing_seen first ts) ∙ ap (λ (ys : List Thing). map change_of (map thing_seen ys)) (sym is ∙ sym (take_all i xs le)) ∙ sym same
+
+pub created_none : (first : ℕ) (ts : List Thing) → length ts ≤ first → changes_since first (map thing_seen ts) ≡ []
+created_none first ts le = ap (map change_of) (drop_all first (map thing_seen ts) (omega (arith, length-map ts thing_seen)))

@@ -145,10 +145,11 @@ impl Resources {
         ensures { IfOk result (λ cs. changes_since first self.now.things ≡ creates_from first cs.items) }
     {
         let mut contents = Vec::new(alloc);
-        if first <= self.things.len() {
-            for thing in &self.things[first..] {
-                contents.push(thing.content.copy(alloc)?)?;
-            }
+        if first > self.things.len() {
+            return Ok(contents);
+        }
+        for thing in &self.things[first..] {
+            contents.push(thing.content.copy(alloc)?)?;
         }
         Ok(contents)
     }

@@ -5,5 +5,5 @@ use Rattle.scene_calls.proofs.creates.named.Given as goal
 
 abbrev pub invariant-loop-place : goal.invariant-loop-place
 invariant-loop-place l = record {
-  passed : find (is_live_named l.fn.name) (map thing_seen (drop l.loop-place l.fn.things)) ≡ find (is_live_named l.fn.name) (map thing_seen l.fn.things);
+  passed : find (is_live_named l.fn.name) (map thing_seen (drop l.place l.fn.things)) ≡ find (is_live_named l.fn.name) (map thing_seen l.fn.things);
 }

@@ -6,5 +6,5 @@ use Rattle.scene_calls.proofs.resources.Resources.created.Given as goal
 abbrev pub invariant-loop-thing : goal.invariant-loop-thing
 invariant-loop-thing l = record {
   many : length l.contents.items ≡ l.thing-index;
-  same : creates_from l.fn.first l.contents.items ≡ map change_of (map thing_seen (take l.thing-index l.things));
+  same : creates_from l.fn.first l.contents.items ≡ map change_of (map thing_seen (take l.thing-index l.thing-items));
 }

@@ -6,5 +6,5 @@ use Rattle.scene_calls.proofs.resources.Resources.word_of.Given as goal
 
 abbrev pub invariant-loop-thing : goal.invariant-loop-thing
 invariant-loop-thing l = record {
-  passed : find (is_at l.fn.handle.kind l.fn.handle.index) (map thing_seen (drop l.thing-index l.things)) ≡ find (is_at l.fn.handle.kind l.fn.handle.index) (map thing_seen l.things);
+  passed : find (is_at l.fn.handle.kind l.fn.handle.index) (map thing_seen (drop l.thing-index l.thing-items)) ≡ find (is_at l.fn.handle.kind l.fn.handle.index) (map thing_seen l.thing-items);
 }
