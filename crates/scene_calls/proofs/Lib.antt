@@ -2,3 +2,4 @@ mod Books
 mod CreateLaws
 mod Frames
 mod Places
+mod References

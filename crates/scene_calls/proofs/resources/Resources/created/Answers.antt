@@ -18,7 +18,7 @@ loop-thing-preserved c =
     let all = c.deref.result.now in
     let xs : List Thing = take (length all - first) (drop first all) in
     let d = c.thing-item.result in
-    let is : xs ≡ drop first ts = take_rest first all ∙ ap (drop first) c.deref.ensures.value in
+    let is : xs ≡ drop first ts = take_rest all first ∙ ap (drop first) c.deref.ensures.value in
     let number = serial_in first i ts xs d is c.self.invariant.numbered c.loop-thing-test.true in
     let content : content_seen c.in_ok-copy.field-0 ≡ content_seen (get_or xs i d).content = c.in_ok-copy.ensures ∙ ap (λ (t : Thing). content_seen t.content) c.thing-item.is in
     record {
@@ -33,6 +33,6 @@ returns c =
     let ts = c.self.inside.things.items in
     let all = c.deref.result.now in
     let xs : List Thing = take (length all - first) (drop first all) in
-    let is : xs ≡ drop first ts = take_rest first all ∙ ap (drop first) c.deref.ensures.value in
+    let is : xs ≡ drop first ts = take_rest all first ∙ ap (drop first) c.deref.ensures.value in
     ap (λ (r : model.Resources). changes_since first r.things) (sym c.self.view_is)
     ∙ created_all first c.loop-thing.thing-index ts xs c.loop-thing.contents.items is c.loop-thing-test.false c.loop-thing.invariant.same
