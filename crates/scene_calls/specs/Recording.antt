@@ -1,11 +1,11 @@
 -- Encoders in the plain draw state, as the definitions see them.
-use Rattle.std.specs.Prelude.{◌≡◌, ℕ, List, Option, Result, Ok, MatchResult, map}
+use Rattle.std.specs.Prelude.{◌≡◌, ℕ, List, Option, Result, Ok, MatchResult, IfSome, map}
 use Rattle.gfx_model.specs.Words.{Handle}
 use Rattle.gfx_model.specs.World as world
 use Rattle.gfx_model.specs.Recorder as model
 use Rattle.gfx_model.specs.Resources.{Refusal}
 use Rattle.gfx_words.specs.declared.refusals.Refusal as code
-use Rattle.gfx_words.specs.Seen.{IsRefusedOrOutOfMemory}
+use Rattle.gfx_words.specs.Seen.{refusal_seen, IsRefusedOrOutOfMemory}
 use Rattle.scene_calls.specs.declared.room.Room.{Room}
 
 abbrev pub room_seen : Room → model.Room
@@ -31,4 +31,4 @@ recorder_with frame room vertices pending items used_bytes used_uniforms = recor
 -- a call is answered as the definitions answer it, and after a refusal the encoder is as it was; where it wants memory
 -- nothing is said
 abbrev pub Answers : Result (Unit {0}) code.Refusal → Result model.Recorder Refusal → (old new : model.Recorder) → Type 0
-Answers result answer old new = MatchResult result (λ _. answer ≡ Ok new) (λ r. IsRefusedOrOutOfMemory answer r)
+Answers result answer old new = MatchResult result (λ _. answer ≡ Ok new) (λ r. IsRefusedOrOutOfMemory answer r × IfSome (refusal_seen r) (λ _. new ≡ old))

@@ -20,6 +20,8 @@ const VIEWS: u16 = 256;
 
 /// What an encoder has recorded in its frame: the items, the values for the next of them, and the transient vertices of
 /// the next draw. Its draw state is the plain one but for the vertices.
+///
+/// After `Refusal::OutOfMemory` it need not be usable; after any other refusal it is as before.
 #[derive(Drop)]
 pub struct Recorder {
     frame: u32,
@@ -43,7 +45,7 @@ impl Model for Recorder {
 
     ghost view = { λ r. recorder_with r.frame (room_seen r.room) (vertices_seen r.layout r.bytes.items) (map set_seen r.pending.items) (map item_seen r.items.items) r.used_bytes r.used_uniforms };
 
-    ghost invariant = { λ r. length r.bytes.items ≤ 4294967295 };
+    ghost invariant = { λ r. (length r.bytes.items ≤ 4294967295) × (length r.items.items ≤ 4294967295) };
 }
 
 /// Whether the flags reset the vertices.
@@ -259,7 +261,8 @@ impl Recorder {
 
     /// The items in the order in which they were put down.
     pub fn items(&self) -> &[Item]
-        ensures { map item_seen result.now ≡ self.now.items }
+        ensures items { map item_seen result.now ≡ self.now.items }
+        ensures few { length result.now ≤ 4294967295 }
     {
         self.items.as_slice()
     }
