@@ -6,3 +6,4 @@ mod WholeClears
 mod Sorting
 mod Draws
 mod ViewSteps
+mod SideLaws

@@ -98,7 +98,7 @@ frame-is clears f w old n created items gone changes views same none many made =
     sym ((λ i. fold (enter_view f (drawn i)) (begun i) (order i))
     ∙ entered-all clears f (ordered (views_of_clears clears) items) old (filter (λ v. list_any (is_of_view v) items) (range_with_len 0 256)) views (ap (filter is_blit) same ∙ none))
 
-length-from : (n : ℕ) (cs : List Content) → length (things_from n cs) ≡ length cs
+pub length-from : (n : ℕ) (cs : List Content) → length (things_from n cs) ≡ length cs
 length-from n [] = refl
 length-from n (c ∷ cs) = ap suc (length-from (n + 1) cs)
 

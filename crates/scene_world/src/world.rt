@@ -1,5 +1,5 @@
 // The world of a scene: its things and its back buffer.
-ghost use Rattle.std.specs.Prelude.{◌≡◌, ◌≤◌, ◌<◌, ◌++◌, [], ℕ, length, map, filter, IfOk, OnOk, true, false, slice_index_or, if◌then◌else◌, slice_set};
+ghost use Rattle.std.specs.Prelude.{◌≡◌, ◌≤◌, ◌<◌, ◌+◌, ◌*◌, ◌++◌, [], ℕ, length, map, filter, IfOk, OnOk, true, false, slice_index_or, if◌then◌else◌, slice_set};
 ghost use Rattle.std.specs.List.{list_any, range_with_len};
 ghost use Rattle.gfx_model.specs.World as model;
 ghost use Rattle.gfx_model.specs.World.{FrameContent, is_of_view};
@@ -193,7 +193,8 @@ impl World {
 
     /// The colours of the back buffer, row by row from the top.
     pub fn colors(&self) -> &[[u8; 4]]
-        ensures { result.now ≡ self.now.back.color.texels }
+        ensures colors { result.now ≡ self.now.back.color.texels }
+        ensures many { length result.now ≡ self.now.back.color.width * self.now.back.color.height }
     {
         self.back.color.texels.as_slice()
     }
@@ -208,8 +209,10 @@ impl World {
         items: &[&Item],
     ) -> Result<(), AllocError>
         requires { length clears.now ≡ 256 }
-        ensures { OnOk result ((f : FrameContent) → f.gone ≡ [] → f.changes ≡ creates_from (length self.old.things) created.items → f.views ≡ views_of_clears (map clear_seen clears.now)
+        ensures drawn { OnOk result ((f : FrameContent) → f.gone ≡ [] → f.changes ≡ creates_from (length self.old.things) created.items → f.views ≡ views_of_clears (map clear_seen clears.now)
             → f.items ≡ map (λ i. item_seen i.now) items.now → self.new ≡ model.frame_step self.old f) }
+        ensures count { OnOk result (length self.new.things ≡ length self.old.things + length created.items) }
+        ensures sides { OnOk result ((self.new.back.color.width ≡ self.old.back.color.width) × (self.new.back.color.height ≡ self.old.back.color.height)) }
     {
         add_things(&mut self.things, created)?;
         draw_views(
