@@ -100,10 +100,11 @@ referred (Ok h) frame ts l p u views name k place t d numbered low high lt is re
 referred (Err e) frame ts l p u views name k place t d numbered low high lt is refers =
     let old = made frame (map thing_seen ts) l p u views in
     let x : model.Thing = thing_seen (get_or ts place d) in
-    let same : map thing_seen (slice_set ts place t) ≡ map thing_seen ts = map_set_same thing_seen ts place t d refers.0 in
-    (subst (λ a. IfSome (refusal_seen e) (λ r. a ≡ Err r)) (sym (answer_by old name k (Some x) low high is))
-    (refused_by (refusal_seen e) (model.uniform_effect old name k (Some x)) (model.first_refusal (model.uniform_refusals old k (Some x))) (refers.1 old)),
-    always (refusal_seen e) _ (ap (λ things. made frame things l p u views) same))
+    let same : map thing_seen (slice_set ts place t) ≡ map thing_seen ts = map_set_same thing_seen ts place t d refers.0 in (
+      subst (λ a. IfSome (refusal_seen e) (λ r. a ≡ Err r)) (sym (answer_by old name k (Some x) low high is))
+          (refused_by (refusal_seen e) (model.uniform_effect old name k (Some x)) (model.first_refusal (model.uniform_refusals old k (Some x))) (refers.1 old)),
+      always (refusal_seen e) _ (ap (λ things. made frame things l p u views) same),
+    )
 
 pub referred_in : (result : Result Handle code.Refusal) (r : model.Resources) (frame : ℕ) (ts : List Thing) (l p u : ℕ) (views : Views) (name : List ℕ) (k : UniformKind) (place : ℕ) (t d : Thing)
     → made frame (map thing_seen ts) l p u views ≡ r → map serial_of ts ≡ range_with_len 1 (length ts) → 1 ≤ length name → length name ≤ 32 → place < length ts

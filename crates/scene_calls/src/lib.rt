@@ -11,3 +11,6 @@ mod things;
 pub use recorder::Recorder;
 pub use resources::Resources;
 pub use room::Room;
+
+#[cfg(test)]
+mod tests;

@@ -168,6 +168,5 @@ impl Resources {
 fn is_at(thing: &Thing, handle: &Handle) -> bool
     ensures { result ≡ model.is_at handle.now.kind handle.now.index (thing_seen thing.now) }
 {
-    thing.handle.kind().number() == handle.kind().number()
-        && thing.handle.index() == handle.index()
+    thing.handle.kind().number() == handle.kind().number() && thing.handle.index() == handle.index()
 }

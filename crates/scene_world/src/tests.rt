@@ -133,3 +133,45 @@ fn a_value_stays_over_frames_and_a_far_corner_paints_nothing(
     }
     Ok(())
 }
+
+#[test]
+fn a_touch_clears_the_whole_target(rt: HostRuntime) -> Result<(), AllocError> {
+    let alloc = rt.alloc();
+    let mut world = World::new(alloc, 3, 2)?;
+    let mut all = clears(alloc)?;
+    all[9] = ViewClear {
+        flags: 1,
+        color: [1, 2, 3, 4],
+        depth: 16_777_215,
+        stencil: 0,
+    };
+    let touch = Item {
+        view: 9,
+        submit: None,
+        bytes: Vec::new(alloc),
+        values: Vec::new(alloc),
+    };
+    world.draw_frame(alloc, Vec::new(alloc), &all, &[&touch])?;
+    assert_eq!(rt; world.colors().len(), 6);
+    for color in world.colors() {
+        assert_eq!(rt; *color, [1, 2, 3, 4]);
+    }
+    Ok(())
+}
+
+#[test]
+fn a_copy_has_the_same_name(rt: HostRuntime) -> Result<(), AllocError> {
+    let alloc = rt.alloc();
+    let first = Content::Uniform {
+        name: b"u_color".to_vec(alloc)?,
+        value: UniformValue::Int(3),
+    };
+    match first.copy(alloc)? {
+        Content::Uniform { name, value } => {
+            assert_eq!(rt; name.as_slice(), b"u_color".as_slice());
+            assert_eq!(rt; value, UniformValue::Int(3));
+        }
+        _ => assert_eq!(rt; 0, 1),
+    }
+    Ok(())
+}

@@ -51,6 +51,7 @@ returns-clause-sides c =
     let old = world_seen c.self.inside.back c.deref_mut.result.now in
     let order = filter (λ v. list_any (is_of_view v) ms) (range_with_len 0 256) in
     let drawn : world_seen c.draw_views.new.back c.draw_views.new.things ≡ after_views cs (model.ordered (views_of_clears cs) ms) old order = c.in_ok-draw_views.ensures in
-    let kept = views cs (model.ordered (views_of_clears cs) ms) old order in
-    (ap (λ (w : model.World). w.back.color.width) drawn ∙ kept.width ∙ ap (λ (w : model.World). w.back.color.width) c.self.view_is,
-    ap (λ (w : model.World). w.back.color.height) drawn ∙ kept.height ∙ ap (λ (w : model.World). w.back.color.height) c.self.view_is)
+    let kept = views cs (model.ordered (views_of_clears cs) ms) old order in (
+      ap (λ (w : model.World). w.back.color.width) drawn ∙ kept.width ∙ ap (λ (w : model.World). w.back.color.width) c.self.view_is,
+      ap (λ (w : model.World). w.back.color.height) drawn ∙ kept.height ∙ ap (λ (w : model.World). w.back.color.height) c.self.view_is,
+    )
