@@ -1,5 +1,5 @@
 -- The things and views of the API thread as the definitions see them, where nothing is destroyed.
-use Rattle.std.specs.Prelude.{◌≡◌, ◌≤◌, ℕ, ◌+◌, ◌-◌, Bool, ◌&&◌, ◌==◌, slice_get, List, [], ◌∷◌, ◌++◌, map, length, drop, Option, Some, None, Result, Ok, MatchResult, IfSome}
+use Rattle.std.specs.Prelude.{◌≡◌, ◌≤◌, ℕ, ◌+◌, ◌-◌, Bool, ◌&&◌, ◌==◌, slice_get, List, [], ◌∷◌, ◌++◌, map, length, drop, Some, None, Result, Ok, MatchResult, IfSome}
 use Rattle.std.specs.List.{range_with_len, find}
 use Rattle.gfx_model.specs.Words.{Handle, UniformKind, Kind, layout_kind, vertex_buffer_kind, index_buffer_kind, texture_kind, frame_buffer_kind, program_kind, uniform_kind, is_kind}
 use Rattle.gfx_model.specs.Views.{Views}

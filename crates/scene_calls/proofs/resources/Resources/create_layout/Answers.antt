@@ -1,12 +1,8 @@
-use Rattle.std.proofs.Common.{◌≡◌, ◌+◌, ◌∷◌, [], ◌++◌, map, length, refl, ap, sym, ◌∙◌, arith}
+use Rattle.std.proofs.Common.{◌+◌, map, refl, ap, ◌∙◌, arith}
 use Rattle.std.specs.List.{find}
 use Rattle.gfx_model.specs.Words.{layout_kind}
-use Rattle.gfx_words.specs.Seen.{kind_seen}
-use Rattle.scene_world.specs.declared.content.Content.TheVariants as contents
 use Rattle.scene_world.specs.Cleared.{clear_seen}
 use Rattle.scene_world.specs.Painted.{views_of_clears}
-use Rattle.scene_calls.specs.declared.things.Thing.{Thing}
-use Rattle.scene_calls.specs.Made.{thing_seen}
 use Rattle.scene_calls.specs.Made.{handle_of, is_here}
 use Rattle.scene_calls.proofs.Places.{numbered_after}
 use Rattle.scene_calls.proofs.Finding.{fresh_after, apart_after, layouts_later}
