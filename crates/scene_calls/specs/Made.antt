@@ -30,6 +30,7 @@ made frame things layouts programs uniforms views = record {
   views = views;
 }
 
+-- the serial of a thing, and its name
 abbrev pub serial_of : Thing → ℕ
 serial_of t = t.handle.serial
 
