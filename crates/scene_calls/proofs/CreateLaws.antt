@@ -1,19 +1,16 @@
 -- What creates do where nothing is destroyed.
-use Rattle.std.proofs.Common.{◌≡◌, ℕ, zero, suc, ◌+◌, ◌-◌, ◌<◌, ◌≤◌, true, false, ◌==◌, nat_lt, List, [], ◌∷◌, ◌++◌, map, length, drop, None, Some, Ok, Err, refl, ap, sym, ◌∙◌, arith}
+use Rattle.std.proofs.Common.{◌≡◌, ℕ, ◌+◌, ◌<◌, ◌≤◌, true, false, nat_lt, List, [], ◌∷◌, ◌++◌, map, length, drop, None, Ok, Err, refl, ap, sym, ◌∙◌, arith}
 use Rattle.std.specs.Prelude.{Result}
-use Rattle.std.specs.List.{range_with_len}
-use Rattle.std.proofs.lemmas.Bool.{ltb-true}
 use Rattle.std.proofs.lemmas.Bool.Decides.{nat_tests}
 use Rattle.std.proofs.lemmas.List.{map-append, length-append, length-map, drop-append-le, drop_all, drop-map, append-nil}
-use Rattle.std.proofs.lemmas.List.FromFn.{map-range_with_len_more}
 use Rattle.gfx_model.specs.Words.{Kind, Info, Handle, ProgramKind, UniformKind, layout_kind, program_kind, uniform_kind, plain, uniform_info}
 use Rattle.gfx_model.specs.Vertex.{Layout}
 use Rattle.gfx_model.specs.Views.{Views}
-use Rattle.gfx_model.specs.World.{Content, Change, create_thing, layout_content, program_content, uniform_content}
+use Rattle.gfx_model.specs.World.{Content, layout_content, program_content, uniform_content}
 use Rattle.gfx_model.specs.Resources as model
 use Rattle.scene_calls.specs.declared.things.Thing.{Thing}
 use Rattle.scene_calls.specs.Made.{thing_seen, made, change_of, changes_since, effect_of, Grows}
-use Rattle.scene_calls.proofs.Books.{full, not_full, top, rest}
+use Rattle.scene_calls.proofs.Books.{not_full, top, rest}
 
 -- ---- one thing more
 

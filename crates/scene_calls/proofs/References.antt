@@ -1,5 +1,5 @@
 -- A create of a uniform that is there gives it one reference more.
-use Rattle.std.proofs.Common.{◌≡◌, ℕ, zero, suc, ◌+◌, ◌<◌, ◌≤◌, true, false, not, ◌&&◌, nat_le, List, [], ◌∷◌, map, length, drop, get_or, Option, None, Some, Ok, Err, refl, ap, sym, subst, ◌∙◌, arith}
+use Rattle.std.proofs.Common.{◌≡◌, ℕ, zero, suc, ◌+◌, ◌<◌, ◌≤◌, true, false, not, ◌&&◌, nat_le, List, [], ◌∷◌, map, length, get_or, Option, None, Some, Ok, Err, refl, ap, sym, subst, ◌∙◌, arith}
 use Rattle.std.specs.Prelude.{if◌then◌else◌, Result, MatchOption, IfSome, slice_get, slice_set}
 use Rattle.std.specs.List.{range_with_len, find}
 use Rattle.std.proofs.lemmas.Bool.Decides.{nat_tests}
@@ -11,7 +11,7 @@ use Rattle.gfx_model.specs.Resources as model
 use Rattle.gfx_words.specs.declared.refusals.Refusal as code
 use Rattle.gfx_words.specs.Seen.{refusal_seen}
 use Rattle.scene_calls.specs.declared.things.Thing.{Thing}
-use Rattle.scene_calls.specs.Made.{thing_seen, serial_of, made, change_of, changes_since, effect_of, is_live_named, Grows, Makes, Refers}
+use Rattle.scene_calls.specs.Made.{thing_seen, serial_of, handle_of, made, change_of, changes_since, is_live_named, Grows, Makes, Refers}
 use Rattle.scene_calls.proofs.CreateLaws.{grows_same}
 use Rattle.scene_calls.proofs.Places.{seen_at, serial_at, changed_by_serial}
 
@@ -33,6 +33,9 @@ same_thing (Err x) kind old new e = record { handle = ap (λ (t : model.Thing). 
 pub numbers_stay : (ts : List Thing) (k : ℕ) (t d : Thing) → map serial_of ts ≡ range_with_len 1 (length ts) → IsSameThing (thing_seen (get_or ts k d)) (thing_seen t)
     → map serial_of (slice_set ts k t) ≡ range_with_len 1 (length (slice_set ts k t))
 numbers_stay ts k t d numbered is = map_set_same serial_of ts k t d (ap (λ h. h.serial) is.handle) ∙ numbered ∙ ap (range_with_len 1) (sym (length-set ts k t))
+
+pub handles_stay : (ts : List Thing) (k : ℕ) (t d : Thing) → IsSameThing (thing_seen (get_or ts k d)) (thing_seen t) → map handle_of ts ≡ map handle_of (slice_set ts k t)
+handles_stay ts k t d is = sym (map_set_same handle_of ts k t d is.handle)
 
 abbrev seen_change : Thing → Change
 seen_change t = change_of (thing_seen t)

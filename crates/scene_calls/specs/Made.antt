@@ -1,7 +1,7 @@
 -- The things and views of the API thread as the definitions see them, where nothing is destroyed.
-use Rattle.std.specs.Prelude.{◌≡◌, ◌≤◌, ℕ, ◌+◌, ◌-◌, Bool, ◌&&◌, List, [], ◌∷◌, ◌++◌, map, length, drop, Option, Some, None, Result, Ok, MatchResult, IfSome}
-use Rattle.std.specs.List.{range_with_len}
-use Rattle.gfx_model.specs.Words.{Handle, UniformKind}
+use Rattle.std.specs.Prelude.{◌≡◌, ◌≤◌, ℕ, ◌+◌, ◌-◌, Bool, ◌&&◌, ◌==◌, slice_get, List, [], ◌∷◌, ◌++◌, map, length, drop, Some, None, Result, Ok, MatchResult, IfSome}
+use Rattle.std.specs.List.{range_with_len, find}
+use Rattle.gfx_model.specs.Words.{Handle, UniformKind, Kind, layout_kind, vertex_buffer_kind, index_buffer_kind, texture_kind, frame_buffer_kind, program_kind, uniform_kind, is_kind}
 use Rattle.gfx_model.specs.Views.{Views}
 use Rattle.gfx_model.specs.World.{Change, create_thing}
 use Rattle.gfx_model.specs.Resources as model
@@ -30,15 +30,44 @@ made frame things layouts programs uniforms views = record {
   views = views;
 }
 
+-- the serial of a thing, and its name
 abbrev pub serial_of : Thing → ℕ
 serial_of t = t.handle.serial
 
--- what holds of the state: no kind has more things than it can, serials run from 1, and there are 256 views
+abbrev pub handle_of : Thing → Handle
+handle_of t = t.handle
+
+-- whether a handle has a kind and an index
+abbrev pub is_here : Kind → ℕ → Handle → Bool
+is_here k index h = is_kind h.kind k && (h.index == index)
+
+-- how many things of a kind are made
+abbrev pub count_of : (layouts programs uniforms : ℕ) → Kind → ℕ
+count_of layouts programs uniforms layout_kind = layouts
+count_of layouts programs uniforms vertex_buffer_kind = 0
+count_of layouts programs uniforms index_buffer_kind = 0
+count_of layouts programs uniforms texture_kind = 0
+count_of layouts programs uniforms frame_buffer_kind = 0
+count_of layouts programs uniforms program_kind = programs
+count_of layouts programs uniforms uniform_kind = uniforms
+
+-- no thing has an index that is not given yet
+abbrev pub IsFresh : (layouts programs uniforms : ℕ) → List Handle → Type 0
+IsFresh layouts programs uniforms hs = (k : Kind) (i : ℕ) → count_of layouts programs uniforms k ≤ i → find (is_here k i) hs ≡ None
+
+-- no two things have the same kind and index
+abbrev pub AreApart : List Handle → Type 0
+AreApart hs = (n : ℕ) (h : Handle) → slice_get hs n ≡ Some h → find (is_here h.kind h.index) hs ≡ Some h
+
+-- what holds of the state: no kind has more things than it can, serials run from 1, a kind and an index name one thing, and
+-- there are 256 views
 pub record IsLawful (layouts programs uniforms : ℕ) (things : List Thing) (clears : List ViewClear) : Type 0 where
   pub few_layouts : layouts ≤ 64
   pub few_programs : programs ≤ 256
   pub few_uniforms : uniforms ≤ 256
   pub numbered : map serial_of things ≡ range_with_len 1 (length things)
+  pub fresh : IsFresh layouts programs uniforms (map handle_of things)
+  pub apart : AreApart (map handle_of things)
   pub many_views : length clears ≡ 256
 
 -- the create that made a thing, and those of all things from a place on

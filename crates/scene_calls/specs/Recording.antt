@@ -1,6 +1,5 @@
 -- Encoders in the plain draw state, as the definitions see them.
-use Rattle.std.specs.Prelude.{◌≡◌, ℕ, List, Option, Result, Ok, MatchResult, IfSome, map}
-use Rattle.gfx_model.specs.Words.{Handle}
+use Rattle.std.specs.Prelude.{◌≡◌, ℕ, List, Result, Ok, MatchResult, IfSome}
 use Rattle.gfx_model.specs.World as world
 use Rattle.gfx_model.specs.Recorder as model
 use Rattle.gfx_model.specs.Resources.{Refusal}

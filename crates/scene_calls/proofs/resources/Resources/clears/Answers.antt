@@ -1,4 +1,4 @@
-use Rattle.std.proofs.Common.{ap, sym, map, filter, ◌∙◌}
+use Rattle.std.proofs.Common.{ap, sym, map, ◌∙◌}
 use Rattle.gfx_model.specs.Resources as model
 use Rattle.scene_calls.proofs.Frames.{alive}
 use Rattle.scene_calls.proofs.resources.Resources.clears.Goals as goal

@@ -1,4 +1,4 @@
-use Rattle.std.proofs.Common.{◌≡◌, ◌+◌, List, map, length, get_or, ap, sym, subst, ◌∙◌, arith}
+use Rattle.std.proofs.Common.{◌≡◌, List, map, length, get_or, ap, subst, arith}
 use Rattle.std.specs.Prelude.{slice_get}
 use Rattle.std.specs.List.{find}
 use Rattle.gfx_model.specs.Resources as model
@@ -6,8 +6,8 @@ use Rattle.gfx_words.specs.Seen.{uniform_seen}
 use Rattle.scene_world.specs.Cleared.{clear_seen}
 use Rattle.scene_world.specs.Painted.{views_of_clears}
 use Rattle.scene_calls.specs.declared.things.Thing.{Thing}
-use Rattle.scene_calls.specs.Made.{thing_seen, is_live_named, Refers}
-use Rattle.scene_calls.proofs.References.{same_thing, numbers_stay, grows_by_none, referred_in}
+use Rattle.scene_calls.specs.Made.{thing_seen, is_live_named, IsFresh, AreApart, Refers}
+use Rattle.scene_calls.proofs.References.{same_thing, numbers_stay, handles_stay, grows_by_none, referred_in}
 use Rattle.scene_calls.proofs.resources.Resources.create_uniform.Goals as goal
 
 pub invariant_of-self : goal.invariant_of-self
@@ -17,11 +17,16 @@ invariant_of-self c =
     let d = c.index_mut.result.now in
     let refers : Refers c.refer.result (uniform_seen c.args.kind) (thing_seen (get_or ts c.in-Some.place d)) (thing_seen c.refer.new.thing) =
     subst (λ (x : Thing). Refers c.refer.result (uniform_seen c.args.kind) (thing_seen x) (thing_seen c.refer.new.thing)) c.index_mut.ensures.value c.refer.ensures in
+    let r = c.self.inside in
+    let same = same_thing c.refer.result (uniform_seen c.args.kind) (thing_seen (get_or ts c.in-Some.place d)) (thing_seen c.refer.new.thing) refers in
+    let handles = handles_stay ts c.in-Some.place c.refer.new.thing d same in
     record {
       few_layouts = old.few_layouts;
       few_programs = old.few_programs;
       few_uniforms = old.few_uniforms;
-      numbered = numbers_stay ts c.in-Some.place c.refer.new.thing d old.numbered (same_thing c.refer.result (uniform_seen c.args.kind) (thing_seen (get_or ts c.in-Some.place d)) (thing_seen c.refer.new.thing) refers);
+      numbered = numbers_stay ts c.in-Some.place c.refer.new.thing d old.numbered same;
+      fresh = subst (IsFresh r.layouts r.programs r.uniforms) handles old.fresh;
+      apart = subst AreApart handles old.apart;
       many_views = old.many_views;
     }
 

@@ -1,4 +1,4 @@
-use Rattle.std.proofs.Common.{◌≡◌, ◌-◌, ◌+◌, List, map, drop, take, length, get_or, ◌∷◌, [], ap, sym, ◌∙◌, arith}
+use Rattle.std.proofs.Common.{◌≡◌, ◌-◌, List, drop, take, length, get_or, ◌∷◌, [], ap, sym, ◌∙◌, arith}
 use Rattle.std.proofs.lemmas.List.{take_rest, length-append}
 use Rattle.gfx_model.specs.Resources as model
 use Rattle.scene_world.specs.Things.{content_seen, creates_from}

@@ -1,4 +1,4 @@
-use Rattle.std.proofs.Common.{◌≡◌, Ok, List, map, length, ap, sym, ◌∙◌, arith}
+use Rattle.std.proofs.Common.{Ok, List, map, ap, sym, ◌∙◌, arith}
 use Rattle.std.specs.Prelude.{slice_set}
 use Rattle.std.proofs.lemmas.List.{map-set, length-map}
 use Rattle.gfx_model.specs.Views.{Clear}

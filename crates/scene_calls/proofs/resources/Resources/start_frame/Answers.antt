@@ -1,4 +1,4 @@
-use Rattle.std.proofs.Common.{map, ap, sym, ◌∙◌}
+use Rattle.std.proofs.Common.{map, ap, ◌∙◌}
 use Rattle.gfx_model.specs.Resources.{start_frame}
 use Rattle.scene_world.specs.Cleared.{clear_seen}
 use Rattle.scene_calls.proofs.Frames.{started}

@@ -1,41 +1,29 @@
-use Rattle.std.proofs.Common.{◌≡◌, Bool, true, false, List, map, drop, length, get_or, Some, refl, ap, sym, ◌∙◌, arith}
+use Rattle.std.proofs.Common.{◌≡◌, ◌<◌, List, map, length, get_or, Some, ap, sym, ◌∙◌, arith}
+use Rattle.std.specs.Prelude.{slice_get}
 use Rattle.std.specs.List.{find}
-use Rattle.std.proofs.lemmas.List.{drop_all}
 use Rattle.gfx_model.specs.Resources as model
 use Rattle.scene_calls.specs.declared.things.Thing.{Thing}
 use Rattle.scene_calls.specs.Made.{thing_seen}
-use Rattle.scene_calls.proofs.Places.{found, passed}
+use Rattle.scene_calls.proofs.Finding.{thing_at, found_here}
 use Rattle.scene_calls.proofs.resources.Resources.word_of.Goals as goal
-
-pub loop-thing-init : goal.loop-thing-init
-loop-thing-init c = record { passed = refl }
-
-pub loop-thing-preserved : goal.loop-thing-preserved
-loop-thing-preserved c =
-    let d = c.thing-item.result in
-    let ts = c.as_slice-thing-items.result.now in
-    let p = model.is_at c.args.handle.now.kind c.args.handle.now.index in
-    let is : p (thing_seen (get_or ts c.loop-thing.thing-index d)) ≡ false = ap (λ (t : Thing). p (thing_seen t)) (sym c.thing-item.is) ∙ sym c.is_at.ensures ∙ c.if-is_at.false in
-    record { passed = sym (passed p ts c.loop-thing.thing-index d c.loop-thing-test.true is) ∙ c.loop-thing.invariant.passed }
 
 pub returns-then-is_at : goal.returns-then-is_at
 returns-then-is_at c =
-    let d = c.thing-item.result in
-    let ts = c.as_slice-thing-items.result.now in
-    let p = model.is_at c.args.handle.now.kind c.args.handle.now.index in
-    let is : p (thing_seen (get_or ts c.loop-thing.thing-index d)) ≡ true = ap (λ (t : Thing). p (thing_seen t)) (sym c.thing-item.is) ∙ sym c.is_at.ensures ∙ c.if-is_at.true in
+    let h = c.args.handle.now in
+    let ts = c.self.inside.things.items in
+    let t = c.in-Some.thing.now in
+    let n = c.saturating_sub-place.result in
+    let lookup = c.in-Some.ensures.lookup in
+    let within : n < length ts = omega (arith, lookup.3.0, ap length c.deref.ensures.value) in
+    let is : t ≡ get_or ts n t = lookup.1 ∙ ap (λ (xs : List Thing). get_or xs n t) c.deref.ensures.value in
+    let at : slice_get ts n ≡ Some t = thing_at ts n t within ∙ ap (λ (x : Thing). Some x) (sym is) in
     c.word_of_live.ensures
-    ∙ ap model.word_of_thing
-    (ap (λ (t : Thing). Some (thing_seen t)) c.thing-item.is
-    ∙ sym (found p ts c.loop-thing.thing-index d c.loop-thing-test.true is) ∙ c.loop-thing.invariant.passed
-    ∙ ap (λ (xs : List Thing). find p (map thing_seen xs)) c.as_slice-thing-items.ensures.value
-    ∙ ap (λ (r : model.Resources). find p r.things) c.self.view_is)
+    ∙ found_here ts h.kind h.index n t c.self.invariant.apart at (sym c.is_at.ensures ∙ c.if-is_at.true)
+    ∙ ap (λ (r : model.Resources). model.word_of_thing (find (model.is_at h.kind h.index) r.things)) c.self.view_is
 
 pub returns : goal.returns
 returns c =
-    let ts = c.as_slice-thing-items.result.now in
-    let p = model.is_at c.args.handle.now.kind c.args.handle.now.index in
-    ap model.word_of_thing
-    ((rw (drop_all c.loop-thing.thing-index ts (omega arith)) at c.loop-thing.invariant.passed)
-    ∙ ap (λ (xs : List Thing). find p (map thing_seen xs)) c.as_slice-thing-items.ensures.value
-    ∙ ap (λ (r : model.Resources). find p r.things) c.self.view_is)
+    let h = c.args.handle.now in
+    c.found_word.ensures
+    ∙ ap (λ (xs : List Thing). model.word_of_thing (find (model.is_at h.kind h.index) (map thing_seen xs))) c.deref-2.ensures.value
+    ∙ ap (λ (r : model.Resources). model.word_of_thing (find (model.is_at h.kind h.index) r.things)) c.self.view_is

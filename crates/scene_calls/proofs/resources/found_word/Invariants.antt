@@ -2,9 +2,9 @@ use Rattle.std.proofs.Common.{◌≡◌, map, drop}
 use Rattle.std.specs.List.{find}
 use Rattle.gfx_model.specs.Resources.{is_at}
 use Rattle.scene_calls.specs.Made.{thing_seen}
-use Rattle.scene_calls.proofs.resources.Resources.word_of.Given as goal
+use Rattle.scene_calls.proofs.resources.found_word.Given as goal
 
 abbrev pub invariant-loop-thing : goal.invariant-loop-thing
 invariant-loop-thing l = record {
-  passed : find (is_at l.fn.handle.kind l.fn.handle.index) (map thing_seen (drop l.thing-index l.thing-items)) ≡ find (is_at l.fn.handle.kind l.fn.handle.index) (map thing_seen l.thing-items);
+  passed : find (is_at l.fn.handle.kind l.fn.handle.index) (map thing_seen (drop l.thing-index l.things)) ≡ find (is_at l.fn.handle.kind l.fn.handle.index) (map thing_seen l.things);
 }
