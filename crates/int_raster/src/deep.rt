@@ -1,18 +1,20 @@
 // Draws on a surface with depth.
 ghost use Rattle.std.specs.Prelude.{◌≡◌, ◌≤◌, ◌<◌, ◌+◌, ◌*◌, ℕ, true, length, IfSome, IsTrue};
 ghost use Rattle.gfx_model.specs.Number.{map_from};
-ghost use Rattle.gfx_model.specs.Raster.{covers};
+ghost use Rattle.gfx_model.specs.Raster.{covers, fragment_at};
+ghost use Rattle.gfx_model.specs.World.{painted};
 ghost use Rattle.tri_cover.specs.Shown.{setup_seen};
 ghost use Rattle.int_raster.specs.Drawing.{prepared_step};
 ghost use Rattle.int_raster.specs.Places.{deep_pixels, spanned, by_place};
 ghost use Rattle.int_raster.specs.Painted.{PaintsSpan, HasSpanDepths, Paints, HasDepths};
 ghost use Rattle.int_raster.specs.Rules.{IsPlain};
-ghost use Rattle.int_raster.specs.Seen.{prepared_seen, step_seen, change_seen};
+ghost use Rattle.int_raster.specs.Seen.{paint_seen, prepared_seen, step_seen, change_seen};
 
 use crate::columns::{drawn_columns, drawn_rows};
 use crate::deep_spans::{fill, step_exactly, step_painted, store, store_shade};
 use crate::lists::Prepared;
 use crate::opaque::{Rule, rule_of};
+use crate::over_spans::{cover, is_over};
 use crate::painters::{Painter, depth_for, is_opaque, painter_for};
 use crate::painting::stencil_of;
 use crate::spans::Span;
@@ -36,6 +38,31 @@ fn brush_of<'x>(setup: &Setup, draw: &Prepared<'x>, width: u16, height: u16) -> 
     Some(Brush { painter, depth })
 }
 
+/// Fills a span with one colour by a rule.
+fn paint_solid(
+    colors: &mut [[u8; 4]],
+    depths: &mut [[u8; 4]],
+    span: &Span,
+    color: [u8; 4],
+    depth: &Ramp,
+    rule: &Rule,
+    setup: &Setup,
+    draw: &Prepared,
+)
+    requires inside { span.now.y * span.now.width + span.now.width ≤ length colors.old }
+    requires same { length depths.old ≡ length colors.old }
+    requires plain { IsPlain rule.now draw.now setup.now }
+    requires paints { (x : ℕ) → span.now.first ≤ x → x < span.now.after → color ≡ painted (paint_seen draw.now.paint) (fragment_at (setup_seen setup.now).triangle x span.now.y) }
+    requires depths { HasSpanDepths depth.now setup.now span.now.y span.now.first span.now.after }
+    ensures { deep_pixels colors.new depths.new ≡ map_from (spanned (by_place span.now.width (step_seen draw.now setup.now)) (span.now.y * span.now.width + span.now.first) (span.now.y * span.now.width + span.now.after)) 0 (deep_pixels colors.old depths.old) }
+{
+    if is_over(rule) {
+        cover(colors, span, color, rule, setup, draw);
+    } else {
+        fill(colors, depths, span, color, depth, rule, setup, draw);
+    }
+}
+
 /// Draws a span with a brush.
 fn paint(
     colors: &mut [[u8; 4]],
@@ -55,7 +82,7 @@ fn paint(
 {
     match rule {
         Some(rule) => match &brush.painter {
-            Painter::Solid(color) => fill(
+            Painter::Solid(color) => paint_solid(
                 colors,
                 depths,
                 span,

@@ -8,6 +8,7 @@ mod drawing;
 mod flat;
 mod lists;
 mod opaque;
+mod over_spans;
 mod painters;
 mod painting;
 mod spans;
