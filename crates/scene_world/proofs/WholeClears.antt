@@ -1,5 +1,5 @@
 -- A surface whose pixels are all cleared.
-use Rattle.std.proofs.Common.{◌≡◌, ℕ, zero, suc, ◌+◌, ◌*◌, ◌/◌, ◌%◌, ◌<◌, ◌≤◌, true, false, List, [], ◌∷◌, map, take, drop, get_or, replicate, length, Some, refl, ap, ◌∙◌, arith}
+use Rattle.std.proofs.Common.{◌≡◌, ℕ, zero, suc, ◌+◌, ◌*◌, ◌/◌, ◌%◌, ◌<◌, ◌≤◌, ◌^◌, true, false, List, [], ◌∷◌, map, take, drop, get_or, replicate, length, Some, refl, ap, ◌∙◌, arith}
 use Rattle.std.specs.Prelude.{if◌then◌else◌, slice_set}
 use Rattle.std.proofs.lemmas.Bool.{lt-ltb, le-leb}
 use Rattle.std.proofs.Math.Nat.{div-lt_iff_lt-mul, mul_comm}
@@ -57,6 +57,15 @@ color-cleared c (o ∷ old) e = rw e (ap (λ (xs : List Color). c.color ∷ xs) 
 pub color-kept : (c : Clear) (old : List Color) → is_bit_set c.flags 0 ≡ false → map (cleared_color c) old ≡ old
 color-kept c [] e = refl
 color-kept c (o ∷ old) e = rw e (ap (λ (xs : List Color). o ∷ xs) (color-kept c old e))
+
+-- the depth words of a clear of depth and stencil
+word-filled : (c : Clear) (z x : Color) → is_bit_set c.flags 1 ≡ true → is_bit_set c.flags 2 ≡ true → word_in x ≡ c.depth + 2 ^ 24 * c.stencil → word_in x ≡ word_cleared c z
+word-filled c z x e f is = rw (e, f) is
+
+pub words-filled : (c : Clear) (old : List Color) (x : Color) → is_bit_set c.flags 1 ≡ true → is_bit_set c.flags 2 ≡ true → word_in x ≡ c.depth + 2 ^ 24 * c.stencil
+    → map word_in (replicate (length old) x) ≡ map (word_cleared c) old
+words-filled c [] x e f is = refl
+words-filled c (o ∷ old) x e f is = λ i. word-filled c o x e f is i ∷ words-filled c old x e f is i
 
 -- one element more is changed
 ends : (xs : List Color) (i : ℕ) → i < length xs → drop i xs ≡ [] → ⊥

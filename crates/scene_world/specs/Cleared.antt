@@ -22,3 +22,10 @@ word_in z = u32_at z 0
 
 abbrev pub word_cleared : Clear → Color → ℕ
 word_cleared c z = cleared_word c (word_in z)
+
+-- the depth word of a texel that gets another depth, or another stencil
+abbrev pub word_with_depth : ℕ → Color → ℕ
+word_with_depth depth z = depth + 2 ^ 24 * (word_in z / 2 ^ 24)
+
+abbrev pub word_with_stencil : ℕ → Color → ℕ
+word_with_stencil stencil z = word_in z % 2 ^ 24 + 2 ^ 24 * stencil

@@ -1,9 +1,9 @@
 // The clear of a view.
-ghost use Rattle.std.specs.Prelude.{◌≡◌, ◌≤◌, ◌<◌, ◌+◌, ◌*◌, ◌^◌, ◌/◌, ◌%◌, if◌then◌else◌, map, length, replicate};
+ghost use Rattle.std.specs.Prelude.{◌≡◌, ◌≤◌, ◌<◌, ◌+◌, ◌*◌, ◌^◌, map, length, replicate};
 ghost use Rattle.gfx_model.specs.Number.{is_bit_set, u32_at};
 ghost use Rattle.gfx_model.specs.World.{clear_surface};
 ghost use Rattle.int_raster.specs.Seen.{surface_seen};
-ghost use Rattle.scene_world.specs.Cleared.{clear_seen, cleared_color, cleared_word, word_in, word_cleared};
+ghost use Rattle.scene_world.specs.Cleared.{clear_seen, cleared_color, word_in, word_cleared, word_with_depth, word_with_stencil};
 ghost use Rattle.scene_world.specs.Painted.{cleared_view};
 
 use crate::clears::ViewClear;
@@ -50,37 +50,7 @@ fn depth_texel(word: u32) -> [u8; 4]
     word.to_le_bytes()
 }
 
-/// The depth after the clear.
-fn depth_after(clear: &ViewClear, word: u32) -> u32
-    ensures depth { result ≡ (if is_bit_set clear.now.flags 1 then clear.now.depth else word % 2 ^ 24) }
-    ensures shallow { result ≤ 16777215 }
-{
-    if has_flag(clear, 1) {
-        let clear = *clear;
-        clear.depth
-    } else {
-        word % 16_777_216
-    }
-}
-
-/// The stencil after the clear.
-fn stencil_after(clear: &ViewClear, word: u32) -> u8
-    ensures { result ≡ (if is_bit_set clear.now.flags 2 then clear.now.stencil else word / 2 ^ 24) }
-{
-    if has_flag(clear, 2) {
-        clear.stencil
-    } else {
-        (word / 16_777_216) as u8
-    }
-}
-
-/// A depth word after the clear.
-fn word_after(clear: &ViewClear, word: u32) -> u32
-    ensures { result ≡ cleared_word (clear_seen clear.now) word }
-{
-    joined(depth_after(clear, word), stencil_after(clear, word))
-}
-
+/// The depth word of a depth and a stencil.
 fn joined(depth: u32, stencil: u8) -> u32
     requires { depth ≤ 16777215 }
     ensures { result ≡ depth + 2 ^ 24 * stencil }
@@ -88,12 +58,53 @@ fn joined(depth: u32, stencil: u8) -> u32
     depth + 16_777_216 * u32::from(stencil)
 }
 
-/// Clears each depth texel.
+/// The depth texel with another depth.
+fn with_depth(texel: [u8; 4], depth: u32) -> [u8; 4]
+    requires { depth ≤ 16777215 }
+    ensures { word_in result ≡ word_with_depth depth texel }
+{
+    depth_texel(joined(depth, (depth_word(texel) / 16_777_216) as u8))
+}
+
+/// The depth texel with another stencil.
+fn with_stencil(texel: [u8; 4], stencil: u8) -> [u8; 4]
+    ensures { word_in result ≡ word_with_stencil stencil texel }
+{
+    depth_texel(joined(depth_word(texel) % 16_777_216, stencil))
+}
+
+/// Gives each depth texel the depth, and keeps its stencil.
+fn set_depths(depths: &mut [[u8; 4]], depth: u32)
+    requires { depth ≤ 16777215 }
+    ensures { map word_in depths.new ≡ map (word_with_depth depth) depths.old }
+{
+    for place in 0..depths.len() {
+        depths[place] = with_depth(depths[place], depth);
+    }
+}
+
+/// Gives each depth texel the stencil, and keeps its depth.
+fn set_stencils(depths: &mut [[u8; 4]], stencil: u8)
+    ensures { map word_in depths.new ≡ map (word_with_stencil stencil) depths.old }
+{
+    for place in 0..depths.len() {
+        depths[place] = with_stencil(depths[place], stencil);
+    }
+}
+
+/// Clears the depth texels. Where neither depths nor stencils are cleared, none is touched.
 fn clear_depths(depths: &mut [[u8; 4]], clear: &ViewClear)
     ensures { map word_in depths.new ≡ map (word_cleared (clear_seen clear.now)) depths.old }
 {
-    for place in 0..depths.len() {
-        depths[place] = depth_texel(word_after(clear, depth_word(depths[place])));
+    let values = *clear;
+    if has_flag(clear, 1) {
+        if has_flag(clear, 2) {
+            fill(depths, depth_texel(joined(values.depth, values.stencil)));
+        } else {
+            set_depths(depths, values.depth);
+        }
+    } else if has_flag(clear, 2) {
+        set_stencils(depths, values.stencil);
     }
 }
 

@@ -1,9 +1,13 @@
 // Worked scenes: what their items leave in the back buffer.
 ghost use Rattle.std.specs.Prelude.{◌≡◌, ◌≤◌, ◌<◌, length, IfOk};
 
+use crate::clearing::clear_whole;
 use crate::{Content, Item, Submit, UniformSet, ViewClear, World};
+use fix_math::Texels;
 use gfx_words::{Handle, Info, Kind, ProgramKind, UniformKind, UniformValue};
+use int_raster::Surface;
 use std::alloc::{AllocError, Global};
+use std::process::Abort;
 use vertex_layout::{Attr, AttrType, LayoutBuilder};
 
 // A triangle that covers the whole target: x and y of three vertices, in 1/65536, lowest byte first.
@@ -155,6 +159,46 @@ fn a_touch_clears_the_whole_target(rt: HostRuntime) -> Result<(), AllocError> {
     assert_eq!(rt; world.colors().len(), 6);
     for color in world.colors() {
         assert_eq!(rt; *color, [1, 2, 3, 4]);
+    }
+    Ok(())
+}
+
+/// Asserts that each of 38 texels is the wanted one.
+fn assert_texels<R: Abort>(rt: &R, texels: &[[u8; 4]], want: [u8; 4], flags: u8) {
+    assert_eq!(rt; texels.len(), 38);
+    for texel in texels {
+        assert_eq!(rt; *texel, want, "flags {flags}");
+    }
+}
+
+#[test]
+fn a_clear_sets_what_its_flags_name(rt: HostRuntime) -> Result<(), AllocError> {
+    let alloc = rt.alloc();
+    for (flags, color, depth) in [
+        (0, [9, 8, 7, 6], [17, 34, 51, 68]),
+        (1, [1, 2, 3, 4], [17, 34, 51, 68]),
+        (2, [9, 8, 7, 6], [12, 11, 10, 68]),
+        (3, [1, 2, 3, 4], [12, 11, 10, 68]),
+        (4, [9, 8, 7, 6], [17, 34, 51, 90]),
+        (5, [1, 2, 3, 4], [17, 34, 51, 90]),
+        (6, [9, 8, 7, 6], [12, 11, 10, 90]),
+        (7, [1, 2, 3, 4], [12, 11, 10, 90]),
+    ] {
+        let colors = Texels::filled(alloc, 19, 2, [9, 8, 7, 6])?;
+        let depths = Texels::filled(alloc, 19, 2, [17, 34, 51, 68])?;
+        let mut surface = Surface::new(colors, Some(depths));
+        let clear = ViewClear {
+            flags,
+            color: [1, 2, 3, 4],
+            depth: 658_188,
+            stencil: 90,
+        };
+        clear_whole(&mut surface, &clear);
+        assert_texels(&rt, surface.color.texels.as_slice(), color, flags);
+        match &surface.depth {
+            Some(depths) => assert_texels(&rt, depths.texels.as_slice(), depth, flags),
+            None => assert_eq!(rt; 0, 1),
+        }
     }
     Ok(())
 }
