@@ -175,13 +175,10 @@ impl Progress {
         ensures one { self.new.dropped ≤ self.old.dropped + 1 }
     {
         let clear = *clear;
-        match self.resources.set_view_clear(
-            view,
-            clear.flags,
-            clear.color,
-            clear.depth,
-            clear.stencil,
-        ) {
+        match self
+            .resources
+            .set_view_clear(view, clear.flags, clear.color, clear.depth, clear.stencil)
+        {
             Ok(()) => {}
             Err(_) => self.drop_line(),
         }
