@@ -2,6 +2,7 @@
 ghost use Rattle.std.specs.Prelude.{◌≡◌, ◌≤◌, ◌<◌, ◌+◌, ◌*◌, ℕ, true, length, IfSome, IsTrue};
 ghost use Rattle.gfx_model.specs.Number.{map_from};
 ghost use Rattle.gfx_model.specs.Raster.{covers};
+ghost use Rattle.tri_cover.specs.Deepened.{AreDepths};
 ghost use Rattle.tri_cover.specs.Shown.{setup_seen};
 ghost use Rattle.int_raster.specs.Drawing.{prepared_step};
 ghost use Rattle.int_raster.specs.Places.{deep_pixels, spanned, by_place};
@@ -10,19 +11,26 @@ ghost use Rattle.int_raster.specs.Rules.{IsPlain};
 ghost use Rattle.int_raster.specs.Seen.{prepared_seen, step_seen, change_seen};
 
 use crate::columns::{drawn_columns, drawn_rows};
-use crate::deep_spans::{fill, step_exactly, step_painted, store, store_shade};
+use crate::deep_spans::{fill, step_exactly, step_painted, store, store_shade, store_stepped};
 use crate::lists::Prepared;
 use crate::opaque::{Rule, rule_of};
-use crate::painters::{Painter, depth_for, is_opaque, painter_for};
+use crate::painters::{Painter, depth_for, is_opaque, painter_for, painter_of};
 use crate::painting::stencil_of;
 use crate::spans::Span;
-use tri_cover::{Ramp, Setup};
+use tri_cover::{DepthSteps, Ramp, Setup};
 
 /// What draws a triangle's pixels.
 #[derive(Clone, Copy)]
 pub(crate) struct Brush<'x> {
     pub painter: Painter<'x>,
     pub depth: Ramp,
+}
+
+/// What draws the pixels of a triangle whose depths have no ramp.
+#[derive(Clone, Copy)]
+pub(crate) struct Stepper<'x> {
+    pub painter: Painter<'x>,
+    pub steps: DepthSteps,
 }
 
 /// What draws a triangle's pixels; none where 64 bits are too few.
@@ -34,6 +42,25 @@ fn brush_of<'x>(setup: &Setup, draw: &Prepared<'x>, width: u16, height: u16) -> 
     let painter = painter_for(setup, &steps, &draw.paint)?;
     let depth = depth_for(setup, &steps)?;
     Some(Brush { painter, depth })
+}
+
+/// What draws a triangle's pixels where there is no brush; none where the colours have no ramps either.
+fn stepper_of<'x>(
+    setup: &Setup,
+    draw: &Prepared<'x>,
+    width: u16,
+    height: u16,
+    brush: &Option<Brush>,
+) -> Option<Stepper<'x>>
+    ensures paints { IfSome result (λ s. Paints s.painter draw.now setup.now width height) }
+    ensures steps { IfSome result (λ s. AreDepths s.steps (setup_seen setup.now).triangle) }
+{
+    if brush.is_some() {
+        return None;
+    }
+    let painter = painter_of(setup, draw, width, height)?;
+    let steps = setup.depth_steps();
+    Some(Stepper { painter, steps })
 }
 
 /// Draws a span with a brush.
@@ -98,12 +125,49 @@ fn paint(
     }
 }
 
+/// Draws a span that a triangle covers, without a brush.
+fn draw_stepped(
+    colors: &mut [[u8; 4]],
+    depths: &mut [[u8; 4]],
+    span: &Span,
+    stepper: &Option<Stepper>,
+    rule: &Option<Rule>,
+    setup: &Setup,
+    draw: &Prepared,
+)
+    requires inside { span.now.y * span.now.width + span.now.width ≤ length colors.old }
+    requires same { length depths.old ≡ length colors.old }
+    requires covered { (x : ℕ) → span.now.first ≤ x → x < span.now.after → covers (setup_seen setup.now).triangle x span.now.y ≡ true }
+    requires paints { IfSome stepper.now (λ s. PaintsSpan s.painter draw.now setup.now span.now.y span.now.first span.now.after) }
+    requires steps { IfSome stepper.now (λ s. AreDepths s.steps (setup_seen setup.now).triangle) }
+    requires rule { IfSome rule.now (λ r. IsPlain r draw.now setup.now) }
+    ensures { deep_pixels colors.new depths.new ≡ map_from (spanned (by_place span.now.width (step_seen draw.now setup.now)) (span.now.y * span.now.width + span.now.first) (span.now.y * span.now.width + span.now.after)) 0 (deep_pixels colors.old depths.old) }
+{
+    match stepper {
+        Some(stepper) => match rule {
+            Some(rule) => store_stepped(
+                colors,
+                depths,
+                span,
+                &stepper.painter,
+                &stepper.steps,
+                rule,
+                setup,
+                draw,
+            ),
+            None => step_exactly(colors, depths, span, setup, draw),
+        },
+        None => step_exactly(colors, depths, span, setup, draw),
+    }
+}
+
 /// Draws a span that a triangle covers, with a brush where there is one.
 fn draw_span(
     colors: &mut [[u8; 4]],
     depths: &mut [[u8; 4]],
     span: &Span,
     brush: &Option<Brush>,
+    stepper: &Option<Stepper>,
     rule: &Option<Rule>,
     setup: &Setup,
     draw: &Prepared,
@@ -113,12 +177,14 @@ fn draw_span(
     requires covered { (x : ℕ) → span.now.first ≤ x → x < span.now.after → covers (setup_seen setup.now).triangle x span.now.y ≡ true }
     requires paints { IfSome brush.now (λ b. PaintsSpan b.painter draw.now setup.now span.now.y span.now.first span.now.after) }
     requires depths { IfSome brush.now (λ b. HasSpanDepths b.depth setup.now span.now.y span.now.first span.now.after) }
+    requires stepped { IfSome stepper.now (λ s. PaintsSpan s.painter draw.now setup.now span.now.y span.now.first span.now.after) }
+    requires steps { IfSome stepper.now (λ s. AreDepths s.steps (setup_seen setup.now).triangle) }
     requires rule { IfSome rule.now (λ r. IsPlain r draw.now setup.now) }
     ensures { deep_pixels colors.new depths.new ≡ map_from (spanned (by_place span.now.width (step_seen draw.now setup.now)) (span.now.y * span.now.width + span.now.first) (span.now.y * span.now.width + span.now.after)) 0 (deep_pixels colors.old depths.old) }
 {
     match brush {
         Some(brush) => paint(colors, depths, span, brush, rule, setup, draw),
-        None => step_exactly(colors, depths, span, setup, draw),
+        None => draw_stepped(colors, depths, span, stepper, rule, setup, draw),
     }
 }
 
@@ -148,6 +214,7 @@ fn triangle_deep(
     ensures { deep_pixels colors.new depths.new ≡ map_from (by_place width (change_seen draw.now setup.now)) 0 (deep_pixels colors.old depths.old) }
 {
     let brush = brush_of(setup, draw, width, height);
+    let stepper = stepper_of(setup, draw, width, height, &brush);
     let rule = plain_rule(setup, draw);
     let (top, bottom) = drawn_rows(setup, &draw.cut, height);
     for y in top..bottom {
@@ -158,7 +225,9 @@ fn triangle_deep(
             first,
             after,
         };
-        draw_span(colors, depths, &span, &brush, &rule, setup, draw);
+        draw_span(
+            colors, depths, &span, &brush, &stepper, &rule, setup, draw,
+        );
     }
 }
 

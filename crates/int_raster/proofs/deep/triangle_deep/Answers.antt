@@ -34,6 +34,16 @@ draw_span-requires-clause-paints c =
     (λ b h x lo hi. h x c.loop-y.y (omega (arith, hi, within)) (omega (arith, c.loop-y-test.true, c.drawn_rows-top.ensures.within))
     (drawn_column (rect_seen d.cut) f ends.0 ends.1 x c.loop-y.y (c.drawn_columns-first.ensures.columns x (omega (arith, hi, within))) lo hi))
 
+pub draw_span-requires-clause-stepped : goal.draw_span-requires-clause-stepped
+draw_span-requires-clause-stepped c =
+    let d = c.args.draw.now in
+    let f = facing_seen c.args.draw.now c.args.setup.now in
+    let ends = c.drawn_columns-first.result in
+    let within = c.drawn_columns-first.ensures.within in
+    IfSome_then c.stepper_of-stepper.result c.stepper_of-stepper.ensures.paints
+    (λ b h x lo hi. h x c.loop-y.y (omega (arith, hi, within)) (omega (arith, c.loop-y-test.true, c.drawn_rows-top.ensures.within))
+    (drawn_column (rect_seen d.cut) f ends.0 ends.1 x c.loop-y.y (c.drawn_columns-first.ensures.columns x (omega (arith, hi, within))) lo hi))
+
 pub draw_span-requires-clause-depths : goal.draw_span-requires-clause-depths
 draw_span-requires-clause-depths c =
     let d = c.args.draw.now in
