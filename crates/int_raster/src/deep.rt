@@ -11,7 +11,10 @@ ghost use Rattle.int_raster.specs.Rules.{IsPlain};
 ghost use Rattle.int_raster.specs.Seen.{prepared_seen, step_seen, change_seen};
 
 use crate::columns::{drawn_columns, drawn_rows};
-use crate::deep_spans::{fill, step_exactly, step_painted, store, store_shade, store_stepped};
+use crate::deep_spans::{
+    fill, fill_stepped, step_exactly, step_painted, store, store_shade, store_shade_stepped,
+    store_stepped,
+};
 use crate::lists::Prepared;
 use crate::opaque::{Rule, rule_of};
 use crate::painters::{Painter, depth_for, is_opaque, painter_for, painter_of};
@@ -125,6 +128,38 @@ fn paint(
     }
 }
 
+/// Draws a span by the stepped depths.
+fn store_by_steps(
+    colors: &mut [[u8; 4]],
+    depths: &mut [[u8; 4]],
+    span: &Span,
+    stepper: &Stepper,
+    rule: &Rule,
+    setup: &Setup,
+    draw: &Prepared,
+)
+    requires inside { span.now.y * span.now.width + span.now.width ≤ length colors.old }
+    requires same { length depths.old ≡ length colors.old }
+    requires plain { IsPlain rule.now draw.now setup.now }
+    requires covered { (x : ℕ) → span.now.first ≤ x → x < span.now.after → covers (setup_seen setup.now).triangle x span.now.y ≡ true }
+    requires paints { PaintsSpan stepper.now.painter draw.now setup.now span.now.y span.now.first span.now.after }
+    requires steps { AreDepths stepper.now.steps (setup_seen setup.now).triangle }
+    ensures { deep_pixels colors.new depths.new ≡ map_from (spanned (by_place span.now.width (step_seen draw.now setup.now)) (span.now.y * span.now.width + span.now.first) (span.now.y * span.now.width + span.now.after)) 0 (deep_pixels colors.old depths.old) }
+{
+    let steps = &stepper.steps;
+    match &stepper.painter {
+        Painter::Solid(color) => fill_stepped(
+            colors, depths, span, *color, steps, rule, setup, draw,
+        ),
+        Painter::Vertex(shade) => store_shade_stepped(
+            colors, depths, span, shade, steps, rule, setup, draw,
+        ),
+        painter => store_stepped(
+            colors, depths, span, painter, steps, rule, setup, draw,
+        ),
+    }
+}
+
 /// Draws a span that a triangle covers, without a brush.
 fn draw_stepped(
     colors: &mut [[u8; 4]],
@@ -145,16 +180,7 @@ fn draw_stepped(
 {
     match stepper {
         Some(stepper) => match rule {
-            Some(rule) => store_stepped(
-                colors,
-                depths,
-                span,
-                &stepper.painter,
-                &stepper.steps,
-                rule,
-                setup,
-                draw,
-            ),
+            Some(rule) => store_by_steps(colors, depths, span, stepper, rule, setup, draw),
             None => step_exactly(colors, depths, span, setup, draw),
         },
         None => step_exactly(colors, depths, span, setup, draw),
