@@ -8,7 +8,7 @@ use Rattle.fix_math.specs.Seen.{rect_seen}
 use Rattle.int_raster.specs.Places.{deep_pixels, above, is_drawn}
 use Rattle.int_raster.specs.Seen.{facing_seen, step_seen, change_seen}
 use Rattle.int_raster.proofs.Raster.{drawn_column, row_more, rows_before, rows_behind}
-use Rattle.int_raster.proofs.deep.triangle_deep.Goals as goal
+use Rattle.int_raster.proofs.deep.triangle_tested.Goals as goal
 
 pub loop-y-init : goal.loop-y-init
 loop-y-init c =
@@ -31,6 +31,16 @@ draw_span-requires-clause-paints c =
     let ends = c.drawn_columns-first.result in
     let within = c.drawn_columns-first.ensures.within in
     IfSome_then c.brush_of-brush.result c.brush_of-brush.ensures.paints
+    (λ b h x lo hi. h x c.loop-y.y (omega (arith, hi, within)) (omega (arith, c.loop-y-test.true, c.drawn_rows-top.ensures.within))
+    (drawn_column (rect_seen d.cut) f ends.0 ends.1 x c.loop-y.y (c.drawn_columns-first.ensures.columns x (omega (arith, hi, within))) lo hi))
+
+pub draw_span-requires-clause-stepped : goal.draw_span-requires-clause-stepped
+draw_span-requires-clause-stepped c =
+    let d = c.args.draw.now in
+    let f = facing_seen c.args.draw.now c.args.setup.now in
+    let ends = c.drawn_columns-first.result in
+    let within = c.drawn_columns-first.ensures.within in
+    IfSome_then c.stepper_of-stepper.result c.stepper_of-stepper.ensures.paints
     (λ b h x lo hi. h x c.loop-y.y (omega (arith, hi, within)) (omega (arith, c.loop-y-test.true, c.drawn_rows-top.ensures.within))
     (drawn_column (rect_seen d.cut) f ends.0 ends.1 x c.loop-y.y (c.drawn_columns-first.ensures.columns x (omega (arith, hi, within))) lo hi))
 
