@@ -154,9 +154,7 @@ fn store_by_steps(
         Painter::Vertex(shade) => store_shade_stepped(
             colors, depths, span, shade, steps, rule, setup, draw,
         ),
-        painter => store_stepped(
-            colors, depths, span, painter, steps, rule, setup, draw,
-        ),
+        painter => store_stepped(colors, depths, span, painter, steps, rule, setup, draw),
     }
 }
 
@@ -251,9 +249,7 @@ fn triangle_deep(
             first,
             after,
         };
-        draw_span(
-            colors, depths, &span, &brush, &stepper, &rule, setup, draw,
-        );
+        draw_span(colors, depths, &span, &brush, &stepper, &rule, setup, draw);
     }
 }
 
