@@ -157,9 +157,7 @@ fn store_by_steps(
         Painter::Vertex(shade) => store_shade_stepped(
             colors, depths, span, shade, steps, rule, setup, draw,
         ),
-        painter => store_stepped(
-            colors, depths, span, painter, steps, rule, setup, draw,
-        ),
+        painter => store_stepped(colors, depths, span, painter, steps, rule, setup, draw),
     }
 }
 
@@ -255,9 +253,7 @@ fn triangle_tested(
             first,
             after,
         };
-        draw_span(
-            colors, depths, &span, &brush, &stepper, rule, setup, draw,
-        );
+        draw_span(colors, depths, &span, &brush, &stepper, rule, setup, draw);
     }
 }
 
