@@ -88,6 +88,7 @@ fn put_attributes(bytes: &mut Vec<u8>, attributes: &[PlacedAttr])
 fn put_layout(bytes: &mut Vec<u8>, index: u16, layout: &VertexLayout) -> Result<(), AllocError>
     ensures bytes { MatchResult result (λ _. bytes.new.items ≡ bytes.old.items ++ command_bytes (create_layout_command index layout.now)) (λ _. bytes.new.items ≡ bytes.old.items) }
     ensures capacity { vec_capacity bytes.old ≤ vec_capacity bytes.new }
+    ensures refused { OnErr result (vec_capacity bytes.new ≡ vec_capacity bytes.old) }
     ensures succeeds { vec_len bytes.old + length (command_bytes (create_layout_command index layout.now)) ≤ vec_capacity bytes.old → IsOk result }
     ensures whole { is_layout layout.now ≡ true }
 {
@@ -193,9 +194,12 @@ fn update_texture_bytes(index: u16, x: u16, y: u16, w: u16, h: u16, payload: u32
 fn put(bytes: &mut Vec<u8>, piece: &[u8]) -> Result<(), AllocError>
     ensures bytes { MatchResult result (λ _. bytes.new.items ≡ bytes.old.items ++ piece.now) (λ _. bytes.new.items ≡ bytes.old.items) }
     ensures capacity { vec_capacity bytes.old ≤ vec_capacity bytes.new }
+    ensures refused { OnErr result (vec_capacity bytes.new ≡ vec_capacity bytes.old) }
     ensures succeeds { vec_len bytes.old + length piece.now ≤ vec_capacity bytes.old → IsOk result }
 {
-    bytes.extend_from_slice(piece)
+    bytes.try_reserve(piece.len())?;
+    bytes.extend_from_slice(piece).unwrap();
+    Ok(())
 }
 
 fn put_texture_update(
@@ -209,6 +213,7 @@ fn put_texture_update(
 ) -> Result<(), AllocError>
     ensures bytes { MatchResult result (λ _. bytes.new.items ≡ bytes.old.items ++ command_bytes (update_texture_command index x y w h payload)) (λ _. bytes.new.items ≡ bytes.old.items) }
     ensures capacity { vec_capacity bytes.old ≤ vec_capacity bytes.new }
+    ensures refused { OnErr result (vec_capacity bytes.new ≡ vec_capacity bytes.old) }
     ensures succeeds { vec_len bytes.old + length (command_bytes (update_texture_command index x y w h payload)) ≤ vec_capacity bytes.old → IsOk result }
 {
     let piece = update_texture_bytes(index, x, y, w, h, payload);
@@ -218,6 +223,7 @@ fn put_texture_update(
 fn append(bytes: &mut Vec<u8>, command: &Command) -> Result<(), AllocError>
     ensures bytes { MatchResult result (λ _. bytes.new.items ≡ bytes.old.items ++ command_bytes (command_seen command.now)) (λ _. bytes.new.items ≡ bytes.old.items) }
     ensures capacity { vec_capacity bytes.old ≤ vec_capacity bytes.new }
+    ensures refused { OnErr result (vec_capacity bytes.new ≡ vec_capacity bytes.old) }
     ensures succeeds { vec_len bytes.old + length (command_bytes (command_seen command.now)) ≤ vec_capacity bytes.old → IsOk result }
     ensures fits { Fits (command_seen command.now) }
 {
@@ -322,19 +328,22 @@ impl CmdBuffer {
         }
     }
 
-    /// Makes room for so many bytes more. After want of memory the commands are as they were.
+    /// Makes room for so many bytes more. It succeeds where the spare is enough. After want of memory the buffer is
+    /// as it was.
     pub fn reserve(&mut self, bytes: u32) -> Result<(), AllocError>
         ensures commands { self.new.commands ≡ self.old.commands }
         ensures spare { self.old.spare ≤ self.new.spare }
         ensures reserved { IfOk result (λ _. bytes ≤ self.new.spare) }
+        ensures refused { OnErr result (self.new ≡ self.old) }
+        ensures succeeds { bytes ≤ self.old.spare → IsOk result }
     {
         self.bytes.try_reserve(bytes as usize)
     }
 
     /// Writes one command more. It succeeds where its bytes are at most the spare, and takes no more than these
-    /// of it. After want of memory the commands are as they were.
+    /// of it. After want of memory the buffer is as it was.
     pub fn write(&mut self, command: Command) -> Result<(), AllocError>
-        ensures written { MatchResult result (λ _. self.new.commands ≡ self.old.commands ++ command_seen command ∷ []) (λ _. self.new.commands ≡ self.old.commands) }
+        ensures written { MatchResult result (λ _. self.new.commands ≡ self.old.commands ++ command_seen command ∷ []) (λ _. self.new ≡ self.old) }
         ensures succeeds { length (command_bytes (command_seen command)) ≤ self.old.spare → IsOk result }
         ensures spare { self.old.spare ≤ self.new.spare + length (command_bytes (command_seen command)) }
     {

@@ -1,5 +1,6 @@
 -- A draw without a stencil that stores all channels as they are painted.
-use Rattle.std.proofs.Common.{◌≡◌, ℕ, ◌+◌, ◌*◌, ◌/◌, ◌%◌, ◌^◌, Bool, true, false, not, ◌&&◌, if◌then◌else◌, Some, refl, ap, sym, ◌∙◌}
+use Rattle.std.proofs.Common.{◌≡◌, ℕ, ◌+◌, ◌*◌, ◌/◌, ◌%◌, ◌^◌, Bool, true, false, not, ◌&&◌, if◌then◌else◌, Some, refl, ap, sym, ◌∙◌, arith}
+use Rattle.std.specs.Prelude.{◌==◌, nat_lt}
 use Rattle.gfx_model.specs.Vertex.{Color}
 use Rattle.gfx_model.specs.Words.{depth_test_of, writes_depth}
 use Rattle.gfx_model.specs.Pixel.{Pixel, passes_depth, stored_color, pixel_step}
@@ -12,7 +13,7 @@ use Rattle.tri_cover.specs.declared.triangles.Setup.{Setup}
 use Rattle.int_raster.specs.declared.lists.Prepared.{Prepared}
 use Rattle.int_raster.specs.Seen.{paint_seen, facing_seen, step_seen}
 use Rattle.int_raster.specs.Places.{deep_pixel}
-use Rattle.int_raster.specs.Rules.{IsRule, IsPlain, by_order}
+use Rattle.int_raster.specs.Rules.{IsRule, IsOver, IsPlain, by_order}
 use Rattle.int_raster.specs.Painted.{IsOpaque, bytes_of}
 use Rattle.int_raster.proofs.Along.{stored_opaque}
 
@@ -46,6 +47,25 @@ pub plain_deep : (r : Rule) (d : Prepared) (t : Setup) (x y word kept depth : �
     deep_pixel painted z ≡ step_seen d t x y (deep_pixel old before)
 plain_deep r d t x y word kept depth color old painted before z h hw hz hc hd e =
     ap (made painted) hz ∙ e ∙ (λ i. pixel_step (made old (hw i)) (record { color = hc i; depth = hd i }) d.state (sym h.plain i))
+
+-- the same where every depth passes and none is stored
+over_passes : (r : Rule) (a b : ℕ) → IsOver r → true ≡ by_order r a b
+over_passes r a b h = rw (h.less, h.equal, h.greater) (choice (nat_lt a b) (a == b))
+  where
+    choice : (p q : Bool) → true ≡ (if p then true else (if q then true else true))
+    choice true q = refl
+    choice false true = refl
+    choice false false = refl
+
+pub over_deep : (r : Rule) (d : Prepared) (t : Setup) (x y : ℕ) (color old painted z : Color) → IsPlain r d t → IsOver r →
+    color ≡ world.painted (paint_seen d.paint) (fragment_at (setup_seen t).triangle x y) → painted ≡ bytes_of color →
+    deep_pixel painted z ≡ step_seen d t x y (deep_pixel old z)
+over_deep r d t x y color old painted z h over hc hp =
+    let word = u32_at z 0 in
+    let depth = (fragment_at (setup_seen t).triangle x y).depth in
+    let kept : word ≡ word % 2 ^ 24 + 2 ^ 24 * (word / 2 ^ 24) = omega arith in
+    plain_deep r d t x y word word depth color old painted z z h refl refl hc refl
+    (stored_is r d.state word depth word old color painted true false h.opaque h.rule (over_passes r depth (word % 2 ^ 24) over) (sym over.writes) hp kept)
 
 -- the same where any step is made
 pub shaded_step : (d : Prepared) (t : Setup) (x y depth : ℕ) (color : Color) (p q : Pixel) →

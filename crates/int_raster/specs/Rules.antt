@@ -1,5 +1,5 @@
 -- The depth test of a state word by the order of two depths.
-use Rattle.std.specs.Prelude.{◌≡◌, ℕ, ◌==◌, nat_lt, Bool, if◌then◌else◌}
+use Rattle.std.specs.Prelude.{◌≡◌, ℕ, ◌==◌, nat_lt, Bool, true, false, if◌then◌else◌}
 use Rattle.gfx_model.specs.Words.{depth_test_of, writes_depth}
 use Rattle.gfx_model.specs.Pixel.{passes_depth}
 use Rattle.tri_cover.specs.declared.triangles.Setup.{Setup}
@@ -14,6 +14,13 @@ by_order r new stored = if nat_lt new stored then r.less else (if new == stored 
 pub record IsRule (r : Rule) (state : ℕ) : Type 0 where
   pub test : (new stored : ℕ) → by_order r new stored ≡ passes_depth (depth_test_of state) new stored
   pub stores : r.writes ≡ writes_depth state
+
+-- every depth passes, and none is stored
+pub record IsOver (r : Rule) : Type 0 where
+  pub less : r.less ≡ true
+  pub equal : r.equal ≡ true
+  pub greater : r.greater ≡ true
+  pub writes : r.writes ≡ false
 
 -- a triangle without a stencil word, of a draw that stores all channels as they are painted
 pub record IsPlain (r : Rule) (d : Prepared) (s : Setup) : Type 0 where

@@ -2,6 +2,7 @@
 ghost use Rattle.std.specs.Prelude.{◌≡◌, ◌≤◌, ◌<◌, ◌+◌, ◌*◌, ℕ, true, length, IfSome, IsTrue};
 ghost use Rattle.gfx_model.specs.Number.{map_from};
 ghost use Rattle.gfx_model.specs.Raster.{covers};
+ghost use Rattle.tri_cover.specs.Deepened.{AreDepths};
 ghost use Rattle.tri_cover.specs.Shown.{setup_seen};
 ghost use Rattle.int_raster.specs.Drawing.{prepared_step};
 ghost use Rattle.int_raster.specs.Places.{deep_pixels, spanned, by_place};
@@ -10,19 +11,32 @@ ghost use Rattle.int_raster.specs.Rules.{IsPlain};
 ghost use Rattle.int_raster.specs.Seen.{prepared_seen, step_seen, change_seen};
 
 use crate::columns::{drawn_columns, drawn_rows};
-use crate::deep_spans::{fill, step_exactly, step_painted, store, store_shade};
+use crate::deep_spans::{
+    fill, fill_stepped, step_exactly, step_painted, store, store_shade, store_shade_stepped,
+    store_stepped,
+};
 use crate::lists::Prepared;
 use crate::opaque::{Rule, rule_of};
-use crate::painters::{Painter, depth_for, is_opaque, painter_for};
+use crate::over::triangle_over;
+use crate::over_spans::is_over;
+use crate::overs::Over;
+use crate::painters::{Painter, depth_for, is_opaque, painter_for, painter_of};
 use crate::painting::stencil_of;
 use crate::spans::Span;
-use tri_cover::{Ramp, Setup};
+use tri_cover::{DepthSteps, Ramp, Setup};
 
 /// What draws a triangle's pixels.
 #[derive(Clone, Copy)]
 pub(crate) struct Brush<'x> {
     pub painter: Painter<'x>,
     pub depth: Ramp,
+}
+
+/// What draws the pixels of a triangle whose depths have no ramp.
+#[derive(Clone, Copy)]
+pub(crate) struct Stepper<'x> {
+    pub painter: Painter<'x>,
+    pub steps: DepthSteps,
 }
 
 /// What draws a triangle's pixels; none where 64 bits are too few.
@@ -34,6 +48,25 @@ fn brush_of<'x>(setup: &Setup, draw: &Prepared<'x>, width: u16, height: u16) -> 
     let painter = painter_for(setup, &steps, &draw.paint)?;
     let depth = depth_for(setup, &steps)?;
     Some(Brush { painter, depth })
+}
+
+/// What draws a triangle's pixels where there is no brush; none where the colours have no ramps either.
+fn stepper_of<'x>(
+    setup: &Setup,
+    draw: &Prepared<'x>,
+    width: u16,
+    height: u16,
+    brush: &Option<Brush>,
+) -> Option<Stepper<'x>>
+    ensures paints { IfSome result (λ s. Paints s.painter draw.now setup.now width height) }
+    ensures steps { IfSome result (λ s. AreDepths s.steps (setup_seen setup.now).triangle) }
+{
+    if brush.is_some() {
+        return None;
+    }
+    let painter = painter_of(setup, draw, width, height)?;
+    let steps = setup.depth_steps();
+    Some(Stepper { painter, steps })
 }
 
 /// Draws a span with a brush.
@@ -98,12 +131,70 @@ fn paint(
     }
 }
 
+/// Draws a span by the stepped depths.
+fn store_by_steps(
+    colors: &mut [[u8; 4]],
+    depths: &mut [[u8; 4]],
+    span: &Span,
+    stepper: &Stepper,
+    rule: &Rule,
+    setup: &Setup,
+    draw: &Prepared,
+)
+    requires inside { span.now.y * span.now.width + span.now.width ≤ length colors.old }
+    requires same { length depths.old ≡ length colors.old }
+    requires plain { IsPlain rule.now draw.now setup.now }
+    requires covered { (x : ℕ) → span.now.first ≤ x → x < span.now.after → covers (setup_seen setup.now).triangle x span.now.y ≡ true }
+    requires paints { PaintsSpan stepper.now.painter draw.now setup.now span.now.y span.now.first span.now.after }
+    requires steps { AreDepths stepper.now.steps (setup_seen setup.now).triangle }
+    ensures { deep_pixels colors.new depths.new ≡ map_from (spanned (by_place span.now.width (step_seen draw.now setup.now)) (span.now.y * span.now.width + span.now.first) (span.now.y * span.now.width + span.now.after)) 0 (deep_pixels colors.old depths.old) }
+{
+    let steps = &stepper.steps;
+    match &stepper.painter {
+        Painter::Solid(color) => fill_stepped(
+            colors, depths, span, *color, steps, rule, setup, draw,
+        ),
+        Painter::Vertex(shade) => store_shade_stepped(
+            colors, depths, span, shade, steps, rule, setup, draw,
+        ),
+        painter => store_stepped(colors, depths, span, painter, steps, rule, setup, draw),
+    }
+}
+
+/// Draws a span that a triangle covers, without a brush.
+fn draw_stepped(
+    colors: &mut [[u8; 4]],
+    depths: &mut [[u8; 4]],
+    span: &Span,
+    stepper: &Option<Stepper>,
+    rule: &Option<Rule>,
+    setup: &Setup,
+    draw: &Prepared,
+)
+    requires inside { span.now.y * span.now.width + span.now.width ≤ length colors.old }
+    requires same { length depths.old ≡ length colors.old }
+    requires covered { (x : ℕ) → span.now.first ≤ x → x < span.now.after → covers (setup_seen setup.now).triangle x span.now.y ≡ true }
+    requires paints { IfSome stepper.now (λ s. PaintsSpan s.painter draw.now setup.now span.now.y span.now.first span.now.after) }
+    requires steps { IfSome stepper.now (λ s. AreDepths s.steps (setup_seen setup.now).triangle) }
+    requires rule { IfSome rule.now (λ r. IsPlain r draw.now setup.now) }
+    ensures { deep_pixels colors.new depths.new ≡ map_from (spanned (by_place span.now.width (step_seen draw.now setup.now)) (span.now.y * span.now.width + span.now.first) (span.now.y * span.now.width + span.now.after)) 0 (deep_pixels colors.old depths.old) }
+{
+    match stepper {
+        Some(stepper) => match rule {
+            Some(rule) => store_by_steps(colors, depths, span, stepper, rule, setup, draw),
+            None => step_exactly(colors, depths, span, setup, draw),
+        },
+        None => step_exactly(colors, depths, span, setup, draw),
+    }
+}
+
 /// Draws a span that a triangle covers, with a brush where there is one.
 fn draw_span(
     colors: &mut [[u8; 4]],
     depths: &mut [[u8; 4]],
     span: &Span,
     brush: &Option<Brush>,
+    stepper: &Option<Stepper>,
     rule: &Option<Rule>,
     setup: &Setup,
     draw: &Prepared,
@@ -113,12 +204,14 @@ fn draw_span(
     requires covered { (x : ℕ) → span.now.first ≤ x → x < span.now.after → covers (setup_seen setup.now).triangle x span.now.y ≡ true }
     requires paints { IfSome brush.now (λ b. PaintsSpan b.painter draw.now setup.now span.now.y span.now.first span.now.after) }
     requires depths { IfSome brush.now (λ b. HasSpanDepths b.depth setup.now span.now.y span.now.first span.now.after) }
+    requires stepped { IfSome stepper.now (λ s. PaintsSpan s.painter draw.now setup.now span.now.y span.now.first span.now.after) }
+    requires steps { IfSome stepper.now (λ s. AreDepths s.steps (setup_seen setup.now).triangle) }
     requires rule { IfSome rule.now (λ r. IsPlain r draw.now setup.now) }
     ensures { deep_pixels colors.new depths.new ≡ map_from (spanned (by_place span.now.width (step_seen draw.now setup.now)) (span.now.y * span.now.width + span.now.first) (span.now.y * span.now.width + span.now.after)) 0 (deep_pixels colors.old depths.old) }
 {
     match brush {
         Some(brush) => paint(colors, depths, span, brush, rule, setup, draw),
-        None => step_exactly(colors, depths, span, setup, draw),
+        None => draw_stepped(colors, depths, span, stepper, rule, setup, draw),
     }
 }
 
@@ -131,6 +224,57 @@ fn plain_rule(setup: &Setup, draw: &Prepared) -> Option<Rule>
     } else {
         None
     }
+}
+
+/// Draws a triangle pixel by pixel with its depth.
+fn triangle_tested(
+    colors: &mut [[u8; 4]],
+    depths: &mut [[u8; 4]],
+    width: u16,
+    height: u16,
+    rule: &Option<Rule>,
+    setup: &Setup,
+    draw: &Prepared,
+)
+    requires wide { 1 ≤ width }
+    requires whole { length colors.old ≡ width * height }
+    requires same { length depths.old ≡ length colors.old }
+    requires rule { IfSome rule.now (λ r. IsPlain r draw.now setup.now) }
+    ensures { deep_pixels colors.new depths.new ≡ map_from (by_place width (change_seen draw.now setup.now)) 0 (deep_pixels colors.old depths.old) }
+{
+    let brush = brush_of(setup, draw, width, height);
+    let stepper = stepper_of(setup, draw, width, height, &brush);
+    let (top, bottom) = drawn_rows(setup, &draw.cut, height);
+    for y in top..bottom {
+        let (first, after) = drawn_columns(setup, &draw.cut, y, width);
+        let span = Span {
+            width,
+            y,
+            first,
+            after,
+        };
+        draw_span(colors, depths, &span, &brush, &stepper, rule, setup, draw);
+    }
+}
+
+/// What draws a triangle over the depths; none where they are tested or stored, or where 64 bits are too few.
+fn over_of<'x>(
+    rule: &Option<Rule>,
+    setup: &Setup,
+    draw: &Prepared<'x>,
+    width: u16,
+    height: u16,
+) -> Option<Over<'x>>
+    requires { IfSome rule.now (λ r. IsPlain r draw.now setup.now) }
+    ensures paints { IfSome result (λ o. Paints o.painter draw.now setup.now width height) }
+    ensures plain { IfSome result (λ o. IsPlain o.rule draw.now setup.now) }
+{
+    let rule = (*rule)?;
+    if !is_over(&rule) {
+        return None;
+    }
+    let painter = painter_of(setup, draw, width, height)?;
+    Some(Over { painter, rule })
 }
 
 /// Draws a triangle.
@@ -147,18 +291,10 @@ fn triangle_deep(
     requires same { length depths.old ≡ length colors.old }
     ensures { deep_pixels colors.new depths.new ≡ map_from (by_place width (change_seen draw.now setup.now)) 0 (deep_pixels colors.old depths.old) }
 {
-    let brush = brush_of(setup, draw, width, height);
     let rule = plain_rule(setup, draw);
-    let (top, bottom) = drawn_rows(setup, &draw.cut, height);
-    for y in top..bottom {
-        let (first, after) = drawn_columns(setup, &draw.cut, y, width);
-        let span = Span {
-            width,
-            y,
-            first,
-            after,
-        };
-        draw_span(colors, depths, &span, &brush, &rule, setup, draw);
+    match over_of(&rule, setup, draw, width, height) {
+        Some(over) => triangle_over(colors, width, height, &over, setup, draw),
+        None => triangle_tested(colors, depths, width, height, &rule, setup, draw),
     }
 }
 

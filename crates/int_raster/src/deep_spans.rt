@@ -3,6 +3,7 @@ ghost use Rattle.std.specs.Prelude.{◌≡◌, ◌≤◌, ◌<◌, ◌+◌, ◌*
 ghost use Rattle.gfx_model.specs.Number.{map_from, u32_at};
 ghost use Rattle.gfx_model.specs.Raster.{covers, fragment_at};
 ghost use Rattle.gfx_model.specs.World.{painted};
+ghost use Rattle.tri_cover.specs.Deepened.{AreDepths};
 ghost use Rattle.tri_cover.specs.Shown.{setup_seen};
 ghost use Rattle.int_raster.specs.Places.{deep_pixels, spanned, by_place};
 ghost use Rattle.int_raster.specs.Painted.{shade_at, PaintsSpan, HasSpanDepths};
@@ -15,7 +16,7 @@ use crate::painters::{Painter, Shade, color_at, value_at};
 use crate::painting::{stepped, stepped_by};
 use crate::spans::Span;
 use pixel_ops::Pixel;
-use tri_cover::{Ramp, Setup};
+use tri_cover::{DepthSteps, Ramp, Setup};
 
 /// The depth word of a depth texel.
 fn depth_word(texel: [u8; 4]) -> u32
@@ -206,5 +207,119 @@ pub(crate) fn store_shade(
         blue = blue.wrapping_add(shade.blue.right);
         alpha = alpha.wrapping_add(shade.alpha.right);
         new = new.wrapping_add(depth.right);
+    }
+}
+
+/// Stores a painter's colours in a span where the depths pass that are stepped by quotient and rest.
+pub(crate) fn store_stepped(
+    colors: &mut [[u8; 4]],
+    depths: &mut [[u8; 4]],
+    span: &Span,
+    painter: &Painter,
+    steps: &DepthSteps,
+    rule: &Rule,
+    setup: &Setup,
+    draw: &Prepared,
+)
+    requires inside { span.now.y * span.now.width + span.now.width ≤ length colors.old }
+    requires same { length depths.old ≡ length colors.old }
+    requires plain { IsPlain rule.now draw.now setup.now }
+    requires covered { (x : ℕ) → span.now.first ≤ x → x < span.now.after → covers (setup_seen setup.now).triangle x span.now.y ≡ true }
+    requires paints { PaintsSpan painter.now draw.now setup.now span.now.y span.now.first span.now.after }
+    requires steps { AreDepths steps.now (setup_seen setup.now).triangle }
+    ensures { deep_pixels colors.new depths.new ≡ map_from (spanned (by_place span.now.width (step_seen draw.now setup.now)) (span.now.y * span.now.width + span.now.first) (span.now.y * span.now.width + span.now.after)) 0 (deep_pixels colors.old depths.old) }
+{
+    let start = span.y as usize * span.width as usize;
+    let mut at = setup.depth_at(steps, span.first, span.y);
+    for x in span.first..span.after {
+        let old = colors[start + x as usize];
+        let word = depth_word(depths[start + x as usize]);
+        let color = color_at(painter, x, span.y);
+        let new = at.depth();
+        let after = stored_after(old, word, color, new, rule);
+        let painted = after.color;
+        colors[start + x as usize] = painted;
+        depths[start + x as usize] = word_texel(after.word);
+        at = steps.next(at);
+    }
+}
+
+/// Stores one colour in a span where the depths pass that are stepped by quotient and rest.
+pub(crate) fn fill_stepped(
+    colors: &mut [[u8; 4]],
+    depths: &mut [[u8; 4]],
+    span: &Span,
+    color: [u8; 4],
+    steps: &DepthSteps,
+    rule: &Rule,
+    setup: &Setup,
+    draw: &Prepared,
+)
+    requires inside { span.now.y * span.now.width + span.now.width ≤ length colors.old }
+    requires same { length depths.old ≡ length colors.old }
+    requires plain { IsPlain rule.now draw.now setup.now }
+    requires covered { (x : ℕ) → span.now.first ≤ x → x < span.now.after → covers (setup_seen setup.now).triangle x span.now.y ≡ true }
+    requires paints { (x : ℕ) → span.now.first ≤ x → x < span.now.after → color ≡ painted (paint_seen draw.now.paint) (fragment_at (setup_seen setup.now).triangle x span.now.y) }
+    requires steps { AreDepths steps.now (setup_seen setup.now).triangle }
+    ensures { deep_pixels colors.new depths.new ≡ map_from (spanned (by_place span.now.width (step_seen draw.now setup.now)) (span.now.y * span.now.width + span.now.first) (span.now.y * span.now.width + span.now.after)) 0 (deep_pixels colors.old depths.old) }
+{
+    let start = span.y as usize * span.width as usize;
+    let mut at = setup.depth_at(steps, span.first, span.y);
+    for x in span.first..span.after {
+        let old = colors[start + x as usize];
+        let word = depth_word(depths[start + x as usize]);
+        let new = at.depth();
+        let after = stored_after(old, word, color, new, rule);
+        let painted = after.color;
+        colors[start + x as usize] = painted;
+        depths[start + x as usize] = word_texel(after.word);
+        at = steps.next(at);
+    }
+}
+
+/// Stores the vertices' colours in a span where the depths pass that are stepped by quotient and rest.
+pub(crate) fn store_shade_stepped(
+    colors: &mut [[u8; 4]],
+    depths: &mut [[u8; 4]],
+    span: &Span,
+    shade: &Shade,
+    steps: &DepthSteps,
+    rule: &Rule,
+    setup: &Setup,
+    draw: &Prepared,
+)
+    requires inside { span.now.y * span.now.width + span.now.width ≤ length colors.old }
+    requires same { length depths.old ≡ length colors.old }
+    requires plain { IsPlain rule.now draw.now setup.now }
+    requires covered { (x : ℕ) → span.now.first ≤ x → x < span.now.after → covers (setup_seen setup.now).triangle x span.now.y ≡ true }
+    requires paints { (x : ℕ) → span.now.first ≤ x → x < span.now.after → shade_at shade.now x span.now.y ≡ painted (paint_seen draw.now.paint) (fragment_at (setup_seen setup.now).triangle x span.now.y) }
+    requires steps { AreDepths steps.now (setup_seen setup.now).triangle }
+    ensures { deep_pixels colors.new depths.new ≡ map_from (spanned (by_place span.now.width (step_seen draw.now setup.now)) (span.now.y * span.now.width + span.now.first) (span.now.y * span.now.width + span.now.after)) 0 (deep_pixels colors.old depths.old) }
+{
+    let start = span.y as usize * span.width as usize;
+    let mut red = value_at(&shade.red, span.first, span.y);
+    let mut green = value_at(&shade.green, span.first, span.y);
+    let mut blue = value_at(&shade.blue, span.first, span.y);
+    let mut alpha = value_at(&shade.alpha, span.first, span.y);
+    let mut at = setup.depth_at(steps, span.first, span.y);
+    for x in span.first..span.after {
+        let old = colors[start + x as usize];
+        let word = depth_word(depths[start + x as usize]);
+        let color = [
+            (red >> 56) as u8,
+            (green >> 56) as u8,
+            (blue >> 56) as u8,
+            (alpha >> 56) as u8,
+        ];
+        let new = at.depth();
+        let after = stored_after(old, word, color, new, rule);
+        let painted = after.color;
+        colors[start + x as usize] = painted;
+        depths[start + x as usize] = word_texel(after.word);
+        red = red.wrapping_add(shade.red.right);
+        green = green.wrapping_add(shade.green.right);
+        blue = blue.wrapping_add(shade.blue.right);
+        alpha = alpha.wrapping_add(shade.alpha.right);
+        at = steps.next(at);
     }
 }

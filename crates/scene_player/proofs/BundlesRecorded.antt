@@ -1,22 +1,18 @@
 -- One encoder more of a frame: its recording, and its entries in the journal of one thread.
-use Rattle.std.proofs.Common.{◌≡◌, ℕ, zero, suc, ◌+◌, ◌<◌, ◌≤◌, List, [], ◌∷◌, ◌++◌, map, take, length, get_or, refl, ap, sym, ◌∙◌, arith, append_assoc, append-nil}
+use Rattle.std.proofs.Common.{◌≡◌, ℕ, suc, ◌+◌, ◌<◌, List, [], ◌∷◌, ◌++◌, map, take, length, get_or, refl, ap, sym, ◌∙◌, arith, append_assoc, append-nil}
 use Rattle.std.specs.Prelude.{fold}
 use Rattle.std.specs.List.{range_with_len}
 use Rattle.std.proofs.lemmas.List.{map-append, length-map, length-take-le}
 use Rattle.std.proofs.lemmas.List.FromFn.{map-range_with_len_more}
-use Rattle.gfx_model.specs.World as world
-use Rattle.scene_model.specs.Fold.{Accepted, Progress, after_encoder_line, accepted_of, recording_of, lines_of}
+use Rattle.gfx_model.specs.Recorder.{begun}
+use Rattle.scene_model.specs.Scene as scenes
+use Rattle.scene_model.specs.Fold.{Accepted, Progress, Recording, after_encoder_line, accepted_of, recording_of, lines_of}
 use Rattle.scene_model.specs.Journal.{Entry, entries_of, serial_from}
 use Rattle.scene_text.specs.declared.journal.JournalEntry.{JournalEntry}
 use Rattle.scene_text.specs.declared.scene.Scene.{Scene}
 use Rattle.scene_text.specs.declared.scene.SceneFrame.{SceneFrame}
 use Rattle.scene_text.specs.declared.scene.EncLine.{EncLine}
 use Rattle.scene_text.specs.Seen.{entry_seen, scene_seen, frame_seen, room_seen, block_seen, encoder_line_seen}
-use Rattle.scene_player.specs.declared.item.Item.{Item}
-use Rattle.scene_player.specs.declared.recording.Recording.{Recording}
-use Rattle.scene_player.specs.Touches.{touch_of}
-use Rattle.scene_player.specs.Recorded.{item_view, item_seen, recording_seen, recorder_seen}
-use Rattle.scene_player.specs.Frame.{HasFewItems}
 use Rattle.scene_player.proofs.Steps.{map-next}
 
 abbrev entry_at : ℕ → ℕ → Entry
@@ -40,31 +36,17 @@ serial-append n (b ∷ all) a =
     ∙ sym (append_assoc (entries_of n (length b.items)) (serial_from (n + 1) all) (entries_of (n + suc (length all)) (length a.items)))
 
 -- one encoder's entries more
-pub serial-next : (bundles : List Recording) (i : ℕ) (d : Recording) (before new : List JournalEntry) (count : ℕ) → i < length bundles → d ≡ get_or bundles i d → count ≡ length d.items.items
-    → map entry_seen before ≡ serial_from 0 (map recording_seen (take i bundles)) → map entry_seen new ≡ map entry_seen before ++ entries_of i count
-    → map entry_seen new ≡ serial_from 0 (map recording_seen (take (i + 1) bundles))
+pub serial-next : (bundles : List Recording) (i : ℕ) (d : Recording) (before new : List JournalEntry) (count : ℕ) → i < length bundles → d ≡ get_or bundles i d → count ≡ length d.recorder.items
+    → map entry_seen before ≡ serial_from 0 (map accepted_of (take i bundles)) → map entry_seen new ≡ map entry_seen before ++ entries_of i count
+    → map entry_seen new ≡ serial_from 0 (map accepted_of (take (i + 1) bundles))
 serial-next bundles i d before new count lt is many h e =
-    let at : 0 + length (map recording_seen (take i bundles)) ≡ i = omega (arith, length-map (take i bundles) recording_seen, length-take-le i bundles) in
-    let own : length (recording_seen d).items ≡ count = length-map d.items.items item_seen ∙ sym many in
+    let at : 0 + length (map accepted_of (take i bundles)) ≡ i = omega (arith, length-map (take i bundles) accepted_of, length-take-le i bundles) in
     e ∙ ap (λ (es : List Entry). es ++ entries_of i count) h
-    ∙ ap (λ n. serial_from 0 (map recording_seen (take i bundles)) ++ entries_of n count) (sym at)
-    ∙ ap (λ n. serial_from 0 (map recording_seen (take i bundles)) ++ entries_of (0 + length (map recording_seen (take i bundles))) n) (sym own)
-    ∙ sym (serial-append 0 (map recording_seen (take i bundles)) (recording_seen d))
-    ∙ ap (λ (r : Recording). serial_from 0 (map recording_seen (take i bundles) ++ recording_seen r ∷ [])) is
-    ∙ ap (serial_from 0) (sym (map-next recording_seen bundles i d lt))
-
-pub few-at : (most : ℕ) (bundles : List Recording) (i : ℕ) (d : Recording) → i < length bundles → d ≡ get_or bundles i d → HasFewItems most bundles → length d.items.items ≤ most
-few-at most [] i d lt is few = absurd (omega arith)
-few-at most (r ∷ bundles) zero d lt is few = let e : length d.items.items ≡ length r.items.items = ap (λ (x : Recording). length x.items.items) is in omega (arith, few.0)
-few-at most (r ∷ bundles) (suc i) d lt is few = few-at most bundles i d (omega arith) is few.1
-
-pub few-more : (most : ℕ) (bundles : List Recording) (r : Recording) → HasFewItems most bundles → length r.items.items ≤ most → HasFewItems most (bundles ++ r ∷ [])
-few-more most [] r few one = (one, tt)
-few-more most (b ∷ bundles) r few one = (few.0, few-more most bundles r few.1 one)
-
-same-items : (done : List Item) → map touch_of (map item_view done) ≡ map item_seen done
-same-items [] = refl
-same-items (i ∷ done) = ap (λ (xs : List world.Item). item_seen i ∷ xs) (same-items done)
+    ∙ ap (λ n. serial_from 0 (map accepted_of (take i bundles)) ++ entries_of n count) (sym at)
+    ∙ ap (λ n. serial_from 0 (map accepted_of (take i bundles)) ++ entries_of (0 + length (map accepted_of (take i bundles))) n) many
+    ∙ sym (serial-append 0 (map accepted_of (take i bundles)) (accepted_of d))
+    ∙ ap (λ (r : Recording). serial_from 0 (map accepted_of (take i bundles) ++ accepted_of r ∷ [])) is
+    ∙ ap (serial_from 0) (sym (map-next accepted_of bundles i d lt))
 
 -- what an encoder of the scene records in a frame
 abbrev accepted_in : Scene → SceneFrame → ℕ → Progress → ℕ → Accepted
@@ -73,17 +55,16 @@ accepted_in s f number p e = accepted_of (recording_of (scene_seen s) number p (
 -- one recording more
 pub recorded-more : (s : Scene) (f : SceneFrame) (number : ℕ) (p : Progress) (e : ℕ) (bundles new : List Recording) (r : Recording) (own : List EncLine) → new ≡ bundles ++ r ∷ []
     → map encoder_line_seen own ≡ lines_of e (map block_seen f.blocks)
-    → fold (after_encoder_line p) (recorder_seen number (room_seen s.room) [] 0) (map encoder_line_seen own) ≡ recorder_seen number (room_seen s.room) r.items.items r.dropped
-    → map (accepted_in s f number p) (range_with_len 0 e) ≡ map recording_seen bundles
-    → map (accepted_in s f number p) (range_with_len 0 (e + 1)) ≡ map recording_seen new
+    → r ≡ fold (after_encoder_line p) (record { recorder = begun number 256 (room_seen s.room); dropped = 0 }) (map encoder_line_seen own)
+    → map (accepted_in s f number p) (range_with_len 0 e) ≡ map accepted_of bundles
+    → map (accepted_in s f number p) (range_with_len 0 (e + 1)) ≡ map accepted_of new
 recorded-more s f number p e bundles new r own push same recorded h =
     let from : 0 + e ≡ e = omega arith in
-    let one : accepted_in s f number p e ≡ recording_seen r =
-    ap (λ (ls : List _). accepted_of (fold (after_encoder_line p) (recorder_seen number (room_seen s.room) [] 0) ls)) (sym same)
-    ∙ ap accepted_of recorded
-    ∙ ap (λ (xs : List world.Item). record { items = xs; dropped = r.dropped }) (same-items r.items.items) in
+    let first : Recording = record { recorder = begun number 256 (room_seen s.room); dropped = 0 } in
+    let one : accepted_in s f number p e ≡ accepted_of r =
+    ap (λ (ls : List scenes.EncoderLine). accepted_of (fold (after_encoder_line p) first ls)) (sym same) ∙ ap accepted_of (sym recorded) in
     map-range_with_len_more (accepted_in s f number p) 0 e e from
     ∙ ap (λ (xs : List Accepted). xs ++ accepted_in s f number p e ∷ []) h
-    ∙ ap (λ (a : Accepted). map recording_seen bundles ++ a ∷ []) one
-    ∙ sym (map-append recording_seen bundles (r ∷ []))
-    ∙ ap (map recording_seen) (sym push)
+    ∙ ap (λ (a : Accepted). map accepted_of bundles ++ a ∷ []) one
+    ∙ sym (map-append accepted_of bundles (r ∷ []))
+    ∙ ap (map accepted_of) (sym push)

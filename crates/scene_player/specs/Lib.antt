@@ -1,10 +1,7 @@
-pub mod Views
-pub mod Canvas
-pub mod Touches
-pub mod Entered
 pub mod Io
 pub mod Numbers
-pub mod Recorded
+pub mod Bound
+pub mod Lines
 pub mod Frame
 pub mod Rendered
 pub mod Ended

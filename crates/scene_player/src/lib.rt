@@ -1,21 +1,26 @@
 //! Plays a scene: from the bytes of its text to the bytes of its pictures and notes.
 #![tactic(auto)]
 
-mod canvas;
+mod composing;
+mod dropping;
 mod frame;
 mod input;
-mod item;
+mod layouts;
+mod lines;
+mod names;
 mod notes;
 mod output;
 mod picture;
 mod playing;
+mod progress;
 mod recording;
 mod renderer;
 mod status;
 #[cfg(test)]
 mod tests;
 mod top;
-mod views;
+#[cfg(test)]
+mod triangle_tests;
 mod words;
 
 pub use status::Status;

@@ -1,9 +1,9 @@
 // The lines of the notes.
 ghost use Rattle.std.specs.Prelude.{◌≡◌, ◌≤◌, ◌+◌, ◌*◌, ◌^◌, map, length, sum_by, string_bytes, IfOk, OnOk, OnErr, ◌++◌};
+ghost use Rattle.scene_model.specs.Fold.{accepted_of};
 ghost use Rattle.scene_model.specs.Journal.{item_count};
 ghost use Rattle.scene_model.specs.Output.{frame_note, usage_line, length_line, scene_line};
 ghost use Rattle.scene_player.specs.Frame.{plan_seen};
-ghost use Rattle.scene_player.specs.Recorded.{recording_seen};
 
 use crate::frame::Frame;
 use crate::recording::Recording;
@@ -25,7 +25,7 @@ pub(crate) fn scene_refused(alloc: Global, line: u32, cause: u8) -> Result<Vec<u
 
 /// How many items the encoders of a frame recorded. No sum of lengths passes 128 bits.
 fn count_items(bundles: &[Recording]) -> u128
-    ensures { result ≡ item_count (map recording_seen bundles.now) }
+    ensures { result ≡ item_count (map accepted_of bundles.now) }
 {
     let mut items: u128 = 0;
     for bundle in bundles {
@@ -37,11 +37,11 @@ fn count_items(bundles: &[Recording]) -> u128
 /// How many lines the encoders of a frame dropped.
 fn count_dropped(bundles: &[Recording]) -> u128
     ensures few { result ≤ 2 ^ 64 * length bundles.now }
-    ensures dropped { result ≡ sum_by (λ a. a.dropped) (map recording_seen bundles.now) }
+    ensures dropped { result ≡ sum_by (λ a. a.dropped) (map accepted_of bundles.now) }
 {
     let mut dropped: u128 = 0;
     for bundle in bundles {
-        dropped += u128::from(bundle.dropped);
+        dropped += u128::from(bundle.dropped());
     }
     dropped
 }
@@ -50,7 +50,7 @@ fn count_dropped(bundles: &[Recording]) -> u128
 pub(crate) fn push_frame(
     alloc: Global,
     report: &mut Vec<u8>,
-    number: usize,
+    number: u32,
     frame: &Frame,
 ) -> Result<(), AllocError>
     ensures { OnOk result (report.new.items ≡ report.old.items ++ frame_note number (plan_seen frame.now)) }

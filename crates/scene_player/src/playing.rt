@@ -1,20 +1,20 @@
 // Plays the frames of a scene, one after another.
-ghost use Rattle.std.specs.Prelude.{◌≡◌, ◌≤◌, ◌*◌, ◌++◌, ◌∷◌, [], ℕ, map, replicate, IfOk, OnErr};
-ghost use Rattle.gfx_model.specs.Raster.{no_color};
-ghost use Rattle.scene_model.specs.Fold.{Progress};
-ghost use Rattle.scene_model.specs.Journal.{serial_from};
+ghost use Rattle.std.specs.Prelude.{◌≡◌, ◌≤◌, ◌++◌, ◌∷◌, [], map, length, IfOk, OnErr};
+ghost use Rattle.gfx_model.specs.World.{first_world};
+ghost use Rattle.scene_model.specs.Scene.{HasSides};
 ghost use Rattle.scene_model.specs.Output.{frame_note};
 ghost use Rattle.io_edge.specs.Edge.{Rose};
-ghost use Rattle.scene_text.specs.Seen.{clear_seen, entry_seen, scene_seen, journal_seen};
-ghost use Rattle.scene_player.specs.Views.{IsPlain, no_clear};
-ghost use Rattle.scene_player.specs.Recorded.{recording_seen};
+ghost use Rattle.scene_text.specs.Seen.{scene_seen, journal_seen};
+ghost use Rattle.scene_player.specs.Lines.{started, progress_seen};
 ghost use Rattle.scene_player.specs.Frame.{plan_seen, IsComposed};
+ghost use Rattle.scene_player.specs.Rendered.{Fits};
 ghost use Rattle.scene_player.specs.Shown.{IsShown};
 
-use crate::frame::{Frame, compose};
+use crate::composing::compose;
+use crate::frame::Frame;
 use crate::notes::push_frame;
+use crate::progress::Progress;
 use crate::renderer::{Canvas, Outcome};
-use crate::views::Views;
 use io_edge::Sink;
 use scene_text::{Journal, JournalEntry, Scene, SceneFrame, Sequence};
 use std::alloc::{AllocError, Global};
@@ -31,40 +31,40 @@ pub(crate) struct FramesPlayed {
 fn next_frame(
     alloc: Global,
     scene: &Scene,
-    number: usize,
+    number: u32,
     frame: &SceneFrame,
-    views: &mut Views,
+    progress: &mut Progress,
     journal: &mut Vec<Sequence<JournalEntry>>,
     report: &mut Vec<u8>,
 ) -> Result<Frame, AllocError>
     ensures kept { OnErr result (journal.new.items ≡ journal.old.items) }
     ensures pushed { IfOk result (λ f. journal.new.items ≡ journal.old.items ++ f.journal.items ∷ []) }
     ensures note { IfOk result (λ f. report.new.items ≡ report.old.items ++ frame_note number (plan_seen f)) }
-    ensures clears { IfOk result (λ f. f.clears.items ≡ views.new) }
-    ensures serial { IfOk result (λ f. map entry_seen f.journal.items ≡ serial_from 0 (map recording_seen f.bundles.items)) }
-    ensures composed { IfOk result (λ f. (number : ℕ) (p : Progress) (count : ℕ) → IsPlain p (map clear_seen views.old) count
-        → IsComposed scene.now frame.now number p f) }
+    ensures composed { IfOk result (λ f. IsComposed scene.now frame.now number progress.old progress.new f) }
 {
-    let next = compose(alloc, scene, frame, views)?;
+    let next = compose(alloc, scene, number, frame, progress)?;
     push_frame(alloc, report, number, &next)?;
     let entries = next.journal.as_slice().to_vec(alloc)?;
     journal.push(Sequence::from_vec(entries))?;
     Ok(next)
 }
 
-/// The views and the back buffer before the first frame.
-fn start(alloc: Global, scene: &Scene) -> Result<(Views, Canvas), AllocError>
-    ensures views { IfOk result (λ r. map clear_seen r.0 ≡ replicate 256 no_clear) }
-    ensures sides { IfOk result (λ r. (r.1.width ≡ scene.now.width) × (r.1.height ≡ scene.now.height)) }
-    ensures blank { IfOk result (λ r. r.1.colors.items ≡ replicate (scene.now.width * scene.now.height) no_color) }
+/// What stands before the first frame.
+fn start(alloc: Global, scene: &Scene) -> Result<(Progress, Canvas), AllocError>
+    requires { HasSides (scene_seen scene.now) }
+    ensures progress { IfOk result (λ r. progress_seen r.0 ≡ started) }
+    ensures world { IfOk result (λ r. r.1.world ≡ first_world scene.now.width scene.now.height) }
+    ensures fits { IfOk result (λ r. Fits r.1) }
 {
-    let views = Views::new(alloc)?;
+    let progress = Progress::new(alloc)?;
     let canvas = Canvas::new(alloc, scene.width, scene.height)?;
-    Ok((views, canvas))
+    Ok((progress, canvas))
 }
 
 /// Plays all frames, and puts a picture for each.
 pub(crate) fn play_frames<P: Sink>(alloc: Global, scene: &Scene, pictures: &mut P) -> FramesPlayed
+    requires sides { HasSides (scene_seen scene.now) }
+    requires few { length (scene_seen scene.now).frames ≤ 1024 }
     ensures shown { IsShown result.outcome (scene_seen scene.now) (P.held pictures.old) (P.held pictures.new)
         (journal_seen result.journal) result.report.items
         (Rose (P.faults pictures.old) (P.faults pictures.new)) }
@@ -73,7 +73,7 @@ pub(crate) fn play_frames<P: Sink>(alloc: Global, scene: &Scene, pictures: &mut 
 {
     let mut lists = Vec::new(alloc);
     let mut report = Vec::new(alloc);
-    let (mut views, mut canvas) = match start(alloc, scene) {
+    let (mut progress, mut canvas) = match start(alloc, scene) {
         Ok(first) => first,
         Err(_) => return ended(Outcome::OutOfMemory, lists, report),
     };
@@ -82,16 +82,16 @@ pub(crate) fn play_frames<P: Sink>(alloc: Global, scene: &Scene, pictures: &mut 
         let next = match next_frame(
             alloc,
             scene,
-            number,
+            number as u32,
             frame,
-            &mut views,
+            &mut progress,
             &mut lists,
             &mut report,
         ) {
             Ok(next) => next,
             Err(_) => return ended(Outcome::OutOfMemory, lists, report),
         };
-        match canvas.render(alloc, &next, pictures) {
+        match canvas.render(alloc, next, pictures) {
             Outcome::Shown => {}
             Outcome::PictureFault => return ended(Outcome::PictureFault, lists, report),
             Outcome::OutOfMemory => return ended(Outcome::OutOfMemory, lists, report),

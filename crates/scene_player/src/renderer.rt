@@ -1,21 +1,16 @@
 // Renders frames: draws each on the back buffer, and puts its picture into the sink.
-ghost use Rattle.std.specs.Prelude.{◌≡◌, ◌*◌, ◌≤◌, ◌++◌, ℕ, length, map, flat_map, take, replicate, IfOk, OnOk, OnErr};
-ghost use Rattle.gfx_model.specs.Raster.{no_color};
-ghost use Rattle.gfx_model.specs.World.{World, frame_step};
-ghost use Rattle.scene_model.specs.Journal.{frame_content};
-ghost use Rattle.scene_model.specs.Output.{picture_header, picture_text};
+ghost use Rattle.std.specs.Prelude.{◌≡◌, ◌*◌, ◌≤◌, ◌+◌, ℕ, length, IfOk, OnOk};
+ghost use Rattle.gfx_model.specs.World.{first_world, frame_step};
 ghost use Rattle.io_edge.specs.Edge.{Rose};
-ghost use Rattle.scene_text.specs.Seen.{clear_seen, entry_seen};
-ghost use Rattle.scene_player.specs.Frame.{plan_seen};
-ghost use Rattle.scene_player.specs.Canvas.{Shows};
-ghost use Rattle.scene_player.specs.Entered.{entered, colors_after};
-ghost use Rattle.scene_player.specs.Rendered.{content_seen, IsRendered};
+ghost use Rattle.scene_model.specs.Output.{picture_text};
+ghost use Rattle.scene_player.specs.Rendered.{Fits, content_seen, IsRendered};
 
-use crate::canvas::{blank, draw_items};
+use crate::composing::items_of;
 use crate::frame::Frame;
 use crate::output::put_all;
 use crate::picture::PictureText;
 use io_edge::Sink;
+use scene_world::World;
 use std::alloc::{AllocError, Global};
 
 /// How the rendering of a frame ends.
@@ -29,45 +24,46 @@ pub(crate) enum Outcome {
     OutOfMemory,
 }
 
-/// The back buffer, and where its pictures go.
+/// The things and the back buffer, and where its pictures are written.
 #[derive(Drop)]
 pub(crate) struct Canvas {
-    pub(crate) width: u16,
-    pub(crate) height: u16,
-    pub(crate) colors: Vec<[u8; 4]>,
-    text: PictureText,
-    ghost many: { length colors.items ≡ width * height },
-    ghost sides: { (text.width ≡ width) × (text.height ≡ height) },
+    pub(crate) world: World,
+    pub(crate) text: PictureText,
 }
 
 impl Canvas {
-    /// A back buffer of zeros.
+    /// No things, and a back buffer of zeros.
     pub(crate) fn new(alloc: Global, width: u16, height: u16) -> Result<Canvas, AllocError>
-        ensures sides { IfOk result (λ c. (c.width ≡ width) × (c.height ≡ height)) }
-        ensures blank { IfOk result (λ c. c.colors.items ≡ replicate (width * height) no_color) }
+        requires wide { 1 ≤ width }
+        requires high { 1 ≤ height }
+        requires narrow { width ≤ 2048 }
+        requires low { height ≤ 2048 }
+        ensures world { IfOk result (λ c. c.world ≡ first_world width height) }
+        ensures fits { IfOk result (λ c. Fits c) }
     {
-        let colors = blank(alloc, width, height)?;
+        let world = World::new(alloc, width, height)?;
         let text = PictureText::new(alloc, width, height)?;
-        Ok(Canvas {
-            width,
-            height,
-            colors,
-            text,
-        })
+        Ok(Canvas { world, text })
     }
 
     /// Draws a frame, and writes the text of its picture.
-    fn draw(&mut self, alloc: Global, frame: &Frame) -> Result<(), AllocError>
-        ensures sides { (self.new.width ≡ self.old.width) × (self.new.height ≡ self.old.height) }
-        ensures many { length self.old.colors.items ≡ self.old.width * self.old.height }
-        ensures colors { OnOk result (self.new.colors.items ≡ colors_after (map clear_seen frame.now.clears.items)
-            (entered (length frame.now.clears.items) (content_seen frame.now).items) self.old.colors.items) }
-        ensures text { OnOk result (self.new.text.text.items
-            ≡ picture_header self.old.width self.old.height ++ flat_map (take 3) self.new.colors.items) }
+    fn draw(&mut self, alloc: Global, frame: Frame) -> Result<(), AllocError>
+        requires { Fits self.old }
+        ensures fits { OnOk result (Fits self.new) }
+        ensures world { OnOk result (frame.first ≡ length self.old.world.things → self.new.world ≡ frame_step self.old.world (content_seen frame)) }
+        ensures count { OnOk result (length self.new.world.things ≡ length self.old.world.things + length frame.created.items) }
+        ensures text { OnOk result (self.new.text.text.items ≡ picture_text self.new.world.back.color) }
     {
-        let items = frame.items(alloc)?;
-        draw_items(alloc, &mut self.colors, &frame.clears, &items)?;
-        self.text.write(&self.colors);
+        let Frame {
+            created,
+            clears,
+            bundles,
+            journal,
+            ..
+        } = frame;
+        let items = items_of(alloc, &bundles, &journal)?;
+        self.world.draw_frame(alloc, created, &clears, &items)?;
+        self.text.write(self.world.colors());
         Ok(())
     }
 
@@ -75,14 +71,13 @@ impl Canvas {
     pub(crate) fn render<P: Sink>(
         &mut self,
         alloc: Global,
-        frame: &Frame,
+        frame: Frame,
         pictures: &mut P,
     ) -> Outcome
-        ensures sides { (self.new.width ≡ self.old.width) × (self.new.height ≡ self.old.height) }
-        // From a back buffer that shows a world's to one that shows the next world's.
-        ensures rendered { (w : World) → Shows w.back self.old.width self.old.height self.old.colors.items
-            → IsRendered result (frame_step w (content_seen frame.now))
-            self.new.width self.new.height self.new.colors.items
+        requires { Fits self.old }
+        // From a world to the next.
+        ensures rendered { frame.first ≡ length self.old.world.things
+            → IsRendered result (frame_step self.old.world (content_seen frame)) self.new (length self.old.world.things + length frame.created.items)
             (P.held pictures.old) (P.held pictures.new)
             (Rose (P.faults pictures.old) (P.faults pictures.new)) }
         ensures sure { P.sure pictures.new ≡ P.sure pictures.old }

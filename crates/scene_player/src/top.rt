@@ -53,6 +53,8 @@ fn play_scene<P: Sink, N: Sink>(
     pictures: &mut P,
     notes: &mut N,
 ) -> (Status, Journal)
+    requires sides { model.HasSides (scene_seen scene.now) }
+    requires few { length (scene_seen scene.now).frames ≤ 1024 }
     ensures ended { SceneEnded result.0 (scene_seen scene.now)
         (P.held pictures.old) (P.held pictures.new) (journal_seen result.1)
         (N.held notes.old) (N.held notes.new)

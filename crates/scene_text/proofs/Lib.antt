@@ -1,4 +1,13 @@
 pub mod Splits
+pub mod Pairs
+pub mod Found
 pub mod Lasts
 pub mod Lines
 pub mod TableDigits
+pub mod WordTables
+pub mod LineParts
+pub mod LineTails
+pub mod WrittenScenes
+pub mod Alike
+pub mod Wider
+pub mod Again

@@ -6,3 +6,7 @@ pub mod Gives
 pub mod Reads
 pub mod Digits
 pub mod Fields
+pub mod Names
+pub mod SeenNames
+pub mod Spelled
+pub mod WrittenParts

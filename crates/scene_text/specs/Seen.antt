@@ -1,9 +1,14 @@
 -- The crate's types as the definitions see them.
 use Rattle.std.specs.Prelude.{ℕ, List, map}
+use Rattle.gfx_model.specs.Vertex as vertex
 use Rattle.gfx_model.specs.Views as views
 use Rattle.gfx_model.specs.Recorder as recorder
 use Rattle.scene_model.specs.Scene as model
 use Rattle.scene_model.specs.Journal as journals
+use Rattle.gfx_words.specs.Kinds.{program_seen, uniform_seen, value_seen}
+use Rattle.vertex_layout.specs.Kinds.{attribute_seen, component_seen}
+use Rattle.scene_text.specs.declared.scene.LayoutPart.{LayoutPart}
+use Rattle.scene_text.specs.declared.scene.LayoutPart.TheVariants as parts
 use Rattle.scene_text.specs.declared.scene.Clear.{Clear}
 use Rattle.scene_text.specs.declared.scene.Room.{Room}
 use Rattle.scene_text.specs.declared.scene.ResLine.{ResLine}
@@ -23,10 +28,20 @@ clear_seen c = record { flags = c.flags; color = c.color; depth = c.depth; stenc
 abbrev pub room_seen : Room → recorder.Room
 room_seen r = record { items = r.items; bytes = r.bytes; uniforms = r.uniforms }
 
+abbrev pub part_seen : LayoutPart → vertex.LayoutPart
+part_seen (parts.Attribute attr kind count) = vertex.attribute_part (attribute_seen attr) (component_seen kind) count
+part_seen (parts.Skip bytes) = vertex.skip_part bytes
+
 abbrev pub resource_line_seen : ResLine → model.ResourceLine
+resource_line_seen (resources.Layout name ps) = model.layout_line name (map part_seen ps)
+resource_line_seen (resources.Program name kind) = model.program_line name (program_seen kind)
+resource_line_seen (resources.Uniform name kind) = model.uniform_line name (uniform_seen kind)
 resource_line_seen (resources.ViewClear view clear) = model.clear_line view (clear_seen clear)
 
 abbrev pub encoder_line_seen : EncLine → model.EncoderLine
+encoder_line_seen (lines.TransientVertices layout bytes) = model.transient_vertices_line layout bytes
+encoder_line_seen (lines.Set uniform value) = model.set_line uniform (value_seen value)
+encoder_line_seen (lines.Submit view program depth flags) = model.submit_line view program depth flags
 encoder_line_seen (lines.Touch view) = model.touch_line view
 
 abbrev pub block_seen : EncBlock → model.Block

@@ -1,5 +1,5 @@
 -- The state of reading as the definitions see them.
-use Rattle.std.specs.Prelude.{[], map}
+use Rattle.std.specs.Prelude.{map}
 use Rattle.scene_model.specs.Grammar as model
 use Rattle.scene_text.specs.declared.stages.Stage.{Stage}
 use Rattle.scene_text.specs.declared.stages.Stage.TheVariants as stages
@@ -17,7 +17,6 @@ stage_seen stages.InBlock = model.in_block
 stage_seen stages.InBeside = model.in_beside
 stage_seen stages.AtEnd = model.at_end
 
--- no line of this language binds a name
 abbrev pub reading_seen : Reading → model.Reading
 reading_seen r = record {
   stage = stage_seen r.stage;
@@ -25,6 +24,6 @@ reading_seen r = record {
   height = r.height;
   encoders = r.encoders;
   room = room_seen r.room;
-  names = [];
+  names = r.names;
   frames = map frame_seen r.frames.items;
 }

@@ -15,7 +15,13 @@ word_seen words.Encoder = model.encoder_word
 word_seen words.Beside = model.beside_word
 word_seen words.Done = model.done_word
 word_seen words.Journal = model.journal_word
+word_seen words.Layout = model.layout_word
+word_seen words.Program = model.program_word
+word_seen words.Uniform = model.uniform_word
 word_seen words.View = model.view_word
+word_seen words.TransientVertices = model.transient_vertices_word
+word_seen words.Set = model.set_word
+word_seen words.Submit = model.submit_word
 word_seen words.Touch = model.touch_word
 
 abbrev pub setting_seen : Setting → model.Setting

@@ -93,3 +93,14 @@ impl<T: Drop> From<AllocFailed<T>> for LineFault {
         LineFault::OutOfMemory
     }
 }
+
+impl From<AllocError> for SceneFault {
+    ghost use Rattle.std.specs.Prelude.{◌≡◌};
+    ghost use Rattle.scene_text.specs.declared.fault.SceneFault.TheVariants as wholes;
+
+    ghost from_gives = { λ _ e. e ≡ wholes.OutOfMemory };
+
+    fn from(_: AllocError) -> Self {
+        SceneFault::OutOfMemory
+    }
+}

@@ -1,7 +1,7 @@
 // The fields of a line.
 ghost use Rattle.std.specs.Prelude.{◌≡◌, true};
 ghost use Rattle.std.specs.List.{list_any};
-ghost use Rattle.scene_model.specs.Grammar.{field, has_count, has_field, are_filled, is_empty_field};
+ghost use Rattle.scene_model.specs.Grammar.{field, has_count, has_count_from, has_field, are_filled, is_empty_field};
 ghost use Rattle.scene_text.specs.Gives.{Gives};
 ghost use Rattle.scene_text.specs.Fields.{texts};
 
@@ -26,6 +26,19 @@ pub fn has_count(fields: &[&[u8]], count: usize) -> Result<(), Cause>
     } else {
         Err(Cause::WrongFieldCount)
     }
+}
+
+/// There are at least `low` and at most `high` fields.
+pub fn has_count_from(fields: &[&[u8]], low: usize, high: usize) -> Result<(), Cause>
+    ensures { Gives (λ _. true) result (has_count_from low high (texts fields.now)) }
+{
+    if fields.len() < low {
+        return Err(Cause::WrongFieldCount);
+    }
+    if fields.len() > high {
+        return Err(Cause::WrongFieldCount);
+    }
+    Ok(())
 }
 
 /// Whether a field has no bytes.

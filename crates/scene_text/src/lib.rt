@@ -1,26 +1,43 @@
 //! Scenes, and the text that stands for one.
 #![tactic(auto)]
 
+mod bytes;
+mod creates;
 mod encoder_lines;
 mod fault;
 mod fields;
 mod frames;
 mod journal;
+mod names;
 mod numbers;
+mod parts;
 mod reading;
 mod resource_lines;
 mod scene;
+mod scene_writing;
 mod sequence;
+mod spelled;
+mod spelled_words;
 mod splitting;
 mod stages;
 mod text;
+mod view_lines;
 mod words;
+mod write_encoder_lines;
+mod write_resource_lines;
 
 pub use fault::SceneFault;
 pub use journal::{Journal, JournalEntry};
-pub use scene::{Clear, EncBlock, EncLine, ResLine, Room, Scene, SceneFrame, SceneName};
+pub use scene::{
+    Clear, EncBlock, EncLine, LayoutPart, ResLine, Room, Scene, SceneFrame, SceneName,
+};
+pub use scene_writing::write;
 pub use sequence::Sequence;
 pub use text::read;
 
 #[cfg(test)]
+mod form_tests;
+#[cfg(test)]
 mod tests;
+#[cfg(test)]
+mod writing_tests;

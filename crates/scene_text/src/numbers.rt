@@ -1,8 +1,8 @@
-// Numbers and colours.
-ghost use Rattle.std.specs.Prelude.{◌≡◌, ◌<◌, ◌≤◌, MatchOption, IfOk};
+// Numbers.
+ghost use Rattle.std.specs.Prelude.{◌≡◌, ◌<◌, ◌≤◌, MatchOption, IfOk, FitsSigned};
+ghost use Rattle.std.specs.Int.{w32};
 ghost use Rattle.std.specs.List.{list_all};
-ghost use Rattle.scene_model.specs.Field.{is_digit, is_numeral, value_onto, number_in, u8_number, u16_number, hex_byte, color_field};
-ghost use Rattle.scene_text.specs.Digits.{digit_or_none};
+ghost use Rattle.scene_model.specs.Field.{is_digit, is_numeral, value_onto, number_in, u8_number, u16_number, u32_number, i32_number, is_negative_numeral};
 ghost use Rattle.scene_text.specs.Gives.{Gives};
 
 use crate::fault::Cause;
@@ -64,6 +64,7 @@ pub fn number(field: &[u8], low: u32, high: u32) -> Result<u32, Cause>
     }
 }
 
+/// A number that fits a byte.
 pub fn u8_number(field: &[u8]) -> Result<u8, Cause>
     ensures { Gives (λ n. n) result (u8_number field.now) }
 {
@@ -71,6 +72,7 @@ pub fn u8_number(field: &[u8]) -> Result<u8, Cause>
     Ok(n as u8)
 }
 
+/// A number that fits two bytes.
 pub fn u16_number(field: &[u8]) -> Result<u16, Cause>
     ensures { Gives (λ n. n) result (u16_number field.now) }
 {
@@ -78,57 +80,48 @@ pub fn u16_number(field: &[u8]) -> Result<u16, Cause>
     Ok(n as u16)
 }
 
-// The values of the digits of sixteen, and 255 for every other byte.
-static DIGITS: [u8; 256] = [
-    255, 255, 255, 255, 255, 255, 255, 255, 255, 255, 255, 255, 255, 255, 255, 255, 255, 255, 255,
-    255, 255, 255, 255, 255, 255, 255, 255, 255, 255, 255, 255, 255, 255, 255, 255, 255, 255, 255,
-    255, 255, 255, 255, 255, 255, 255, 255, 255, 255, 0, 1, 2, 3, 4, 5, 6, 7, 8, 9, 255, 255, 255,
-    255, 255, 255, 255, 255, 255, 255, 255, 255, 255, 255, 255, 255, 255, 255, 255, 255, 255, 255,
-    255, 255, 255, 255, 255, 255, 255, 255, 255, 255, 255, 255, 255, 255, 255, 255, 255, 10, 11,
-    12, 13, 14, 15, 255, 255, 255, 255, 255, 255, 255, 255, 255, 255, 255, 255, 255, 255, 255, 255,
-    255, 255, 255, 255, 255, 255, 255, 255, 255, 255, 255, 255, 255, 255, 255, 255, 255, 255, 255,
-    255, 255, 255, 255, 255, 255, 255, 255, 255, 255, 255, 255, 255, 255, 255, 255, 255, 255, 255,
-    255, 255, 255, 255, 255, 255, 255, 255, 255, 255, 255, 255, 255, 255, 255, 255, 255, 255, 255,
-    255, 255, 255, 255, 255, 255, 255, 255, 255, 255, 255, 255, 255, 255, 255, 255, 255, 255, 255,
-    255, 255, 255, 255, 255, 255, 255, 255, 255, 255, 255, 255, 255, 255, 255, 255, 255, 255, 255,
-    255, 255, 255, 255, 255, 255, 255, 255, 255, 255, 255, 255, 255, 255, 255, 255, 255, 255, 255,
-    255, 255, 255, 255, 255, 255, 255, 255, 255, 255, 255, 255, 255, 255, 255, 255, 255, 255, 255,
-    255, 255, 255, 255,
-];
-
-#[inline(always)]
-fn hex_digit(byte: u8) -> u8
-    ensures { result ≡ digit_or_none byte }
+/// A number that fits four bytes.
+pub fn u32_number(field: &[u8]) -> Result<u32, Cause>
+    ensures { Gives (λ n. n) result (u32_number field.now) }
 {
-    DIGITS[byte as usize]
+    let n = number(field, 0, 4_294_967_295)?;
+    Ok(n)
 }
 
-/// The byte of two digits.
-#[inline(always)]
-fn hex_pair(a: u8, b: u8) -> Result<u8, Cause>
-    ensures { Gives (λ v. v) result (hex_byte a b) }
+fn is_negative_numeral(field: &[u8]) -> bool
+    ensures { result ≡ is_negative_numeral field.now }
 {
-    let high = hex_digit(a);
-    let low = hex_digit(b);
-    if high >= 16 {
-        return Err(Cause::Misspelt);
+    match field {
+        [] => false,
+        [first, rest @ ..] => {
+            if *first != b'-' {
+                return false;
+            }
+            if !is_numeral(rest) {
+                return false;
+            }
+            rest[0] != b'0'
+        }
     }
-    if low >= 16 {
-        return Err(Cause::Misspelt);
-    }
-    Ok(16 * high + low)
 }
 
-/// Eight digits: red, green, blue and alpha.
-pub fn color_field(field: &[u8]) -> Result<[u8; 4], Cause>
-    ensures { Gives (λ c. c) result (color_field field.now) }
+/// A signed number of four bytes.
+#[tactic(auto, unfolding(scene_model::specs::Field::i32_number))]
+pub fn i32_number(field: &[u8]) -> Result<i32, Cause>
+    ensures value { Gives (λ n. n) result (i32_number field.now) }
+    ensures fits { IfOk result (λ n. FitsSigned w32 n) }
 {
-    let [a, b, c, d, e, f, g, h] = field else {
-        return Err(Cause::Misspelt);
-    };
-    let red = hex_pair(*a, *b)?;
-    let green = hex_pair(*c, *d)?;
-    let blue = hex_pair(*e, *f)?;
-    let alpha = hex_pair(*g, *h)?;
-    Ok([red, green, blue, alpha])
+    if is_numeral(field) {
+        return match value_to(field, 2_147_483_647) {
+            Some(n) => Ok(n as i32),
+            None => Err(Cause::OutOfRange),
+        };
+    }
+    if !is_negative_numeral(field) {
+        return Err(Cause::NoNumber);
+    }
+    match value_to(&field[1..], 2_147_483_648) {
+        Some(n) => Ok((-i64::from(n)) as i32),
+        None => Err(Cause::OutOfRange),
+    }
 }

@@ -1,19 +1,20 @@
 // The state of reading, and what each line does to it.
-ghost use Rattle.std.specs.Prelude.{◌≡◌, true, map, IfOk};
+ghost use Rattle.std.specs.Prelude.{◌≡◌, true, map, IfOk, option_map};
 ghost use Rattle.std.specs.List.{list_all};
-ghost use Rattle.scene_model.specs.Field.{find_word};
+ghost use Rattle.scene_model.specs.Field.{split_at};
 ghost use Rattle.scene_model.specs.Grammar as model;
 ghost use Rattle.scene_text.specs.Fields.{texts};
 ghost use Rattle.scene_text.specs.Gives.{Gives, MayGive};
 ghost use Rattle.scene_text.specs.Seen.{room_seen, resource_line_seen, frame_seen};
 ghost use Rattle.scene_text.specs.SeenReading.{stage_seen, reading_seen};
 ghost use Rattle.scene_text.specs.SeenWords.{word_seen};
-ghost use Rattle.scene_text.specs.Spoken.{spoken};
+ghost use Rattle.scene_text.specs.Spoken.{spoken, after_parts};
 
 use crate::encoder_lines::encoder_line;
 use crate::fault::{Cause, LineFault};
 use crate::fields::{are_filled, field, has_count};
 use crate::frames::{add_before, add_beside, add_block, add_encoder_line, add_frame, last_encoder};
+use crate::names::Names;
 use crate::numbers::{is_numeral, number, u8_number, value_to};
 use crate::resource_lines::resource_line;
 use crate::scene::{ResLine, Room, SceneFrame};
@@ -30,6 +31,7 @@ pub struct Reading {
     pub height: u16,
     pub encoders: u8,
     pub room: Room,
+    pub names: Names,
     pub frames: Vec<SceneFrame>,
 }
 
@@ -135,6 +137,7 @@ impl Reading {
                 bytes: 262_144,
                 uniforms: 4096,
             },
+            names: Names::new(alloc),
             frames: Vec::new(alloc),
         }
     }
@@ -236,19 +239,29 @@ impl Reading {
     }
 
     #[tactic(auto, unfolding(scene_model::specs::Grammar::after_resource))]
-    fn after_resource(&mut self, fields: &[&[u8]], word: Word) -> Result<(), LineFault>
+    fn after_resource(
+        &mut self,
+        alloc: Global,
+        fields: &[&[u8]],
+        word: Word,
+    ) -> Result<(), LineFault>
         ensures { MayGive (λ _. reading_seen self.new) result (model.after_resource spoken (reading_seen self.old) (texts fields.now) (word_seen word)) }
     {
-        let line = resource_line(fields, word)?;
+        let line = resource_line(alloc, &mut self.names, fields, word)?;
         self.add_resource(line)?;
         Ok(())
     }
 
     #[tactic(auto, unfolding(scene_model::specs::Grammar::after_encoder_line))]
-    fn after_encoder_line(&mut self, fields: &[&[u8]], word: Word) -> Result<(), LineFault>
+    fn after_encoder_line(
+        &mut self,
+        alloc: Global,
+        fields: &[&[u8]],
+        word: Word,
+    ) -> Result<(), LineFault>
         ensures { MayGive (λ _. reading_seen self.new) result (model.after_encoder_line (reading_seen self.old) (texts fields.now) (word_seen word)) }
     {
-        let line = encoder_line(fields, word)?;
+        let line = encoder_line(alloc, &self.names, fields, word)?;
         add_encoder_line(&mut self.frames, line)?;
         Ok(())
     }
@@ -268,17 +281,25 @@ impl Reading {
             Word::Beside => self.after_beside(fields)?,
             Word::Done => self.after_done(fields)?,
             Word::Journal => return Err(LineFault::Bad(Cause::MisplacedWord)),
-            Word::View => self.after_resource(fields, word)?,
-            Word::Touch => self.after_encoder_line(fields, word)?,
+            Word::Layout | Word::Program | Word::Uniform | Word::View => self.after_resource(
+                alloc, fields, word,
+            )?,
+            Word::TransientVertices | Word::Set | Word::Submit | Word::Touch =>
+                self.after_encoder_line(alloc, fields, word)?,
         }
         Ok(())
     }
 
-    /// What a line's fields do: the causes are tested in their order.
-    fn after_fields(&mut self, alloc: Global, fields: &[&[u8]]) -> Result<(), LineFault>
-        ensures { MayGive (λ _. reading_seen self.new) result (model.after_fields spoken (reading_seen self.old) (texts fields.now) (find_word spoken.words (model.field (texts fields.now) 0))) }
+    /// What a line's fields do, with its word: the causes are tested in their order.
+    fn after_known(
+        &mut self,
+        alloc: Global,
+        fields: &[&[u8]],
+        word: Option<Word>,
+    ) -> Result<(), LineFault>
+        ensures { MayGive (λ _. reading_seen self.new) result (model.after_fields spoken (reading_seen self.old) (texts fields.now) (option_map word_seen word)) }
     {
-        let Some(word) = line_word(field(fields, 0)) else {
+        let Some(word) = word else {
             return Err(LineFault::Bad(Cause::UnknownWord));
         };
         if is_other_version(fields) {
@@ -289,6 +310,28 @@ impl Reading {
         }
         are_filled_before(fields, word)?;
         self.after_word(alloc, fields, word)?;
+        Ok(())
+    }
+
+    /// What a line's fields do.
+    fn after_fields(&mut self, alloc: Global, fields: &[&[u8]]) -> Result<(), LineFault>
+        ensures { MayGive (λ _. reading_seen self.new) result (after_parts (reading_seen self.old) (texts fields.now)) }
+    {
+        let word = line_word(field(fields, 0));
+        self.after_known(alloc, fields, word)
+    }
+
+    /// What a line of text bytes does.
+    fn after_text<'a>(
+        &mut self,
+        alloc: Global,
+        line: &'a [u8],
+        fields: &mut Vec<&'a [u8]>,
+    ) -> Result<(), LineFault>
+        ensures { MayGive (λ _. reading_seen self.new) result (after_parts (reading_seen self.old) (split_at 32 line.now)) }
+    {
+        split_fields(line, b' ', fields)?;
+        self.after_fields(alloc, fields)?;
         Ok(())
     }
 
@@ -307,9 +350,7 @@ impl Reading {
         if !all_text(line) {
             return Err(LineFault::Bad(Cause::BadByte));
         }
-        split_fields(line, b' ', fields)?;
-        self.after_fields(alloc, fields)?;
-        Ok(())
+        self.after_text(alloc, line, fields)
     }
 }
 

@@ -1,6 +1,8 @@
 // Scenes as data.
 
 use crate::sequence::Sequence;
+use gfx_words::{ProgramKind, UniformKind, UniformValue};
+use vertex_layout::{Attr, AttrType};
 
 /// How much an encoder records in a frame: items, transient bytes and uniform values.
 #[derive(Clone, Copy, Debug, PartialEq, Eq, Drop)]
@@ -19,18 +21,70 @@ pub struct Clear {
     pub stencil: u8,
 }
 
-/// A resource or view line: a call of the API thread.
+/// A part of a vertex: an attribute of one to four components, or bytes that are skipped.
 #[derive(Clone, Copy, Debug, PartialEq, Eq, Drop)]
-pub enum ResLine {
-    /// `view V clear FLAGS COLOR DEPTH STENCIL`
-    ViewClear { view: u16, clear: Clear },
+pub enum LayoutPart {
+    /// `ATTR:TYPE:COUNT`
+    Attribute {
+        attr: Attr,
+        kind: AttrType,
+        count: u8,
+    },
+    /// `skip:N`
+    Skip {
+        bytes: u8,
+    },
 }
 
-/// An encoder line: a call of an encoder.
-#[derive(Clone, Copy, Debug, PartialEq, Eq, Drop)]
+/// A resource or view line: a call of the API thread. A name is its place in the scene's list of names.
+#[derive(Debug, Drop)]
+pub enum ResLine {
+    /// `layout NAME PART ..`
+    Layout {
+        name: u32,
+        parts: Sequence<LayoutPart>,
+    },
+    /// `program NAME KIND`
+    Program {
+        name: u32,
+        kind: ProgramKind,
+    },
+    /// `uniform NAME KIND`
+    Uniform {
+        name: u32,
+        kind: UniformKind,
+    },
+    /// `view V clear FLAGS COLOR DEPTH STENCIL`
+    ViewClear {
+        view: u16,
+        clear: Clear,
+    },
+}
+
+/// An encoder line: a call of an encoder. A name is its place in the scene's list of names.
+#[derive(Debug, Drop)]
 pub enum EncLine {
+    /// `tvertices LAYOUT HEX`
+    TransientVertices {
+        layout: u32,
+        bytes: Sequence<u8>,
+    },
+    /// `set NAME` and one number or four
+    Set {
+        uniform: u32,
+        value: UniformValue,
+    },
+    /// `submit V NAME DEPTH FLAGS`
+    Submit {
+        view: u16,
+        program: u32,
+        depth: u32,
+        flags: u8,
+    },
     /// `touch V`
-    Touch { view: u16 },
+    Touch {
+        view: u16,
+    },
 }
 
 /// The lines of one encoder in a frame.

@@ -25,7 +25,7 @@ fn is_resource_word(word: Word) -> bool
     ensures { result ≡ model.is_resource_word (word_seen word) }
 {
     match word {
-        Word::View => true,
+        Word::Layout | Word::Program | Word::Uniform | Word::View => true,
         _ => false,
     }
 }
@@ -35,7 +35,7 @@ fn is_encoder_word(word: Word) -> bool
     ensures { result ≡ model.is_encoder_word (word_seen word) }
 {
     match word {
-        Word::Touch => true,
+        Word::TransientVertices | Word::Set | Word::Submit | Word::Touch => true,
         _ => false,
     }
 }

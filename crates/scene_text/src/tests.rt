@@ -5,7 +5,7 @@ use std::process::Abort;
 use std::test::Fail;
 
 /// The scene of one clear and one touch, with another text in place of one of its lines, counted from 1.
-fn changed(alloc: Global, number: usize, change: &[u8]) -> Result<Vec<u8>, AllocError> {
+pub fn changed(alloc: Global, number: usize, change: &[u8]) -> Result<Vec<u8>, AllocError> {
     let lines: [&[u8]; 8] = [
         b"scene 1",
         b"size 2 2",
@@ -25,7 +25,7 @@ fn changed(alloc: Global, number: usize, change: &[u8]) -> Result<Vec<u8>, Alloc
     Ok(text)
 }
 
-fn read_small(alloc: Global, text: &[u8]) -> Result<Scene, SceneFault> {
+pub fn read_small(alloc: Global, text: &[u8]) -> Result<Scene, SceneFault> {
     if text.len() > 100_000 {
         return Err(SceneFault::At { line: 0, cause: 0 });
     }
@@ -49,9 +49,9 @@ fn changed_fault(alloc: Global, number: usize, change: &[u8]) -> Option<(u32, u8
 }
 
 /// A line that is changed, its text, and the line and the cause that are wanted.
-type Row = (usize, &'static [u8], u32, u8);
+pub type Row = (usize, &'static [u8], u32, u8);
 
-fn check(rt: &impl Abort, alloc: Global, rows: &[Row]) {
+pub fn check(rt: &impl Abort, alloc: Global, rows: &[Row]) {
     for (number, change, line, cause) in rows {
         assert_eq!(rt;
             changed_fault(alloc, *number, change),

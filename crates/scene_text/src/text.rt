@@ -1,5 +1,6 @@
 // Whole texts.
-ghost use Rattle.std.specs.Prelude.{◌≡◌, ◌≤◌, length};
+ghost use Rattle.std.specs.Prelude.{◌≡◌, ◌≤◌, length, IfOk};
+ghost use Rattle.scene_model.specs.Scene.{HasSides};
 ghost use Rattle.scene_model.specs.Grammar.{scene_of};
 ghost use Rattle.scene_model.specs.Grammar as model;
 ghost use Rattle.scene_text.specs.Reads.{Reads, at};
@@ -13,7 +14,7 @@ use crate::scene::Scene;
 use crate::sequence::Sequence;
 use crate::splitting::find;
 use crate::stages::Stage;
-use std::alloc::Global;
+use std::alloc::{AllocError, Global};
 
 /// The fault of a line.
 fn at(line: u32, fault: LineFault) -> SceneFault
@@ -29,17 +30,18 @@ fn at(line: u32, fault: LineFault) -> SceneFault
 }
 
 /// The scene that was read.
-fn scene(alloc: Global, reading: Reading) -> Scene
-    ensures { scene_seen result ≡ model.scene_read (reading_seen reading) }
+fn scene(alloc: Global, reading: Reading) -> Result<Scene, AllocError>
+    ensures { IfOk result (λ s. scene_seen s ≡ model.scene_read (reading_seen reading)) }
 {
-    Scene {
+    let names = reading.names.into_names(alloc)?;
+    Ok(Scene {
         width: reading.width,
         height: reading.height,
         encoders: reading.encoders,
         room: reading.room,
-        names: Sequence::new(alloc),
+        names: Sequence::from_vec(names),
         frames: Sequence::from_vec(reading.frames),
-    }
+    })
 }
 
 /// What the last piece makes, which no newline ends.
@@ -54,7 +56,8 @@ fn at_last_piece(
     match rest {
         [] => {
             if reading.stage == Stage::AtEnd {
-                Ok(scene(alloc, reading))
+                let scene = scene(alloc, reading)?;
+                Ok(scene)
             } else {
                 Err(at(line, LineFault::Bad(Cause::EndsEarly)))
             }
@@ -73,12 +76,18 @@ fn at_last_piece(
 
 /// The scene that the bytes are, or the first line that fails, counted from 1, with its first cause.
 ///
-/// The lines are those of the scene text of `docs/behaviour.md` whose words the reader knows: `scene`, `size`,
-/// `encoders`, `room`, `frame`, `view V clear`, `encoder`, `touch`, `beside`, `done` and skipped lines. Every other word
-/// has cause 3, and every other setting of a view cause 11. One pass over the bytes, and no line is copied.
+/// The lines are those of the scene text of `docs/formats.md` that are built. One pass over the bytes, and no line is
+/// copied. The bytes are at most 4,294,967,294. What is read has sides of 1 to 2,048 pixels and at most 1,024
+/// frames.
+///
+/// # Errors
+///
+/// `SceneFault::At` where the bytes are no scene, and `SceneFault::OutOfMemory` where no memory is left for it.
 pub fn read(alloc: Global, bytes: &[u8]) -> Result<Scene, SceneFault>
     requires { length bytes.now ≤ 4294967294 }
     ensures exact { Reads result (scene_of spoken bytes.now) }
+    ensures sides { IfOk result (λ s. HasSides (scene_seen s)) }
+    ensures few { IfOk result (λ s. length (scene_seen s).frames ≤ 1024) }
 {
     let mut reading = Reading::new(alloc);
     let mut fields = Vec::new(alloc);

@@ -212,11 +212,12 @@ impl TextureStore {
     }
 
     /// Copies a region between two textures, cut to both. Within one texture the texels are read as they were; that
-    /// alone takes memory. Where the source is not there, nothing changes.
+    /// alone takes memory. Where the source is not there or is taken out, nothing changes and it succeeds.
     pub fn blit(&mut self, copy: BlitBox) -> Result<(), AllocError>
         ensures copied { MatchOption (texels_in_store self.old copy.src) (self.new ≡ self.old) (λ source.
             MatchResult result (λ _. self.new ≡ changed_texels (copied_region (region_seen copy) source) copy.dst self.old) (λ _. self.new ≡ self.old)) }
         ensures apart { copy.src ≢ copy.dst → IsOk result }
+        ensures away { texels_in_store self.old copy.src ≡ None → IsOk result }
     {
         if copy.src == copy.dst {
             copy_over(&mut self.textures, self.alloc, &copy)

@@ -1,5 +1,5 @@
 // One texture: its format, and its texels as long as they are not taken out.
-ghost use Rattle.std.specs.Prelude.{◌≡◌, ◌+◌, ◌*◌, ◌≤◌, length, option_map, IfSome, MatchResult};
+ghost use Rattle.std.specs.Prelude.{◌≡◌, ◌+◌, ◌*◌, ◌≤◌, length, None, option_map, IfSome, IsOk, MatchResult};
 ghost use Rattle.gfx_model.specs.World.{with_texels_in};
 ghost use Rattle.gfx_words.specs.Seen.{format_seen};
 ghost use Rattle.fix_math.specs.Seen.{rect_seen, texels_seen};
@@ -117,7 +117,8 @@ impl Texture {
 
     /// Copies a region of its own texels, which are read as they were.
     pub(crate) fn copy_within(&mut self, alloc: Global, copy: &BlitBox) -> Result<(), AllocError>
-        ensures { MatchResult result (λ _. self.new ≡ with_texels_here (λ t. copied_region (region_seen copy.now) t t) self.old) (λ _. self.new ≡ self.old) }
+        ensures copied { MatchResult result (λ _. self.new ≡ with_texels_here (λ t. copied_region (region_seen copy.now) t t) self.old) (λ _. self.new ≡ self.old) }
+        ensures away { slot_texels self.old ≡ None → IsOk result }
     {
         match &mut self.held {
             Held::Here(texels) => copy_over(alloc, texels, copy),

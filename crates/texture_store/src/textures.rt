@@ -1,5 +1,5 @@
 // Textures by index.
-ghost use Rattle.std.specs.Prelude.{◌≡◌, ◌≢◌, ◌+◌, ◌*◌, ◌≤◌, length, true, None, option_map, IfSome, IsSome, MatchOption, MatchResult, is_some};
+ghost use Rattle.std.specs.Prelude.{◌≡◌, ◌≢◌, ◌+◌, ◌*◌, ◌≤◌, length, true, None, option_map, IfSome, IsOk, IsSome, MatchOption, MatchResult, is_some};
 ghost use Rattle.std.specs.Option.{option_and_then};
 ghost use Rattle.gfx_model.specs.World.{with_texels_in};
 ghost use Rattle.gfx_words.specs.Seen.{format_seen, refusal_seen};
@@ -99,15 +99,17 @@ pub(crate) fn copy_over(
     copy: &BlitBox,
 ) -> Result<(), AllocError>
     requires { copy.now.src ≡ copy.now.dst }
-    ensures { MatchOption (texels_in_row textures.old copy.now.src) (textures.new ≡ textures.old) (λ source.
+    ensures copied { MatchOption (texels_in_row textures.old copy.now.src) (textures.new ≡ textures.old) (λ source.
         MatchResult result (λ _. textures.new ≡ changed_at (with_texels_here (copied_region (region_seen copy.now) source)) copy.now.dst textures.old) (λ _. textures.new ≡ textures.old)) }
+    ensures away { texels_in_row textures.old copy.now.src ≡ None → IsOk result }
 {
     let done = copy_itself(textures, alloc, copy);
     done
 }
 
 fn copy_itself(textures: &mut Row<Texture>, alloc: Global, copy: &BlitBox) -> Result<(), AllocError>
-    ensures { MatchResult result (λ _. textures.new ≡ changed_at (with_texels_here (λ t. copied_region (region_seen copy.now) t t)) copy.now.dst textures.old) (λ _. textures.new ≡ textures.old) }
+    ensures copied { MatchResult result (λ _. textures.new ≡ changed_at (with_texels_here (λ t. copied_region (region_seen copy.now) t t)) copy.now.dst textures.old) (λ _. textures.new ≡ textures.old) }
+    ensures away { texels_in_row textures.old copy.now.dst ≡ None → IsOk result }
 {
     match textures.take(copy.dst) {
         Some(mut texture) => {

@@ -111,7 +111,7 @@ value_turns na nb nc ta tb tc k j m ts a b c x y x0 y0 start ha hb hc hk hj hs =
     )
 
 -- the sum at a pixel from the sum at another
-sum_at : (t : Triangle ScreenVertex) (u v w : ℤ) (x y x0 y0 : ℕ) (ea eb ec ra rb rc da db dc : ℤ) →
+pub sum_at : (t : Triangle ScreenVertex) (u v w : ℤ) (x y x0 y0 : ℕ) (ea eb ec ra rb rc da db dc : ℤ) →
     ea ≡ edge t.b t.c x0 y0 → eb ≡ edge t.c t.a x0 y0 → ec ≡ edge t.a t.b x0 y0 →
     ra ≡ pos 0 -ℤ pos 256 *ℤ (t.c.y -ℤ t.b.y) → rb ≡ pos 0 -ℤ pos 256 *ℤ (t.a.y -ℤ t.c.y) → rc ≡ pos 0 -ℤ pos 256 *ℤ (t.b.y -ℤ t.a.y) →
     da ≡ pos 256 *ℤ (t.c.x -ℤ t.b.x) → db ≡ pos 256 *ℤ (t.a.x -ℤ t.c.x) → dc ≡ pos 256 *ℤ (t.b.x -ℤ t.a.x) →

@@ -3,3 +3,4 @@ pub mod Columns
 pub mod Shown
 pub mod Slope
 pub mod Stepped
+pub mod Deepened

@@ -3,10 +3,12 @@
 
 mod averages;
 mod corners;
+mod deepening;
 mod edges;
 mod inverses;
 mod numbers;
 mod placing;
+mod quotients;
 mod ramps;
 mod rows;
 mod stepping;
@@ -15,6 +17,7 @@ mod triangles;
 
 pub use corners::{Fragment, ScreenVertex};
 pub use placing::place;
+pub use quotients::{DepthAt, DepthSteps};
 pub use ramps::Ramp;
 pub use stepping::{Quotient, advanced};
 pub use steps::Steps;

@@ -1,14 +1,17 @@
 // Triangles that are ready to be drawn.
 ghost use Rattle.std.specs.Prelude.{true, ◌≡◌, ◌≤◌, ◌<◌, ◌^◌, ◌+◌, ◌*◌, ℕ, pos, ◌-ℤ◌, ◌*ℤ◌, ◌<ℤ◌, unsigned_abs, ◌&&◌, nat_le, nat_lt, IsSome, IfSome, IsTrue, ◌↔◌, ◌||◌, ◌==◌, not};
 ghost use Rattle.gfx_model.specs.Raster.{covers, area as area_spec, clockwise as clockwise_spec, is_front as faces_front, is_back, is_kept, edge, centre, fragment_at};
+ghost use Rattle.tri_cover.specs.Deepened.{AreDepths, IsDepthAt};
 ghost use Rattle.tri_cover.specs.Stepped.{AreSteps, IsNearby};
 ghost use Rattle.tri_cover.specs.Seen.{screen_seen, triangle_seen, IsEdge, IsNear, fragment_seen};
 
 use crate::averages::{Weights, mean_channel, mean_depth, mean_place};
 use crate::corners::{Fragment, ScreenVertex};
+use crate::deepening::{divided, weighted_depth};
 use crate::edges::{Edge, cut, edge_between, ends};
 use crate::inverses::Inverse;
 use crate::numbers::{difference, less, product};
+use crate::quotients::{DepthAt, DepthSteps};
 use crate::rows::{greatest, least, row_after, row_from, within};
 use crate::steps::{Steps, Three};
 
@@ -271,6 +274,48 @@ impl Setup {
             },
             inverse,
         })
+    }
+
+    /// What the depth gains per column, by quotient and rest.
+    pub fn depth_steps(&self) -> DepthSteps
+        ensures { AreDepths result (triangle_seen self.now.a self.now.b self.now.c) }
+    {
+        let n = size(area(&self.a, &self.b, &self.c));
+        let gain = divided(
+            weighted_depth(
+                gained_by_column(&self.bc),
+                gained_by_column(&self.ca),
+                gained_by_column(&self.ab),
+                &self.a,
+                &self.b,
+                &self.c,
+            ),
+            n,
+        );
+        DepthSteps {
+            whole: gain.whole,
+            rest: gain.rest,
+            divisor: n,
+        }
+    }
+
+    /// The depth at a pixel, from which it is stepped along the row.
+    pub fn depth_at(&self, steps: &DepthSteps, x: u16, y: u16) -> DepthAt
+        requires { AreDepths steps.now (triangle_seen self.now.a self.now.b self.now.c) }
+        ensures below { result.rest < steps.now.divisor }
+        ensures is { IsDepthAt result steps.now (triangle_seen self.now.a self.now.b self.now.c) x y }
+    {
+        divided(
+            weighted_depth(
+                weight(&self.b, &self.c, x, y),
+                weight(&self.c, &self.a, x, y),
+                weight(&self.a, &self.b, x, y),
+                &self.a,
+                &self.b,
+                &self.c,
+            ),
+            steps.divisor,
+        )
     }
 
     /// The covered columns of a row, from the first up to the second number.

@@ -1,0 +1,10 @@
+use Rattle.std.proofs.Common.{◌≡◌}
+use Rattle.gfx_model.specs.Number.{map_from}
+use Rattle.int_raster.specs.Places.{deep_pixels, above}
+use Rattle.int_raster.specs.Seen.{change_seen}
+use Rattle.int_raster.proofs.deep.triangle_tested.Given as goal
+
+-- the rows above are changed
+abbrev pub invariant-loop-y : goal.invariant-loop-y
+invariant-loop-y l =
+    deep_pixels l.colors l.depths ≡ map_from (above l.fn.width l.y (change_seen l.fn.draw l.fn.setup)) 0 (deep_pixels l.fn.colors l.fn.depths)

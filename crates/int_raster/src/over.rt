@@ -1,0 +1,44 @@
+// Triangles that neither test nor store a depth.
+ghost use Rattle.std.specs.Prelude.{◌≡◌, ◌≤◌, ◌*◌, List, length};
+ghost use Rattle.gfx_model.specs.Number.{map_from};
+ghost use Rattle.gfx_model.specs.Vertex.{Color};
+ghost use Rattle.int_raster.specs.Places.{deep_pixels, by_place};
+ghost use Rattle.int_raster.specs.Painted.{Paints};
+ghost use Rattle.int_raster.specs.Rules.{IsPlain};
+ghost use Rattle.int_raster.specs.Seen.{change_seen};
+
+use crate::columns::{drawn_columns, drawn_rows};
+use crate::lists::Prepared;
+use crate::over_spans::cover_span;
+use crate::overs::Over;
+use crate::spans::Span;
+use tri_cover::Setup;
+
+/// Draws a triangle, whatever the depths are.
+pub(crate) fn triangle_over(
+    colors: &mut [[u8; 4]],
+    width: u16,
+    height: u16,
+    over: &Over,
+    setup: &Setup,
+    draw: &Prepared,
+)
+    requires wide { 1 ≤ width }
+    requires whole { length colors.old ≡ width * height }
+    requires plain { IsPlain over.now.rule draw.now setup.now }
+    requires paints { Paints over.now.painter draw.now setup.now width height }
+    ensures { (depths : List Color) → length depths ≡ length colors.old
+        → deep_pixels colors.new depths ≡ map_from (by_place width (change_seen draw.now setup.now)) 0 (deep_pixels colors.old depths) }
+{
+    let (top, bottom) = drawn_rows(setup, &draw.cut, height);
+    for y in top..bottom {
+        let (first, after) = drawn_columns(setup, &draw.cut, y, width);
+        let span = Span {
+            width,
+            y,
+            first,
+            after,
+        };
+        cover_span(colors, &span, over, setup, draw);
+    }
+}

@@ -1,0 +1,92 @@
+// Spans of draws that neither test nor store a depth.
+ghost use Rattle.std.specs.Prelude.{◌≡◌, ◌≤◌, ◌<◌, ◌+◌, ◌*◌, ℕ, List, true, length};
+ghost use Rattle.gfx_model.specs.Number.{map_from};
+ghost use Rattle.gfx_model.specs.Raster.{fragment_at};
+ghost use Rattle.gfx_model.specs.Vertex.{Color};
+ghost use Rattle.gfx_model.specs.World.{painted};
+ghost use Rattle.tri_cover.specs.Shown.{setup_seen};
+ghost use Rattle.int_raster.specs.Places.{deep_pixels, spanned, by_place};
+ghost use Rattle.int_raster.specs.Painted.{PaintsSpan};
+ghost use Rattle.int_raster.specs.Rules.{IsOver, IsPlain};
+ghost use Rattle.int_raster.specs.Seen.{paint_seen, step_seen};
+
+use crate::lists::Prepared;
+use crate::opaque::Rule;
+use crate::overs::Over;
+use crate::painters::{Painter, color_at, whole};
+use crate::spans::Span;
+use tri_cover::Setup;
+
+/// Whether every depth passes and none is stored.
+pub(crate) fn is_over(rule: &Rule) -> bool
+    ensures { result ≡ true → IsOver rule.now }
+{
+    let rule = *rule;
+    rule.less && rule.equal && rule.greater && !rule.writes
+}
+
+/// Stores one colour in a span.
+fn cover(
+    colors: &mut [[u8; 4]],
+    span: &Span,
+    color: [u8; 4],
+    rule: &Rule,
+    setup: &Setup,
+    draw: &Prepared,
+)
+    requires inside { span.now.y * span.now.width + span.now.width ≤ length colors.old }
+    requires plain { IsPlain rule.now draw.now setup.now }
+    requires over { IsOver rule.now }
+    requires paints { (x : ℕ) → span.now.first ≤ x → x < span.now.after → color ≡ painted (paint_seen draw.now.paint) (fragment_at (setup_seen setup.now).triangle x span.now.y) }
+    ensures { (depths : List Color) → length depths ≡ length colors.old
+        → deep_pixels colors.new depths ≡ map_from (spanned (by_place span.now.width (step_seen draw.now setup.now)) (span.now.y * span.now.width + span.now.first) (span.now.y * span.now.width + span.now.after)) 0 (deep_pixels colors.old depths) }
+{
+    let start = span.y as usize * span.width as usize;
+    let bytes = whole(color);
+    for x in span.first..span.after {
+        colors[start + x as usize] = bytes;
+    }
+}
+
+/// Stores a painter's colours in a span.
+fn cover_painted(
+    colors: &mut [[u8; 4]],
+    span: &Span,
+    painter: &Painter,
+    rule: &Rule,
+    setup: &Setup,
+    draw: &Prepared,
+)
+    requires inside { span.now.y * span.now.width + span.now.width ≤ length colors.old }
+    requires plain { IsPlain rule.now draw.now setup.now }
+    requires over { IsOver rule.now }
+    requires paints { PaintsSpan painter.now draw.now setup.now span.now.y span.now.first span.now.after }
+    ensures { (depths : List Color) → length depths ≡ length colors.old
+        → deep_pixels colors.new depths ≡ map_from (spanned (by_place span.now.width (step_seen draw.now setup.now)) (span.now.y * span.now.width + span.now.first) (span.now.y * span.now.width + span.now.after)) 0 (deep_pixels colors.old depths) }
+{
+    let start = span.y as usize * span.width as usize;
+    for x in span.first..span.after {
+        colors[start + x as usize] = whole(color_at(painter, x, span.y));
+    }
+}
+
+/// Stores a triangle's colours in a span, whatever the depths are.
+pub(crate) fn cover_span(
+    colors: &mut [[u8; 4]],
+    span: &Span,
+    over: &Over,
+    setup: &Setup,
+    draw: &Prepared,
+)
+    requires inside { span.now.y * span.now.width + span.now.width ≤ length colors.old }
+    requires plain { IsPlain over.now.rule draw.now setup.now }
+    requires paints { PaintsSpan over.now.painter draw.now setup.now span.now.y span.now.first span.now.after }
+    ensures { (depths : List Color) → length depths ≡ length colors.old
+        → deep_pixels colors.new depths ≡ map_from (spanned (by_place span.now.width (step_seen draw.now setup.now)) (span.now.y * span.now.width + span.now.first) (span.now.y * span.now.width + span.now.after)) 0 (deep_pixels colors.old depths) }
+{
+    let rule = &over.rule;
+    match &over.painter {
+        Painter::Solid(color) => cover(colors, span, *color, rule, setup, draw),
+        painter => cover_painted(colors, span, painter, rule, setup, draw),
+    }
+}

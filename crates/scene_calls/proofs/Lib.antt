@@ -1,0 +1,6 @@
+mod Books
+mod CreateLaws
+mod Finding
+mod Frames
+mod Places
+mod References

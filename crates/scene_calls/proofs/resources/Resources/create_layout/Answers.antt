@@ -1,0 +1,39 @@
+use Rattle.std.proofs.Common.{◌+◌, map, refl, ap, ◌∙◌, arith}
+use Rattle.std.specs.List.{find}
+use Rattle.gfx_model.specs.Words.{layout_kind}
+use Rattle.scene_world.specs.Cleared.{clear_seen}
+use Rattle.scene_world.specs.Painted.{views_of_clears}
+use Rattle.scene_calls.specs.Made.{handle_of, is_here}
+use Rattle.scene_calls.proofs.Places.{numbered_after}
+use Rattle.scene_calls.proofs.Finding.{fresh_after, apart_after, layouts_later}
+use Rattle.scene_calls.proofs.CreateLaws.{layout_made, layout_spent}
+use Rattle.scene_calls.proofs.resources.Resources.create_layout.Goals as goal
+
+pub returns-then-len-ge4294967295-clause-made : goal.returns-then-len-ge4294967295-clause-made
+returns-then-len-ge4294967295-clause-made c =
+    let r = c.self.inside in
+    (layout_spent c.args.self.now r.frame r.things.items r.layouts r.programs r.uniforms (views_of_clears (map clear_seen r.clears.items)) c.args.layout c.self.view_is c.if-self-ge64.false (omega arith), refl)
+
+pub invariant_of-self-2 : goal.invariant_of-self-2
+invariant_of-self-2 c =
+    let r = c.self.inside in
+    let old = c.self.invariant in
+    let h = c.in_ok-handle.ensures in
+    let kind = ap (λ g. g.kind) h.0 in
+    let index = ap (λ g. g.index) h.0 in
+    record {
+      few_layouts = omega arith;
+      few_programs = old.few_programs;
+      few_uniforms = old.few_uniforms;
+      numbered = numbered_after c.self.inside.things.items c.add.new.things.items _ old.numbered (ap (λ g. g.serial) h.0) h.1;
+      fresh = fresh_after r.layouts r.programs r.uniforms (r.layouts + 1) r.programs r.uniforms r.things.items c.add.new.things.items _ h.1 old.fresh (layouts_later r.layouts r.programs r.uniforms c.in_ok-handle.handle kind index);
+      apart = apart_after r.things.items c.add.new.things.items _ h.1 old.apart (ap (λ g. find (is_here g.kind g.index) (map handle_of r.things.items)) h.0 ∙ old.fresh layout_kind r.layouts (omega arith));
+      many_views = old.many_views;
+    }
+
+pub returns-clause-made : goal.returns-clause-made
+returns-clause-made c =
+    let r = c.self.inside in
+    let h = c.in_ok-handle.ensures in
+    layout_made c.args.self.now r.frame r.things.items c.add.new.things.items r.layouts r.programs r.uniforms (views_of_clears (map clear_seen r.clears.items)) c.args.layout
+    c.in_ok-handle.handle _ c.self.view_is c.if-self-ge64.false (omega arith) h.0 h.1 refl

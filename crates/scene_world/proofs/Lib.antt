@@ -1,0 +1,9 @@
+mod Numbered
+mod Places
+mod Facings
+mod Plain
+mod WholeClears
+mod Sorting
+mod Draws
+mod ViewSteps
+mod SideLaws

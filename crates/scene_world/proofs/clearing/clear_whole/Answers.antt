@@ -1,0 +1,55 @@
+use Rattle.std.proofs.Common.{◌≡◌, ◌+◌, ◌*◌, ◌≤◌, None, Some, length, map, option_map, sym, ap, ◌∙◌, arith}
+use Rattle.std.proofs.lemmas.List.{length-map}
+use Rattle.gfx_model.specs.World.{on_each_pixel}
+use Rattle.fix_math.specs.Lending.{refilled}
+use Rattle.fix_math.specs.Seen.{texels_seen}
+use Rattle.int_raster.proofs.Wholes.{whole_flat, whole_deep, refill}
+use Rattle.scene_world.specs.Cleared.{clear_seen, cleared_color}
+use Rattle.scene_world.proofs.WholeClears.{clear_step, flat-cleared, deep-cleared}
+use Rattle.scene_world.proofs.clearing.clear_whole.Goals as goal
+
+pub returns-in-None : goal.returns-in-None
+returns-in-None c =
+    let s = c.args.surface.now in
+    let w = s.color.width in
+    let h = s.color.height in
+    let old = s.color.texels in
+    let k = clear_seen c.args.clear.now in
+    let new = c.clear_colors.new.colors in
+    let g = clear_step w h k in
+    let none : c.args.surface.now.depth ≡ None = c.in-None.is in
+    let lent : c.as_mut_slice-colors.result.now ≡ c.args.surface.now.color.texels = c.as_mut_slice-colors.ensures.value in
+    let colors : new ≡ map (cleared_color k) old = rw lent at c.clear_colors.ensures in
+    let many : length new ≡ length old = ap length colors ∙ length-map old (cleared_color k) in
+    let back : refilled old new ≡ new = refill old new many in
+    let le : 0 + length old ≤ w * h = omega (arith, s.color.whole) in
+    (λ i. record { color = record { width = w; height = h; texels = back i }; depth = option_map texels_seen (none i) })
+    ∙ whole_flat w h old new g (rw colors (flat-cleared w h 0 k old le))
+    ∙ sym (λ i. on_each_pixel g (record { color = record { width = w; height = h; texels = old }; depth = option_map texels_seen (none i) }))
+
+pub returns-in-Some : goal.returns-in-Some
+returns-in-Some c =
+    let s = c.args.surface.now in
+    let d = c.in-Some.depth in
+    let w = s.color.width in
+    let h = s.color.height in
+    let old = s.color.texels in
+    let k = clear_seen c.args.clear.now in
+    let new = c.clear_colors.new.colors in
+    let before = d.texels in
+    let deep = c.clear_depths.new.depths in
+    let g = clear_step w h k in
+    let some : c.args.surface.now.depth ≡ Some d = c.in-Some.is in
+    let lent : c.as_mut_slice-colors.result.now ≡ c.args.surface.now.color.texels = c.as_mut_slice-colors.ensures.value in
+    let lent_too : c.as_mut_slice-depths.result.now ≡ c.in-Some.depth.texels = c.as_mut_slice-depths.ensures.value in
+    let sizes = s.one_size d some in
+    let colors : new ≡ map (cleared_color k) old = rw lent at c.clear_colors.ensures in
+    let many : length new ≡ length old = ap length colors ∙ length-map old (cleared_color k) in
+    let one_length : length deep ≡ length new =
+    (rw lent_too at c.clear_depths.auto.depths) ∙ d.whole ∙ (λ i. sizes.0 i * sizes.1 i) ∙ sym s.color.whole ∙ sym many in
+    let back : refilled old new ≡ new = refill old new many in
+    let back_deep : refilled before deep ≡ deep = refill before deep (rw lent_too at c.clear_depths.auto.depths) in
+    let le : 0 + length old ≤ w * h = omega (arith, s.color.whole) in
+    (λ i. record { color = record { width = w; height = h; texels = back i }; depth = Some (record { width = d.width; height = d.height; texels = back_deep i }) })
+    ∙ whole_deep w h d.width d.height old new before deep g (rw colors (deep-cleared w h 0 k old before deep le (rw lent_too at c.clear_depths.ensures))) one_length c.tell_texels.ensures
+    ∙ sym (λ i. on_each_pixel g (record { color = record { width = w; height = h; texels = old }; depth = option_map texels_seen (some i) }))

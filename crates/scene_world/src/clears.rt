@@ -1,0 +1,13 @@
+// What entering a view clears.
+ghost use Rattle.std.specs.Prelude.{◌≤◌};
+
+/// What entering a view clears: flag 1 the colour, 2 the depth, 4 the stencil.
+#[derive(Clone, Copy, Drop)]
+pub struct ViewClear {
+    pub flags: u8,
+    pub color: [u8; 4],
+    /// At most 16,777,215.
+    pub depth: u32,
+    pub stencil: u8,
+    pub ghost shallow: { depth ≤ 16777215 },
+}
