@@ -1,6 +1,6 @@
 // Writes rows of commands.
 ghost use Rattle.std.specs.Prelude.{◌≡◌, ◌+◌, ◌*◌, ◌≤◌, ◌++◌, ◌∷◌, [], ◌%◌, ◌/◌, length, map, true, vec_len, vec_capacity, IfOk, IsOk, OnErr, OnOk, MatchResult};
-ghost use Rattle.gfx_model.specs.Commands.{command_bytes, attribute_bytes, create_layout_command, create_texture_command, create_uniform_command, update_buffer_command, update_texture_command, buffer_bytes};
+ghost use Rattle.gfx_model.specs.Commands.{command_bytes, attribute_bytes, create_layout_command, create_vertex_buffer_command, create_index_buffer_command, create_frame_buffer_command, create_texture_command, create_uniform_command, update_buffer_command, update_texture_command, buffer_bytes};
 ghost use Rattle.std.specs.List.{flat_map};
 ghost use Rattle.vertex_layout.specs.Placed.{placed_seen};
 ghost use Rattle.vertex_layout.specs.Layouts.{is_layout};
@@ -102,6 +102,36 @@ fn put_layout(bytes: &mut Vec<u8>, index: u16, layout: &VertexLayout) -> Result<
     Ok(())
 }
 
+fn vertex_buffer_bytes(index: u16, layout: u16, payload: u32) -> [u8; 9]
+    ensures { result ≡ command_bytes (create_vertex_buffer_command index layout payload) }
+{
+    [
+        2,
+        low(index),
+        high(index),
+        low(layout),
+        high(layout),
+        byte_0(payload),
+        byte_1(payload),
+        byte_2(payload),
+        byte_3(payload),
+    ]
+}
+
+fn index_buffer_bytes(index: u16, payload: u32) -> [u8; 7]
+    ensures { result ≡ command_bytes (create_index_buffer_command index payload) }
+{
+    [
+        3,
+        low(index),
+        high(index),
+        byte_0(payload),
+        byte_1(payload),
+        byte_2(payload),
+        byte_3(payload),
+    ]
+}
+
 fn texture_bytes(
     index: u16,
     width: u16,
@@ -128,6 +158,20 @@ fn texture_bytes(
         byte_1(value),
         byte_2(value),
         byte_3(value),
+    ]
+}
+
+fn frame_buffer_bytes(index: u16, color: u16, depth: u16) -> [u8; 7]
+    ensures { result ≡ command_bytes (create_frame_buffer_command index color depth) }
+{
+    [
+        5,
+        low(index),
+        high(index),
+        low(color),
+        high(color),
+        low(depth),
+        high(depth),
     ]
 }
 
@@ -233,32 +277,10 @@ fn append(bytes: &mut Vec<u8>, command: &Command) -> Result<(), AllocError>
             index,
             layout,
             payload,
-        } => put(
-            bytes,
-            &[
-                2,
-                low(*index),
-                high(*index),
-                low(*layout),
-                high(*layout),
-                byte_0(*payload),
-                byte_1(*payload),
-                byte_2(*payload),
-                byte_3(*payload),
-            ],
-        ),
-        Command::CreateIndexBuffer { index, payload } => put(
-            bytes,
-            &[
-                3,
-                low(*index),
-                high(*index),
-                byte_0(*payload),
-                byte_1(*payload),
-                byte_2(*payload),
-                byte_3(*payload),
-            ],
-        ),
+        } => put(bytes, &vertex_buffer_bytes(*index, *layout, *payload)),
+        Command::CreateIndexBuffer { index, payload } => {
+            put(bytes, &index_buffer_bytes(*index, *payload))
+        }
         Command::CreateTexture {
             index,
             width,
@@ -275,18 +297,7 @@ fn append(bytes: &mut Vec<u8>, command: &Command) -> Result<(), AllocError>
             index,
             color,
             depth,
-        } => put(
-            bytes,
-            &[
-                5,
-                low(*index),
-                high(*index),
-                low(*color),
-                high(*color),
-                low(*depth),
-                high(*depth),
-            ],
-        ),
+        } => put(bytes, &frame_buffer_bytes(*index, *color, *depth)),
         Command::CreateProgram { index, kind } => put(
             bytes,
             &[6, low(*index), high(*index), *kind],
