@@ -11,4 +11,4 @@ pub mod Slopes
 pub mod Lines
 pub mod Aligned
 pub mod Raised
-pub mod Sums
+pub mod Widened

@@ -1,19 +1,20 @@
 // Triangles that are ready to be drawn.
 ghost use Rattle.std.specs.Prelude.{true, ◌≡◌, ◌≤◌, ◌<◌, ◌^◌, ◌+◌, ◌*◌, ℕ, pos, ◌-ℤ◌, ◌*ℤ◌, ◌<ℤ◌, unsigned_abs, ◌&&◌, nat_le, nat_lt, IsSome, IfSome, IsTrue, ◌↔◌, ◌||◌, ◌==◌, not};
-ghost use Rattle.gfx_model.specs.Raster.{covers, area as area_spec, clockwise as clockwise_spec, is_front as faces_front, is_back, is_kept, edge, centre, fragment_at};
-ghost use Rattle.tri_cover.specs.Deepened.{AreDepths, IsDepthAt};
+ghost use Rattle.gfx_model.specs.Raster.{covers, area as area_spec, clockwise as clockwise_spec, is_front as faces_front, is_back, is_kept, edge, centre, fragment_at, weighted as weighted_mean};
+ghost use Rattle.tri_cover.specs.Slope.{IsSamePlace};
+ghost use Rattle.tri_cover.specs.Widened.{wide_whole, IsLowPart};
 ghost use Rattle.tri_cover.specs.Stepped.{AreSteps, IsNearby};
 ghost use Rattle.tri_cover.specs.Seen.{screen_seen, triangle_seen, IsEdge, IsNear, fragment_seen};
 
 use crate::averages::{Weights, mean_channel, mean_depth, mean_place};
 use crate::corners::{Fragment, ScreenVertex};
-use crate::deepening::{divided, weighted_depth};
 use crate::edges::{Edge, cut, edge_between, ends};
 use crate::inverses::Inverse;
-use crate::numbers::{difference, less, product};
-use crate::quotients::{DepthAt, DepthSteps};
+use crate::numbers::{difference, less, product, weighted};
+use crate::ramps::WideRamp;
 use crate::rows::{greatest, least, row_after, row_from, within};
 use crate::steps::{Steps, Three};
+use crate::wide::{wide_slope, wide_start};
 
 /// A triangle that is ready to be drawn, the clockwise way round.
 #[derive(Clone, Copy)]
@@ -276,46 +277,61 @@ impl Setup {
         })
     }
 
-    /// What the depth gains per column, by quotient and rest.
-    pub fn depth_steps(&self) -> DepthSteps
-        ensures { AreDepths result (triangle_seen self.now.a self.now.b self.now.c) }
+    /// The mean of three values, by divisions.
+    fn wide_ramp(&self, u: i64, v: i64, w: i64) -> WideRamp
+        requires u { unsigned_abs u < 2 ^ 32 }
+        requires v { unsigned_abs v < 2 ^ 32 }
+        requires w { unsigned_abs w < 2 ^ 32 }
+        ensures { (x y : ℕ) → x < 65536 → y < 65536 → IsLowPart (wide_whole result x y) (weighted_mean (triangle_seen self.now.a self.now.b self.now.c) x y u v w) }
     {
         let n = size(area(&self.a, &self.b, &self.c));
-        let gain = divided(
-            weighted_depth(
-                gained_by_column(&self.bc),
-                gained_by_column(&self.ca),
-                gained_by_column(&self.ab),
-                &self.a,
-                &self.b,
-                &self.c,
-            ),
-            n,
+        let at = weighted(
+            weight(&self.b, &self.c, 0, 0),
+            weight(&self.c, &self.a, 0, 0),
+            weight(&self.a, &self.b, 0, 0),
+            u,
+            v,
+            w,
         );
-        DepthSteps {
-            whole: gain.whole,
-            rest: gain.rest,
-            divisor: n,
+        let right = weighted(
+            gained_by_column(&self.bc),
+            gained_by_column(&self.ca),
+            gained_by_column(&self.ab),
+            u,
+            v,
+            w,
+        );
+        let down = weighted(
+            gained_by_row(&self.bc),
+            gained_by_row(&self.ca),
+            gained_by_row(&self.ab),
+            u,
+            v,
+            w,
+        );
+        WideRamp {
+            start: wide_start(wide_slope(at, n)),
+            right: wide_slope(right, n),
+            down: wide_slope(down, n),
         }
     }
 
-    /// The depth at a pixel, from which it is stepped along the row.
-    pub fn depth_at(&self, steps: &DepthSteps, x: u16, y: u16) -> DepthAt
-        requires { AreDepths steps.now (triangle_seen self.now.a self.now.b self.now.c) }
-        ensures below { result.rest < steps.now.divisor }
-        ensures is { IsDepthAt result steps.now (triangle_seen self.now.a self.now.b self.now.c) x y }
+    /// The depth in the upper 24 bits, for triangles of any size.
+    pub fn wide_depth(&self) -> WideRamp
+        ensures { (x y : ℕ) → x < 65536 → y < 65536 → covers (triangle_seen self.now.a self.now.b self.now.c) x y ≡ true → wide_whole result x y ≡ (fragment_at (triangle_seen self.now.a self.now.b self.now.c) x y).depth }
     {
-        divided(
-            weighted_depth(
-                weight(&self.b, &self.c, x, y),
-                weight(&self.c, &self.a, x, y),
-                weight(&self.a, &self.b, x, y),
-                &self.a,
-                &self.b,
-                &self.c,
-            ),
-            steps.divisor,
+        self.wide_ramp(
+            self.a.depth as i64,
+            self.b.depth as i64,
+            self.c.depth as i64,
         )
+    }
+
+    /// The mean of three texture positions modulo 65536 in the bits from 104 to 119, for triangles of any size.
+    pub fn wide_place(&self, u: i32, v: i32, w: i32) -> WideRamp
+        ensures { (x y : ℕ) → x < 65536 → y < 65536 → IsSamePlace (wide_whole result x y) (weighted_mean (triangle_seen self.now.a self.now.b self.now.c) x y u v w) }
+    {
+        self.wide_ramp(u as i64, v as i64, w as i64)
     }
 
     /// The covered columns of a row, from the first up to the second number.

@@ -34,13 +34,13 @@ draw_span-requires-clause-paints c =
     (λ b h x lo hi. h x c.loop-y.y (omega (arith, hi, within)) (omega (arith, c.loop-y-test.true, c.drawn_rows-top.ensures.within))
     (drawn_column (rect_seen d.cut) f ends.0 ends.1 x c.loop-y.y (c.drawn_columns-first.ensures.columns x (omega (arith, hi, within))) lo hi))
 
-pub draw_span-requires-clause-stepped : goal.draw_span-requires-clause-stepped
-draw_span-requires-clause-stepped c =
+pub draw_span-requires-clause-wide_paints : goal.draw_span-requires-clause-wide_paints
+draw_span-requires-clause-wide_paints c =
     let d = c.args.draw.now in
     let f = facing_seen c.args.draw.now c.args.setup.now in
     let ends = c.drawn_columns-first.result in
     let within = c.drawn_columns-first.ensures.within in
-    IfSome_then c.stepper_of-stepper.result c.stepper_of-stepper.ensures.paints
+    IfSome_then c.wide_brush_of-wide.result c.wide_brush_of-wide.ensures.paints
     (λ b h x lo hi. h x c.loop-y.y (omega (arith, hi, within)) (omega (arith, c.loop-y-test.true, c.drawn_rows-top.ensures.within))
     (drawn_column (rect_seen d.cut) f ends.0 ends.1 x c.loop-y.y (c.drawn_columns-first.ensures.columns x (omega (arith, hi, within))) lo hi))
 
@@ -51,6 +51,16 @@ draw_span-requires-clause-depths c =
     let ends = c.drawn_columns-first.result in
     let within = c.drawn_columns-first.ensures.within in
     IfSome_then c.brush_of-brush.result c.brush_of-brush.ensures.depths
+    (λ b h x lo hi. h x c.loop-y.y (omega (arith, hi, within)) (omega (arith, c.loop-y-test.true, c.drawn_rows-top.ensures.within))
+    (drawn_column (rect_seen d.cut) f ends.0 ends.1 x c.loop-y.y (c.drawn_columns-first.ensures.columns x (omega (arith, hi, within))) lo hi))
+
+pub draw_span-requires-clause-wide_depths : goal.draw_span-requires-clause-wide_depths
+draw_span-requires-clause-wide_depths c =
+    let d = c.args.draw.now in
+    let f = facing_seen c.args.draw.now c.args.setup.now in
+    let ends = c.drawn_columns-first.result in
+    let within = c.drawn_columns-first.ensures.within in
+    IfSome_then c.wide_brush_of-wide.result c.wide_brush_of-wide.ensures.depths
     (λ b h x lo hi. h x c.loop-y.y (omega (arith, hi, within)) (omega (arith, c.loop-y-test.true, c.drawn_rows-top.ensures.within))
     (drawn_column (rect_seen d.cut) f ends.0 ends.1 x c.loop-y.y (c.drawn_columns-first.ensures.columns x (omega (arith, hi, within))) lo hi))
 
