@@ -17,6 +17,10 @@ use crate::spans::Span;
 use pixel_ops::Pixel;
 use tri_cover::{Ramp, Setup, WideRamp};
 
+/// From so many columns on it pays to copy what does not change along a span. What is borrowed may change with each pixel
+/// that is stored, as far as a compiler can tell, so it is read again for each.
+const LONG: u16 = 16;
+
 /// The depth word of a depth texel.
 fn depth_word(texel: [u8; 4]) -> u32
     ensures { result ≡ u32_at texel 0 }
@@ -103,7 +107,8 @@ pub(crate) fn step_painted(
 }
 
 /// Stores one colour in a span where its depth passes.
-pub(crate) fn fill(
+#[inline(always)]
+fn fill_by(
     colors: &mut [[u8; 4]],
     depths: &mut [[u8; 4]],
     span: &Span,
@@ -130,6 +135,32 @@ pub(crate) fn fill(
         colors[start + x as usize] = painted;
         depths[start + x as usize] = word_texel(after.word);
         new = new.wrapping_add(depth.right);
+    }
+}
+
+/// Stores one colour in a span where its depth passes.
+pub(crate) fn fill(
+    colors: &mut [[u8; 4]],
+    depths: &mut [[u8; 4]],
+    span: &Span,
+    color: [u8; 4],
+    depth: &Ramp,
+    rule: &Rule,
+    setup: &Setup,
+    draw: &Prepared,
+)
+    requires inside { span.now.y * span.now.width + span.now.width ≤ length colors.old }
+    requires same { length depths.old ≡ length colors.old }
+    requires plain { IsPlain rule.now draw.now setup.now }
+    requires paints { (x : ℕ) → span.now.first ≤ x → x < span.now.after → color ≡ painted (paint_seen draw.now.paint) (fragment_at (setup_seen setup.now).triangle x span.now.y) }
+    requires depths { HasSpanDepths depth.now setup.now span.now.y span.now.first span.now.after }
+    ensures { deep_pixels colors.new depths.new ≡ map_from (spanned (by_place span.now.width (step_seen draw.now setup.now)) (span.now.y * span.now.width + span.now.first) (span.now.y * span.now.width + span.now.after)) 0 (deep_pixels colors.old depths.old) }
+{
+    if span.after - span.first < LONG {
+        fill_by(colors, depths, span, color, depth, rule, setup, draw);
+    } else {
+        let (depth, rule) = (*depth, *rule);
+        fill_by(colors, depths, span, color, &depth, &rule, setup, draw);
     }
 }
 
@@ -165,7 +196,8 @@ pub(crate) fn store(
 }
 
 /// Stores the vertices' colours in a span where their depths pass.
-pub(crate) fn store_shade(
+#[inline(always)]
+fn store_shade_by(
     colors: &mut [[u8; 4]],
     depths: &mut [[u8; 4]],
     span: &Span,
@@ -206,6 +238,32 @@ pub(crate) fn store_shade(
         blue = blue.wrapping_add(shade.blue.right);
         alpha = alpha.wrapping_add(shade.alpha.right);
         new = new.wrapping_add(depth.right);
+    }
+}
+
+/// Stores the vertices' colours in a span where their depths pass.
+pub(crate) fn store_shade(
+    colors: &mut [[u8; 4]],
+    depths: &mut [[u8; 4]],
+    span: &Span,
+    shade: &Shade,
+    depth: &Ramp,
+    rule: &Rule,
+    setup: &Setup,
+    draw: &Prepared,
+)
+    requires inside { span.now.y * span.now.width + span.now.width ≤ length colors.old }
+    requires same { length depths.old ≡ length colors.old }
+    requires plain { IsPlain rule.now draw.now setup.now }
+    requires paints { (x : ℕ) → span.now.first ≤ x → x < span.now.after → shade_at shade.now x span.now.y ≡ painted (paint_seen draw.now.paint) (fragment_at (setup_seen setup.now).triangle x span.now.y) }
+    requires depths { HasSpanDepths depth.now setup.now span.now.y span.now.first span.now.after }
+    ensures { deep_pixels colors.new depths.new ≡ map_from (spanned (by_place span.now.width (step_seen draw.now setup.now)) (span.now.y * span.now.width + span.now.first) (span.now.y * span.now.width + span.now.after)) 0 (deep_pixels colors.old depths.old) }
+{
+    if span.after - span.first < LONG {
+        store_shade_by(colors, depths, span, shade, depth, rule, setup, draw);
+    } else {
+        let (shade, depth, rule) = (*shade, *depth, *rule);
+        store_shade_by(colors, depths, span, &shade, &depth, &rule, setup, draw);
     }
 }
 

@@ -3,7 +3,7 @@ use Rattle.gfx_model.specs.Number.{map_from}
 use Rattle.tri_cover.specs.Slope.{ramp_at}
 use Rattle.int_raster.specs.Places.{deep_pixels, spanned, by_place}
 use Rattle.int_raster.specs.Seen.{step_seen}
-use Rattle.int_raster.proofs.deep_spans.fill.Given as goal
+use Rattle.int_raster.proofs.deep_spans.fill_by.Given as goal
 
 -- the pixels before the column are stepped, and the ramps stand at it
 abbrev pub invariant-loop-x : goal.invariant-loop-x
