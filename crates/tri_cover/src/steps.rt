@@ -2,19 +2,21 @@
 ghost use Rattle.std.specs.Prelude.{◌≡◌, ◌≤◌, ◌<◌, ◌^◌, ◌+◌, ◌-◌, ◌*◌, ◌%◌, ◌/◌, true, ℕ, ℤ, pos, ◌+ℤ◌, ◌-ℤ◌, ◌*ℤ◌, unsigned_abs, IfSome, IsTrue};
 ghost use Rattle.std.specs.Int.{int_rem_euclid};
 
-use crate::inverses::{Inverse, low_bits, power};
-use crate::numbers::weighted;
+use crate::inverses::{Inverse, low_bits, power, small_power};
+use crate::numbers::{limited, narrow_sum, pair_sum, wide_limited};
 use crate::ramps::Ramp;
 
-/// Three numbers, one for each corner.
+/// Three numbers, one for each corner, and whether the second and the third are small.
 #[derive(Clone, Copy)]
 pub(crate) struct Three {
     pub a: i64,
     pub b: i64,
     pub c: i64,
-    pub ghost near_a: { unsigned_abs a < 2 ^ 60 },
+    pub narrow: bool,
     pub ghost near_b: { unsigned_abs b < 2 ^ 60 },
     pub ghost near_c: { unsigned_abs c < 2 ^ 60 },
+    pub ghost small_b: { IsTrue narrow → unsigned_abs b < 2 ^ 30 },
+    pub ghost small_c: { IsTrue narrow → unsigned_abs c < 2 ^ 30 },
 }
 
 /// The weights at a pixel, what they gain per column and per row, and the inverse of their sum. Pixels are at most `most`
@@ -31,13 +33,37 @@ pub struct Steps {
     pub ghost few: { most < 2 ^ 18 },
 }
 
-fn sum_of(by: &Three, u: i64, v: i64, w: i64) -> i128
-    requires u { unsigned_abs u < 2 ^ 32 }
+fn are_small(b: i64, c: i64) -> bool
+    ensures b { IsTrue result → unsigned_abs b < 2 ^ 30 }
+    ensures c { IsTrue result → unsigned_abs c < 2 ^ 30 }
+{
+    b.unsigned_abs() < 1 << 30 && c.unsigned_abs() < 1 << 30
+}
+
+pub(crate) fn triple(a: i64, b: i64, c: i64) -> Three
+    requires b { unsigned_abs b < 2 ^ 60 }
+    requires c { unsigned_abs c < 2 ^ 60 }
+    ensures a { result.a ≡ a }
+    ensures b { result.b ≡ b }
+    ensures c { result.c ≡ c }
+{
+    let narrow = are_small(b, c);
+    Three { a, b, c, narrow }
+}
+
+/// The sum of 0 and two values by their weights; none where it is further from 0 than a limit.
+fn sum_within(by: &Three, v: i64, w: i64, limit: u64) -> Option<i64>
     requires v { unsigned_abs v < 2 ^ 32 }
     requires w { unsigned_abs w < 2 ^ 32 }
-    ensures { result ≡ by.now.a *ℤ u +ℤ by.now.b *ℤ v +ℤ by.now.c *ℤ w }
+    requires limit { limit ≤ 2 ^ 62 }
+    ensures value { IfSome result (λ z. z ≡ by.now.b *ℤ v +ℤ by.now.c *ℤ w) }
+    ensures near { IfSome result (λ z. unsigned_abs z ≤ limit) }
 {
-    weighted(by.a, by.b, by.c, u, v, w)
+    if by.narrow {
+        limited(narrow_sum(by.b, by.c, v, w), limit)
+    } else {
+        wide_limited(pair_sum(by.b, by.c, v, w), limit)
+    }
 }
 
 /// Whether so many steps are exact.
@@ -108,20 +134,27 @@ impl Steps {
     ghost use Rattle.tri_cover.specs.Slope.{IsRamp, IsSamePlace, ramp_at};
     ghost use Rattle.tri_cover.specs.Stepped.{AreSteps, IsNearby};
 
-    /// The mean of three values, with so many bits of fraction; none where these are too few.
-    fn slopes(&self, u: i64, v: i64, w: i64, bits: u32) -> Option<Ramp>
-        requires u { unsigned_abs u < 2 ^ 32 }
+    /// The mean of 0 and two values, with so many bits of fraction; none where these are too few.
+    fn slopes(&self, v: i64, w: i64, bits: u32) -> Option<Ramp>
         requires v { unsigned_abs v < 2 ^ 32 }
         requires w { unsigned_abs w < 2 ^ 32 }
         requires bits { bits ≤ 62 }
-        ensures { IfSome result (λ r. (t : Triangle ScreenVertex) → AreSteps self.now t → (x y : ℕ) → IsNearby self.now x y → IsRamp r t u v w (2 ^ bits) x y) }
+        ensures { IfSome result (λ r. (t : Triangle ScreenVertex) → AreSteps self.now t → (x y : ℕ) → IsNearby self.now x y → IsRamp r t (pos 0) v w (2 ^ bits) x y) }
     {
+        let dropped = self.inverse.scale - bits;
+        if dropped > 62 {
+            return None;
+        }
         if !is_fine(self.most, self.inverse.divisor, bits) {
             return None;
         }
-        let at = self.inverse.slope(sum_of(&self.at, u, v, w), bits)?;
-        let right = self.inverse.slope(sum_of(&self.right, u, v, w), bits)?;
-        let down = self.inverse.slope(sum_of(&self.down, u, v, w), bits)?;
+        let limit = small_power(dropped);
+        let at = sum_within(&self.at, v, w, limit)?;
+        let right = sum_within(&self.right, v, w, limit)?;
+        let down = sum_within(&self.down, v, w, limit)?;
+        let at = self.inverse.slope(at, bits);
+        let right = self.inverse.slope(right, bits);
+        let down = self.inverse.slope(down, bits);
         Some(Ramp {
             start: started(at, right, down, self.x, self.y, self.most),
             right,
@@ -143,7 +176,7 @@ impl Steps {
                 down: 0,
             });
         }
-        let ramp = self.slopes(0, v, w, bits)?;
+        let ramp = self.slopes(v, w, bits)?;
         Some(ramp)
     }
 

@@ -13,7 +13,7 @@ use crate::inverses::Inverse;
 use crate::numbers::{difference, less, product};
 use crate::quotients::{DepthAt, DepthSteps};
 use crate::rows::{greatest, least, row_after, row_from, within};
-use crate::steps::{Steps, Three};
+use crate::steps::{Steps, triple};
 
 /// A triangle that is ready to be drawn, the clockwise way round.
 #[derive(Clone, Copy)]
@@ -257,21 +257,21 @@ impl Setup {
             x,
             y,
             most: (right - left) as u64 + (bottom - top) as u64 + 1,
-            at: Three {
-                a: weight(&self.b, &self.c, x, y),
-                b: weight(&self.c, &self.a, x, y),
-                c: weight(&self.a, &self.b, x, y),
-            },
-            right: Three {
-                a: gained_by_column(&self.bc),
-                b: gained_by_column(&self.ca),
-                c: gained_by_column(&self.ab),
-            },
-            down: Three {
-                a: gained_by_row(&self.bc),
-                b: gained_by_row(&self.ca),
-                c: gained_by_row(&self.ab),
-            },
+            at: triple(
+                weight(&self.b, &self.c, x, y),
+                weight(&self.c, &self.a, x, y),
+                weight(&self.a, &self.b, x, y),
+            ),
+            right: triple(
+                gained_by_column(&self.bc),
+                gained_by_column(&self.ca),
+                gained_by_column(&self.ab),
+            ),
+            down: triple(
+                gained_by_row(&self.bc),
+                gained_by_row(&self.ca),
+                gained_by_row(&self.ab),
+            ),
             inverse,
         })
     }

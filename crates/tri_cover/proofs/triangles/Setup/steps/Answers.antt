@@ -24,15 +24,15 @@ returns-clause-steps c =
     let whole : c.area.result ≡ area_spec (triangle_seen s.a s.b s.c) = c.area.ensures.value in
     record {
       divisor = ap pos c.in_ok-inverse.ensures ∙ (simp to_z-of_z at c.size.ensures.value) ∙ whole;
-      at_a = simp to_z-of_z c.weight.ensures.value;
-      at_b = simp to_z-of_z c.weight-2.ensures.value;
-      at_c = simp to_z-of_z c.weight-3.ensures.value;
-      right_a = simp to_z-of_z (c.gained_by_column.ensures.value ∙ ap gained s.second.fall);
-      right_b = simp to_z-of_z (c.gained_by_column-2.ensures.value ∙ ap gained s.third.fall);
-      right_c = simp to_z-of_z (c.gained_by_column-3.ensures.value ∙ ap gained s.first.fall);
-      down_a = simp to_z-of_z (c.gained_by_row.ensures.value ∙ ap (λ z. pos 256 *ℤ z) s.second.rise);
-      down_b = simp to_z-of_z (c.gained_by_row-2.ensures.value ∙ ap (λ z. pos 256 *ℤ z) s.third.rise);
-      down_c = simp to_z-of_z (c.gained_by_row-3.ensures.value ∙ ap (λ z. pos 256 *ℤ z) s.first.rise);
+      at_a = (simp to_z-of_z at c.triple.ensures.a) ∙ c.weight.ensures.value;
+      at_b = (simp to_z-of_z at c.triple.ensures.b) ∙ c.weight-2.ensures.value;
+      at_c = (simp to_z-of_z at c.triple.ensures.c) ∙ c.weight-3.ensures.value;
+      right_a = (simp to_z-of_z at c.triple-2.ensures.a) ∙ c.gained_by_column.ensures.value ∙ ap gained s.second.fall;
+      right_b = (simp to_z-of_z at c.triple-2.ensures.b) ∙ c.gained_by_column-2.ensures.value ∙ ap gained s.third.fall;
+      right_c = (simp to_z-of_z at c.triple-2.ensures.c) ∙ c.gained_by_column-3.ensures.value ∙ ap gained s.first.fall;
+      down_a = (simp to_z-of_z at c.triple-3.ensures.a) ∙ c.gained_by_row.ensures.value ∙ ap (λ z. pos 256 *ℤ z) s.second.rise;
+      down_b = (simp to_z-of_z at c.triple-3.ensures.b) ∙ c.gained_by_row-2.ensures.value ∙ ap (λ z. pos 256 *ℤ z) s.third.rise;
+      down_c = (simp to_z-of_z at c.triple-3.ensures.c) ∙ c.gained_by_row-3.ensures.value ∙ ap (λ z. pos 256 *ℤ z) s.first.rise;
     }
 
 apart : (x m first after : ℕ) → first ≤ m → m ≤ after → first ≤ x → x < after → unsigned_abs (pos x -ℤ pos m) ≤ after - first
