@@ -6,21 +6,18 @@ use crate::inverses::{Inverse, low_bits, power, small_power};
 use crate::numbers::{limited, narrow_sum, pair_sum, wide_limited};
 use crate::ramps::Ramp;
 
-/// Three numbers, one for each corner, and whether the second and the third are small.
+/// Three numbers, one for each corner.
 #[derive(Clone, Copy)]
 pub(crate) struct Three {
     pub a: i64,
     pub b: i64,
     pub c: i64,
-    pub narrow: bool,
     pub ghost near_b: { unsigned_abs b < 2 ^ 60 },
     pub ghost near_c: { unsigned_abs c < 2 ^ 60 },
-    pub ghost small_b: { IsTrue narrow → unsigned_abs b < 2 ^ 30 },
-    pub ghost small_c: { IsTrue narrow → unsigned_abs c < 2 ^ 30 },
 }
 
 /// The weights at a pixel, what they gain per column and per row, and the inverse of their sum. Pixels are at most `most`
-/// steps less one away.
+/// steps less one away. Where it is narrow, the sums of values by these weights have 64 bits.
 #[derive(Clone, Copy)]
 pub struct Steps {
     pub(crate) x: u16,
@@ -30,36 +27,46 @@ pub struct Steps {
     pub(crate) right: Three,
     pub(crate) down: Three,
     pub(crate) inverse: Inverse,
+    pub(crate) narrow: bool,
     pub ghost few: { most < 2 ^ 18 },
+    pub ghost small_at_b: { IsTrue narrow → unsigned_abs at.b < 2 ^ 30 },
+    pub ghost small_at_c: { IsTrue narrow → unsigned_abs at.c < 2 ^ 30 },
+    pub ghost small_right_b: { IsTrue narrow → unsigned_abs right.b < 2 ^ 30 },
+    pub ghost small_right_c: { IsTrue narrow → unsigned_abs right.c < 2 ^ 30 },
+    pub ghost small_down_b: { IsTrue narrow → unsigned_abs down.b < 2 ^ 30 },
+    pub ghost small_down_c: { IsTrue narrow → unsigned_abs down.c < 2 ^ 30 },
 }
 
-fn are_small(b: i64, c: i64) -> bool
-    ensures b { IsTrue result → unsigned_abs b < 2 ^ 30 }
-    ensures c { IsTrue result → unsigned_abs c < 2 ^ 30 }
+/// Whether the weights of the second and the third corner are small.
+fn is_narrow(by: &Three) -> bool
+    ensures b { IsTrue result → unsigned_abs by.now.b < 2 ^ 30 }
+    ensures c { IsTrue result → unsigned_abs by.now.c < 2 ^ 30 }
 {
-    b.unsigned_abs() < 1 << 30 && c.unsigned_abs() < 1 << 30
+    by.b.unsigned_abs() < 1 << 30 && by.c.unsigned_abs() < 1 << 30
 }
 
-pub(crate) fn triple(a: i64, b: i64, c: i64) -> Three
-    requires b { unsigned_abs b < 2 ^ 60 }
-    requires c { unsigned_abs c < 2 ^ 60 }
-    ensures a { result.a ≡ a }
-    ensures b { result.b ≡ b }
-    ensures c { result.c ≡ c }
+pub(crate) fn are_narrow(at: &Three, right: &Three, down: &Three) -> bool
+    ensures at_b { IsTrue result → unsigned_abs at.now.b < 2 ^ 30 }
+    ensures at_c { IsTrue result → unsigned_abs at.now.c < 2 ^ 30 }
+    ensures right_b { IsTrue result → unsigned_abs right.now.b < 2 ^ 30 }
+    ensures right_c { IsTrue result → unsigned_abs right.now.c < 2 ^ 30 }
+    ensures down_b { IsTrue result → unsigned_abs down.now.b < 2 ^ 30 }
+    ensures down_c { IsTrue result → unsigned_abs down.now.c < 2 ^ 30 }
 {
-    let narrow = are_small(b, c);
-    Three { a, b, c, narrow }
+    is_narrow(at) && is_narrow(right) && is_narrow(down)
 }
 
 /// The sum of 0 and two values by their weights; none where it is further from 0 than a limit.
-fn sum_within(by: &Three, v: i64, w: i64, limit: u64) -> Option<i64>
+fn sum_within(by: &Three, narrow: bool, v: i64, w: i64, limit: u64) -> Option<i64>
+    requires b { IsTrue narrow → unsigned_abs by.now.b < 2 ^ 30 }
+    requires c { IsTrue narrow → unsigned_abs by.now.c < 2 ^ 30 }
     requires v { unsigned_abs v < 2 ^ 32 }
     requires w { unsigned_abs w < 2 ^ 32 }
     requires limit { limit ≤ 2 ^ 62 }
     ensures value { IfSome result (λ z. z ≡ by.now.b *ℤ v +ℤ by.now.c *ℤ w) }
     ensures near { IfSome result (λ z. unsigned_abs z ≤ limit) }
 {
-    if by.narrow {
+    if narrow {
         limited(narrow_sum(by.b, by.c, v, w), limit)
     } else {
         wide_limited(pair_sum(by.b, by.c, v, w), limit)
@@ -149,9 +156,9 @@ impl Steps {
             return None;
         }
         let limit = small_power(dropped);
-        let at = sum_within(&self.at, v, w, limit)?;
-        let right = sum_within(&self.right, v, w, limit)?;
-        let down = sum_within(&self.down, v, w, limit)?;
+        let at = sum_within(&self.at, self.narrow, v, w, limit)?;
+        let right = sum_within(&self.right, self.narrow, v, w, limit)?;
+        let down = sum_within(&self.down, self.narrow, v, w, limit)?;
         let at = self.inverse.slope(at, bits);
         let right = self.inverse.slope(right, bits);
         let down = self.inverse.slope(down, bits);

@@ -24,15 +24,15 @@ returns-clause-steps c =
     let whole : c.area.result ≡ area_spec (triangle_seen s.a s.b s.c) = c.area.ensures.value in
     record {
       divisor = ap pos c.in_ok-inverse.ensures ∙ (simp to_z-of_z at c.size.ensures.value) ∙ whole;
-      at_a = (simp to_z-of_z at c.triple.ensures.a) ∙ c.weight.ensures.value;
-      at_b = (simp to_z-of_z at c.triple.ensures.b) ∙ c.weight-2.ensures.value;
-      at_c = (simp to_z-of_z at c.triple.ensures.c) ∙ c.weight-3.ensures.value;
-      right_a = (simp to_z-of_z at c.triple-2.ensures.a) ∙ c.gained_by_column.ensures.value ∙ ap gained s.second.fall;
-      right_b = (simp to_z-of_z at c.triple-2.ensures.b) ∙ c.gained_by_column-2.ensures.value ∙ ap gained s.third.fall;
-      right_c = (simp to_z-of_z at c.triple-2.ensures.c) ∙ c.gained_by_column-3.ensures.value ∙ ap gained s.first.fall;
-      down_a = (simp to_z-of_z at c.triple-3.ensures.a) ∙ c.gained_by_row.ensures.value ∙ ap (λ z. pos 256 *ℤ z) s.second.rise;
-      down_b = (simp to_z-of_z at c.triple-3.ensures.b) ∙ c.gained_by_row-2.ensures.value ∙ ap (λ z. pos 256 *ℤ z) s.third.rise;
-      down_c = (simp to_z-of_z at c.triple-3.ensures.c) ∙ c.gained_by_row-3.ensures.value ∙ ap (λ z. pos 256 *ℤ z) s.first.rise;
+      at_a = simp to_z-of_z c.weight.ensures.value;
+      at_b = simp to_z-of_z c.weight-2.ensures.value;
+      at_c = simp to_z-of_z c.weight-3.ensures.value;
+      right_a = simp to_z-of_z (c.gained_by_column.ensures.value ∙ ap gained s.second.fall);
+      right_b = simp to_z-of_z (c.gained_by_column-2.ensures.value ∙ ap gained s.third.fall);
+      right_c = simp to_z-of_z (c.gained_by_column-3.ensures.value ∙ ap gained s.first.fall);
+      down_a = simp to_z-of_z (c.gained_by_row.ensures.value ∙ ap (λ z. pos 256 *ℤ z) s.second.rise);
+      down_b = simp to_z-of_z (c.gained_by_row-2.ensures.value ∙ ap (λ z. pos 256 *ℤ z) s.third.rise);
+      down_c = simp to_z-of_z (c.gained_by_row-3.ensures.value ∙ ap (λ z. pos 256 *ℤ z) s.first.rise);
     }
 
 apart : (x m first after : ℕ) → first ≤ m → m ≤ after → first ≤ x → x < after → unsigned_abs (pos x -ℤ pos m) ≤ after - first
@@ -45,3 +45,16 @@ returns-clause-nearby c x y bx by h =
     let across = apart x c.middle-x.result c.columns-left.result.0 c.columns-left.result.1 c.middle-x.ensures.low c.middle-x.ensures.high columns.0 columns.1 in
     let down = apart y c.middle-y.result c.rows-top.result.0 c.rows-top.result.1 c.middle-y.ensures.low c.middle-y.ensures.high rows.0 rows.1 in
     omega (arith, across, down)
+
+pub invariant_of-result : goal.invariant_of-result
+invariant_of-result c =
+    let small = c.are_narrow-narrow.ensures in
+    record {
+      few = omega (arith, c.columns-left.ensures.within, c.rows-top.ensures.within, c.ranges.width, c.ranges.height);
+      small_at_b = small.at_b;
+      small_at_c = small.at_c;
+      small_right_b = small.right_b;
+      small_right_c = small.right_c;
+      small_down_b = small.down_b;
+      small_down_c = small.down_c;
+    }
