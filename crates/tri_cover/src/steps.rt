@@ -57,6 +57,7 @@ pub(crate) fn are_narrow(at: &Three, right: &Three, down: &Three) -> bool
 }
 
 /// The sum of 0 and two values by their weights; none where it is further from 0 than a limit.
+#[inline(always)]
 fn sum_within(by: &Three, narrow: bool, v: i64, w: i64, limit: u64) -> Option<i64>
     requires b { IsTrue narrow → unsigned_abs by.now.b < 2 ^ 30 }
     requires c { IsTrue narrow → unsigned_abs by.now.c < 2 ^ 30 }
@@ -79,7 +80,7 @@ fn is_fine(most: u64, divisor: u64, bits: u32) -> bool
     requires bits { bits ≤ 62 }
     ensures { IsTrue result → 4 * most * divisor ≤ 2 ^ bits }
 {
-    4 * most as u128 * divisor as u128 <= power(bits)
+    4 * most as u128 * divisor as u128 <= small_power(bits) as u128
 }
 
 /// The value at column 0 of row 0 of a value whose slopes are given.
@@ -142,6 +143,7 @@ impl Steps {
     ghost use Rattle.tri_cover.specs.Stepped.{AreSteps, IsNearby};
 
     /// The mean of 0 and two values, with so many bits of fraction; none where these are too few.
+    #[inline(always)]
     fn slopes(&self, v: i64, w: i64, bits: u32) -> Option<Ramp>
         requires v { unsigned_abs v < 2 ^ 32 }
         requires w { unsigned_abs w < 2 ^ 32 }
@@ -170,6 +172,7 @@ impl Steps {
     }
 
     /// The mean of 0 and two values. Where both are 0 it is 0 everywhere.
+    #[inline(always)]
     fn relative(&self, v: i64, w: i64, bits: u32) -> Option<Ramp>
         requires v { unsigned_abs v < 2 ^ 32 }
         requires w { unsigned_abs w < 2 ^ 32 }
@@ -188,6 +191,7 @@ impl Steps {
     }
 
     /// The mean of three values, by what the second and the third differ from the first.
+    #[inline(always)]
     fn ramp(&self, u: i64, v: i64, w: i64, bits: u32) -> Option<Ramp>
         requires u { unsigned_abs u < 2 ^ 32 }
         requires v { unsigned_abs (v -ℤ u) < 2 ^ 32 }
@@ -202,6 +206,7 @@ impl Steps {
     }
 
     /// The mean of three channels in the upper 8 bits; none where 64 bits are too few.
+    #[inline(always)]
     pub fn channel(&self, u: u8, v: u8, w: u8) -> Option<Ramp>
         ensures { IfSome result (λ r. (t : Triangle ScreenVertex) → AreSteps self.now t → (x y : ℕ) → IsNearby self.now x y → covers t x y ≡ true → ramp_at r x y / 2 ^ 56 ≡ weighted_number t x y u v w) }
     {
@@ -209,6 +214,7 @@ impl Steps {
     }
 
     /// The mean of three depths in the upper 24 bits; none where 64 bits are too few.
+    #[inline(always)]
     pub fn depth(&self, u: u32, v: u32, w: u32) -> Option<Ramp>
         requires u { u ≤ 16777215 }
         requires v { v ≤ 16777215 }
@@ -219,6 +225,7 @@ impl Steps {
     }
 
     /// The mean of three texture positions modulo 65536 in the upper 16 bits; none where 64 bits are too few.
+    #[inline(always)]
     pub fn place(&self, u: i32, v: i32, w: i32) -> Option<Ramp>
         ensures { IfSome result (λ r. (t : Triangle ScreenVertex) → AreSteps self.now t → (x y : ℕ) → IsNearby self.now x y → covers t x y ≡ true → IsSamePlace (ramp_at r x y / 2 ^ 48) (weighted t x y u v w)) }
     {

@@ -241,6 +241,7 @@ impl Setup {
     }
 
     /// The steps of the corners' weights over a surface's covered pixels; none where the triangle has no room there.
+    #[inline(always)]
     pub fn steps(&self, width: u16, height: u16) -> Option<Steps>
         ensures steps { IfSome result (λ s. AreSteps s (triangle_seen self.now.a self.now.b self.now.c)) }
         ensures nearby { IfSome result (λ s. (x y : ℕ) → x < width → y < height → covers (triangle_seen self.now.a self.now.b self.now.c) x y ≡ true → IsNearby s x y) }
