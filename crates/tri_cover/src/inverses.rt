@@ -40,6 +40,7 @@ fn quotient(a: u128, divisor: u64) -> u128
     a / divisor as u128
 }
 
+/// A power of two in 64 bits.
 pub(crate) fn small_power(n: u32) -> u64
     requires { n ≤ 62 }
     ensures value { result ≡ 2 ^ n }

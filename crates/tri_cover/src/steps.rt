@@ -17,7 +17,7 @@ pub(crate) struct Three {
 }
 
 /// The weights at a pixel, what they gain per column and per row, and the inverse of their sum. Pixels are at most `most`
-/// steps less one away. Where it is narrow, the sums of values by these weights have 64 bits.
+/// steps less one away. Where they are narrow, the sums of values by the weights fit 64 bits.
 #[derive(Clone, Copy)]
 pub struct Steps {
     pub(crate) x: u16,
@@ -45,6 +45,7 @@ fn is_narrow(by: &Three) -> bool
     by.b.unsigned_abs() < 1 << 30 && by.c.unsigned_abs() < 1 << 30
 }
 
+/// Whether all weights of the second and the third corner are small.
 pub(crate) fn are_narrow(at: &Three, right: &Three, down: &Three) -> bool
     ensures at_b { IsTrue result → unsigned_abs at.now.b < 2 ^ 30 }
     ensures at_c { IsTrue result → unsigned_abs at.now.c < 2 ^ 30 }
