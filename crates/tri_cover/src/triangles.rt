@@ -13,7 +13,7 @@ use crate::inverses::Inverse;
 use crate::numbers::{difference, less, product, weighted};
 use crate::ramps::WideRamp;
 use crate::rows::{greatest, least, row_after, row_from, within};
-use crate::steps::{Steps, Three};
+use crate::steps::{Steps, Three, are_narrow};
 use crate::wide::{wide_slope, wide_start};
 
 /// A triangle that is ready to be drawn, the clockwise way round.
@@ -242,38 +242,44 @@ impl Setup {
     }
 
     /// The steps of the corners' weights over a surface's covered pixels; none where the triangle has no room there.
+    #[inline(always)]
     pub fn steps(&self, width: u16, height: u16) -> Option<Steps>
         ensures steps { IfSome result (λ s. AreSteps s (triangle_seen self.now.a self.now.b self.now.c)) }
         ensures nearby { IfSome result (λ s. (x y : ℕ) → x < width → y < height → covers (triangle_seen self.now.a self.now.b self.now.c) x y ≡ true → IsNearby s x y) }
     {
-        let (left, right) = self.columns(width);
+        let (left, after) = self.columns(width);
         let (top, bottom) = self.rows(height);
-        if right < left || bottom < top {
+        if after < left || bottom < top {
             return None;
         }
         let inverse = Inverse::new(size(area(&self.a, &self.b, &self.c)))?;
-        let x = middle(self.a.x, self.b.x, self.c.x, left, right);
+        let x = middle(self.a.x, self.b.x, self.c.x, left, after);
         let y = middle(self.a.y, self.b.y, self.c.y, top, bottom);
+        let at = Three {
+            a: weight(&self.b, &self.c, x, y),
+            b: weight(&self.c, &self.a, x, y),
+            c: weight(&self.a, &self.b, x, y),
+        };
+        let right = Three {
+            a: gained_by_column(&self.bc),
+            b: gained_by_column(&self.ca),
+            c: gained_by_column(&self.ab),
+        };
+        let down = Three {
+            a: gained_by_row(&self.bc),
+            b: gained_by_row(&self.ca),
+            c: gained_by_row(&self.ab),
+        };
+        let narrow = are_narrow(&at, &right, &down);
         Some(Steps {
             x,
             y,
-            most: (right - left) as u64 + (bottom - top) as u64 + 1,
-            at: Three {
-                a: weight(&self.b, &self.c, x, y),
-                b: weight(&self.c, &self.a, x, y),
-                c: weight(&self.a, &self.b, x, y),
-            },
-            right: Three {
-                a: gained_by_column(&self.bc),
-                b: gained_by_column(&self.ca),
-                c: gained_by_column(&self.ab),
-            },
-            down: Three {
-                a: gained_by_row(&self.bc),
-                b: gained_by_row(&self.ca),
-                c: gained_by_row(&self.ab),
-            },
+            most: (after - left) as u64 + (bottom - top) as u64 + 1,
+            at,
+            right,
+            down,
             inverse,
+            narrow,
         })
     }
 
