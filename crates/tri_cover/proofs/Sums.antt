@@ -47,7 +47,8 @@ quotients_add z d a b c r s k n hz hd h =
     let sum = steps_settle z d (pos a +ℤ hz.0 *ℤ pos (2 ^ 32)) (pos b +ℤ hd.0 *ℤ pos (2 ^ 32)) (pos c) (pos n) (pos r) (pos s) (pos k) hz.1 hd.1 rests in
     (hz.0 +ℤ hd.0 +ℤ pos ((a + b) / 2 ^ 32 + ((a + b) % 2 ^ 32 + c) / 2 ^ 32), sum ∙ ap (λ q. q *ℤ pos n +ℤ pos k) (whole_is a b c hz.0 hd.0))
 
-whole_and_rest : (z : ℤ) (n : ℕ) → 0 < n → z ≡ int_div_euclid z (pos n) *ℤ pos n +ℤ int_rem_euclid z (pos n)
+-- a whole number is what its quotient and its rest make
+pub whole_and_rest : (z : ℤ) (n : ℕ) → 0 < n → z ≡ int_div_euclid z (pos n) *ℤ pos n +ℤ int_rem_euclid z (pos n)
 whole_and_rest (pos a) n h = omega (arith, ints, product_is, div-add-mod' a n)
 whole_and_rest (negsuc a) n h = omega (arith, ints, product_is, div-add-mod' a n, mod-lt a h)
 

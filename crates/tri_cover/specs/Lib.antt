@@ -4,3 +4,4 @@ pub mod Shown
 pub mod Slope
 pub mod Stepped
 pub mod Deepened
+pub mod Walked
