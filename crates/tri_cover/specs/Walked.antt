@@ -11,7 +11,7 @@ use Rattle.tri_cover.specs.declared.triangles.Setup.{Setup}
 abbrev pub reached_at : Edge → ℕ → ℤ
 reached_at e y = e.base +ℤ e.rise *ℤ pos (256 * y)
 
--- what an edge's value changes by from column to column, and 1 where it does not
+-- how much an edge's value changes from column to column, or 1 where it does not
 pub record IsDivisor (n fall : ℤ) : Type 0 where
   pub right : pos 0 <ℤ fall → n ≡ pos 256 *ℤ fall
   pub left : fall <ℤ pos 0 → n ≡ pos 256 *ℤ (pos 0 -ℤ fall)

@@ -1,8 +1,8 @@
-// Edges, and the columns of a row on their inner side.
-ghost use Rattle.std.specs.Prelude.{◌≡◌, ◌≤◌, ◌<◌, ◌^◌, ◌*◌, ℕ, pos, ◌+ℤ◌, ◌*ℤ◌, ◌≤ℤ◌, ◌<ℤ◌, unsigned_abs, ◌&&◌, nat_le, nat_lt};
+// Edges and their values at the ends of rows.
+ghost use Rattle.std.specs.Prelude.{◌≡◌, ◌<◌, ◌^◌, ◌*◌, pos, ◌+ℤ◌, ◌*ℤ◌, unsigned_abs};
 ghost use Rattle.gfx_model.specs.Raster.{is_top_or_left};
-ghost use Rattle.tri_cover.specs.Seen.{screen_seen, IsEdge, IsNear, is_on_side};
-ghost use Rattle.tri_cover.specs.Columns.{is_between, is_reached, lost};
+ghost use Rattle.tri_cover.specs.Seen.{screen_seen, IsEdge, IsNear};
+ghost use Rattle.tri_cover.specs.Columns.{lost};
 
 use crate::corners::ScreenVertex;
 use crate::numbers::{difference, less, product};
@@ -63,20 +63,4 @@ pub(crate) fn gained_by_row(edge: &Edge) -> i64
     ensures near { unsigned_abs result < 2 ^ 60 }
 {
     256 * edge.rise
-}
-
-/// Columns as numbers of columns.
-#[inline(always)]
-pub(crate) fn ends(first: i64, after: i64, width: u16) -> (u16, u16)
-    requires first { pos 0 ≤ℤ first }
-    requires after { first <ℤ after → after ≤ℤ pos width }
-    ensures columns { (x : ℕ) → (nat_le result.0 x && nat_lt x result.1) ≡ is_between first after x }
-    ensures order { result.0 ≤ result.1 }
-    ensures within { result.1 ≤ width }
-{
-    if first < after {
-        (first as u16, after as u16)
-    } else {
-        (0, 0)
-    }
 }

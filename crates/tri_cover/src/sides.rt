@@ -1,5 +1,5 @@
-// The sides of a triangle, stepped from row to row without divisions.
-ghost use Rattle.std.specs.Prelude.{◌≡◌, ◌<◌, ◌^◌, ◌+◌, ℕ, pos, ◌≤ℤ◌, ◌<ℤ◌, unsigned_abs, ◌&&◌};
+// The sides of a triangle, stepped from row to row without divisions, and the columns on their inner side.
+ghost use Rattle.std.specs.Prelude.{◌≡◌, ◌≤◌, ◌<◌, ◌^◌, ◌+◌, ℕ, pos, ◌≤ℤ◌, ◌<ℤ◌, unsigned_abs, ◌&&◌, nat_le, nat_lt};
 ghost use Rattle.tri_cover.specs.Columns.{is_between};
 ghost use Rattle.tri_cover.specs.Seen.{IsNear, is_on_side};
 ghost use Rattle.tri_cover.specs.Walked.{IsDivided, IsDivisor, IsSide};
@@ -23,7 +23,7 @@ pub struct Sides {
     pub(crate) ca: Side,
 }
 
-/// What an edge's value changes by from column to column, and 1 where it does not.
+/// How much an edge's value changes from column to column, or 1 where it does not.
 fn divisor_of(fall: i64) -> i64
     requires { unsigned_abs fall < 2 ^ 29 }
     ensures divisor { IsDivisor result fall }
@@ -105,5 +105,21 @@ pub(crate) fn cut(first: i64, after: i64, side: &Side, edge: &Edge, row: u16) ->
         (first, after)
     } else {
         (first, first)
+    }
+}
+
+/// Columns as numbers of columns.
+#[inline(always)]
+pub(crate) fn ends(first: i64, after: i64, width: u16) -> (u16, u16)
+    requires first { pos 0 ≤ℤ first }
+    requires after { first <ℤ after → after ≤ℤ pos width }
+    ensures columns { (x : ℕ) → (nat_le result.0 x && nat_lt x result.1) ≡ is_between first after x }
+    ensures order { result.0 ≤ result.1 }
+    ensures within { result.1 ≤ width }
+{
+    if first < after {
+        (first as u16, after as u16)
+    } else {
+        (0, 0)
     }
 }

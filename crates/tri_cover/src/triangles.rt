@@ -8,12 +8,12 @@ ghost use Rattle.tri_cover.specs.Seen.{screen_seen, triangle_seen, IsEdge, IsNea
 use crate::averages::{Weights, mean_channel, mean_depth, mean_place};
 use crate::corners::{Fragment, ScreenVertex};
 use crate::deepening::{divided, weighted_depth};
-use crate::edges::{Edge, edge_between, ends, gained_by_row};
+use crate::edges::{Edge, edge_between, gained_by_row};
 use crate::inverses::Inverse;
 use crate::numbers::{difference, less, product};
 use crate::quotients::{DepthAt, DepthSteps};
 use crate::rows::{greatest, least, row_after, row_from, within};
-use crate::sides::{Sides, cut, next_side, side_of};
+use crate::sides::{Sides, cut, ends, next_side, side_of};
 use crate::steps::{Steps, Three};
 
 /// A triangle that is ready to be drawn, the clockwise way round.
