@@ -1,5 +1,5 @@
 -- Sides that are walked from row to row.
-use Rattle.std.proofs.Common.{◌≡◌, ℕ, zero, suc, ◌+◌, ◌*◌, ◌%◌, ◌^◌, ◌<◌, ◌≤◌, refl, ap, arith}
+use Rattle.std.proofs.Common.{FitsSigned, w64, ◌≡◌, ℕ, zero, suc, ◌+◌, ◌*◌, ◌%◌, ◌^◌, ◌<◌, ◌≤◌, refl, ap, arith}
 use Rattle.std.specs.Prelude.{ℤ, pos, negsuc, ◌+ℤ◌, ◌*ℤ◌, ◌≤ℤ◌, ◌<ℤ◌, unsigned_abs}
 use Rattle.std.specs.Int.{int_div_euclid, int_rem_euclid}
 use Rattle.std.proofs.lemmas.Int.{ints, unsigned_abs-mul}
@@ -80,3 +80,7 @@ pub row_on : (e : Edge) (y : ℕ) → reached_at e y +ℤ pos 256 *ℤ e.rise �
 row_on e y =
     let h : pos (256 * y) +ℤ pos 256 ≡ pos (256 * (y + 1)) = omega (arith, ints) in
     omega (arith, ints, times_sum e.rise (pos (256 * y)) (pos 256), *ℤ_comm e.rise (pos 256), ap (λ n. e.rise *ℤ n) h)
+
+-- a floor times its divisor fits where the number and the divisor are small
+pub product_fits : (z n : ℤ) → unsigned_abs z < 2 ^ 62 → unsigned_abs n < 2 ^ 60 → pos 0 <ℤ n → FitsSigned w64 (int_div_euclid z n *ℤ n)
+product_fits z n hz hn h = omega (arith, ints, floor_and_rest z n h, rest_low z n h, rest_high z n h, hz, hn)

@@ -28,6 +28,7 @@ fn divisor_of(fall: i64) -> i64
     requires { unsigned_abs fall < 2 ^ 29 }
     ensures divisor { IsDivisor result fall }
     ensures positive { pos 0 <ℤ result }
+    ensures near { unsigned_abs result < 2 ^ 60 }
 {
     if fall > 0 {
         256 * fall
@@ -39,12 +40,15 @@ fn divisor_of(fall: i64) -> i64
 }
 
 fn divided(z: i64, n: i64) -> Quotient
-    requires { pos 0 <ℤ n }
+    requires z { unsigned_abs z < 2 ^ 62 }
+    requires n { pos 0 <ℤ n }
+    requires few { unsigned_abs n < 2 ^ 60 }
     ensures { IsDivided result z n }
 {
+    let whole = z.div_euclid(n);
     Quotient {
-        whole: z.div_euclid(n),
-        rest: z.rem_euclid(n),
+        whole,
+        rest: z - whole * n,
     }
 }
 
