@@ -237,8 +237,9 @@ fn triangle_tested(
     let brush = brush_of(setup, draw, width, height);
     let wide = wide_brush_of(setup, draw, width, height, &brush);
     let (top, bottom) = drawn_rows(setup, &draw.cut, height);
+    let mut sides = setup.sides(top);
     for y in top..bottom {
-        let (first, after) = drawn_columns(setup, &draw.cut, y, width);
+        let (first, after) = drawn_columns(setup, &sides, &draw.cut, y, width);
         let span = Span {
             width,
             y,
@@ -246,6 +247,7 @@ fn triangle_tested(
             after,
         };
         draw_span(colors, depths, &span, &brush, &wide, rule, setup, draw);
+        sides = setup.next_sides(sides, y);
     }
 }
 

@@ -18,7 +18,7 @@ fn flat_exactly(colors: &mut [[u8; 4]], width: u16, height: u16, setup: &Setup, 
 {
     let (top, bottom) = drawn_rows(setup, &draw.cut, height);
     for y in top..bottom {
-        let (first, after) = drawn_columns(setup, &draw.cut, y, width);
+        let (first, after) = drawn_columns(setup, &setup.sides(y), &draw.cut, y, width);
         let span = Span {
             width,
             y,
@@ -43,7 +43,7 @@ fn deep_exactly(
 {
     let (top, bottom) = drawn_rows(setup, &draw.cut, height);
     for y in top..bottom {
-        let (first, after) = drawn_columns(setup, &draw.cut, y, width);
+        let (first, after) = drawn_columns(setup, &setup.sides(y), &draw.cut, y, width);
         let span = Span {
             width,
             y,

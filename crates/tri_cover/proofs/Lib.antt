@@ -12,3 +12,4 @@ pub mod Lines
 pub mod Aligned
 pub mod Raised
 pub mod Widened
+pub mod Walks

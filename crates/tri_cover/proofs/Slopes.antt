@@ -116,6 +116,10 @@ pub rest_of : (g : ℤ) (m : ℕ) → 0 < m → (turns : ℤ) × (g ≡ int_rem_
 rest_of (pos a) m h = (pos (a / m), omega (arith, ints, product_is, div-add-mod' a m))
 rest_of (negsuc a) m h = (int_div_euclid (negsuc a) (pos m), omega (arith, ints, product_is, div-add-mod' a m, mod-lt a h))
 
+pub whole_and_rest : (z : ℤ) (n : ℕ) → 0 < n → z ≡ int_div_euclid z (pos n) *ℤ pos n +ℤ int_rem_euclid z (pos n)
+whole_and_rest (pos a) n h = omega (arith, ints, product_is, div-add-mod' a n)
+whole_and_rest (negsuc a) n h = omega (arith, ints, product_is, div-add-mod' a n, mod-lt a h)
+
 -- what the code of a slope computes
 pub slope_is : (z : ℤ) (f n r dropped bits scale : ℕ) → dropped + bits ≡ scale → 0 < n → r * n ≤ 2 ^ scale → 2 ^ scale < r * n + n → unsigned_abs z ≤ 2 ^ dropped →
     pos f ≡ int_rem_euclid (int_div_euclid (z *ℤ pos r) (pos (2 ^ dropped))) (pos (2 ^ 64)) → IsSlope z f n (2 ^ bits)

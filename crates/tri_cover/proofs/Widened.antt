@@ -1,7 +1,6 @@
 -- Means in 128 bits are exact for every triangle.
 use Rattle.std.proofs.Common.{◌≡◌, ℕ, ◌+◌, ◌*◌, ◌/◌, ◌%◌, ◌^◌, ◌<◌, ◌≤◌, true, ap, sym, ◌∙◌, arith, lit<, mul_assoc}
-use Rattle.std.proofs.Math.Nat.{mod-lt}
-use Rattle.std.specs.Prelude.{ℤ, pos, negsuc, ◌+ℤ◌, ◌-ℤ◌, ◌*ℤ◌, ◌≤ℤ◌, ◌<ℤ◌}
+use Rattle.std.specs.Prelude.{ℤ, pos, ◌+ℤ◌, ◌-ℤ◌, ◌*ℤ◌, ◌≤ℤ◌, ◌<ℤ◌}
 use Rattle.std.specs.Int.{int_div_euclid, int_rem_euclid}
 use Rattle.std.proofs.lemmas.Int.{ints}
 use Rattle.std.proofs.lemmas.Nat.{div-add-mod'}
@@ -14,7 +13,7 @@ use Rattle.tri_cover.specs.Slope.{IsFloor, IsNearly, IsSamePlace}
 use Rattle.tri_cover.specs.Widened.{wide_at, wide_whole, IsLowPart, IsWideSlope}
 use Rattle.tri_cover.proofs.Barycentre.{swap_last}
 use Rattle.tri_cover.proofs.Fixed.{floor_is, sum_times}
-use Rattle.tri_cover.proofs.Slopes.{nearly_exact, rest_of, times_nat}
+use Rattle.tri_cover.proofs.Slopes.{nearly_exact, rest_of, times_nat, whole_and_rest}
 use Rattle.tri_cover.proofs.Lines.{sum_at, mean_floor}
 use Rattle.tri_cover.proofs.Aligned.{mean_between}
 
@@ -44,10 +43,6 @@ joined_turns q t w h l f e g = omega (arith, ints, product_is, e, g)
 
 whole_rest : (z : ℤ) (n r : ℕ) → 0 < n → pos r ≡ int_rem_euclid z (pos n) → z ≡ int_div_euclid z (pos n) *ℤ pos n +ℤ pos r
 whole_rest z n r h e = whole_and_rest z n h ∙ ap (λ m. int_div_euclid z (pos n) *ℤ pos n +ℤ m) (sym e)
-  where
-    whole_and_rest : (z : ℤ) (n : ℕ) → 0 < n → z ≡ int_div_euclid z (pos n) *ℤ pos n +ℤ int_rem_euclid z (pos n)
-    whole_and_rest (pos a) n h = omega (arith, ints, product_is, div-add-mod' a n)
-    whole_and_rest (negsuc a) n h = omega (arith, ints, product_is, div-add-mod' a n, mod-lt a h)
 
 -- what the code of a slope computes
 pub wide_slope_is : (z : ℤ) (n w r h k l c f : ℕ) → 0 < n →

@@ -4,3 +4,4 @@ pub mod Shown
 pub mod Slope
 pub mod Stepped
 pub mod Widened
+pub mod Walked

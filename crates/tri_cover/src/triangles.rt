@@ -8,11 +8,12 @@ ghost use Rattle.tri_cover.specs.Seen.{screen_seen, triangle_seen, IsEdge, IsNea
 
 use crate::averages::{Weights, mean_channel, mean_depth, mean_place};
 use crate::corners::{Fragment, ScreenVertex};
-use crate::edges::{Edge, cut, edge_between, ends};
+use crate::edges::{Edge, edge_between, gained_by_row};
 use crate::inverses::Inverse;
 use crate::numbers::{difference, less, product, weighted};
 use crate::ramps::WideRamp;
 use crate::rows::{greatest, least, row_after, row_from, within};
+use crate::sides::{Sides, cut, ends, next_side, side_of};
 use crate::steps::{Steps, Three, are_narrow};
 use crate::wide::{wide_slope, wide_start};
 
@@ -69,15 +70,6 @@ fn gained_by_column(edge: &Edge) -> i64
     ensures near { unsigned_abs result < 2 ^ 60 }
 {
     0 - 256 * edge.fall
-}
-
-/// What the value of an edge gains per row.
-fn gained_by_row(edge: &Edge) -> i64
-    requires { IsNear edge.now }
-    ensures value { result ≡ pos 256 *ℤ edge.now.rise }
-    ensures near { unsigned_abs result < 2 ^ 60 }
-{
-    256 * edge.rise
 }
 
 /// The pixel near the mean of three places, within two ends.
@@ -152,6 +144,7 @@ fn clockwise(a: ScreenVertex, b: ScreenVertex, c: ScreenVertex, is_front: bool) 
 impl Setup {
     ghost use Rattle.std.specs.Prelude.{option_map};
     ghost use Rattle.tri_cover.specs.Shown.{setup_seen, shown_unless_culled};
+    ghost use Rattle.tri_cover.specs.Walked.{AreSides};
 
     /// The triangle, the clockwise way round. `None` exactly where it has no area or is culled: by 1 where it faces the
     /// front, by 2 where it faces the back.
@@ -340,15 +333,50 @@ impl Setup {
         self.wide_ramp(u as i64, v as i64, w as i64)
     }
 
+    /// The triangle's sides in a row.
+    pub fn sides(&self, row: u16) -> Sides
+        ensures { AreSides result self.now row }
+    {
+        Sides {
+            ab: side_of(&self.ab, row),
+            bc: side_of(&self.bc, row),
+            ca: side_of(&self.ca, row),
+        }
+    }
+
+    /// The sides one row on, without a division.
+    #[inline(always)]
+    pub fn next_sides(&self, sides: Sides, row: u16) -> Sides
+        requires { AreSides sides self.now row }
+        ensures { AreSides result self.now (row + 1) }
+    {
+        Sides {
+            ab: next_side(sides.ab, &self.ab, row),
+            bc: next_side(sides.bc, &self.bc, row),
+            ca: next_side(sides.ca, &self.ca, row),
+        }
+    }
+
+    /// The covered columns of the row that the sides stand at, from the first up to the second number.
+    #[inline(always)]
+    pub fn columns_of(&self, sides: &Sides, row: u16, width: u16) -> (u16, u16)
+        requires { AreSides sides.now self.now row }
+        ensures columns { (x : ℕ) → x < width → covers (triangle_seen self.now.a self.now.b self.now.c) x row ≡ (nat_le result.0 x && nat_lt x result.1) }
+        ensures order { result.0 ≤ result.1 }
+        ensures within { result.1 ≤ width }
+    {
+        let (first, after) = cut(0, width as i64, &sides.ab, &self.ab, row);
+        let (first, after) = cut(first, after, &sides.bc, &self.bc, row);
+        let (first, after) = cut(first, after, &sides.ca, &self.ca, row);
+        ends(first, after, width)
+    }
+
     /// The covered columns of a row, from the first up to the second number.
     pub fn span(&self, row: u16, width: u16) -> (u16, u16)
         ensures columns { (x : ℕ) → x < width → covers (triangle_seen self.now.a self.now.b self.now.c) x row ≡ (nat_le result.0 x && nat_lt x result.1) }
         ensures order { result.0 ≤ result.1 }
         ensures within { result.1 ≤ width }
     {
-        let (first, after) = cut(0, width as i64, &self.ab, row);
-        let (first, after) = cut(first, after, &self.bc, row);
-        let (first, after) = cut(first, after, &self.ca, row);
-        ends(first, after, width)
+        self.columns_of(&self.sides(row), row, width)
     }
 }

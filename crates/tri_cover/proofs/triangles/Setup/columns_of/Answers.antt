@@ -2,7 +2,7 @@ use Rattle.std.proofs.Common.{rules, ◌≡◌, pos, FitsSigned, w64, to_z, ap, 
 use Rattle.std.proofs.lemmas.Int.{to_z-of_z, to_z_pos}
 use Rattle.tri_cover.specs.Seen.{is_on_side}
 use Rattle.tri_cover.proofs.Cover.{covered_columns, cut_thrice}
-use Rattle.tri_cover.proofs.triangles.Setup.span.Goals as goal
+use Rattle.tri_cover.proofs.triangles.Setup.columns_of.Goals as goal
 
 pub ends-requires-clause-after : goal.ends-requires-clause-after
 ends-requires-clause-after c =
