@@ -1,5 +1,5 @@
 -- The colours and depths that ramps give to a triangle's pixels.
-use Rattle.std.specs.Prelude.{◌≡◌, ℕ, ◌/◌, ◌^◌, ◌<◌, ◌≤◌, ℤ, pos, true, false, List, [], ◌∷◌, slice_index}
+use Rattle.std.specs.Prelude.{◌≡◌, ℕ, ◌/◌, ◌%◌, ◌^◌, ◌<◌, ◌≤◌, ℤ, pos, true, false, List, [], ◌∷◌, slice_index}
 use Rattle.gfx_model.specs.Number.{zip_with, byte_product, int_at}
 use Rattle.gfx_model.specs.Vertex.{Color}
 use Rattle.gfx_model.specs.Raster.{covers, fragment_at, sample}
@@ -25,9 +25,9 @@ channel_at r x y = ramp_at r x y / 2 ^ 56
 abbrev pub depth_at : Ramp → ℕ → ℕ → ℕ
 depth_at r x y = ramp_at r x y / 2 ^ 40
 
--- a texture position modulo whole units
+-- a texture position modulo one unit
 abbrev pub place_at : WideRamp → ℕ → ℕ → ℕ
-place_at r x y = wide_whole r x y
+place_at r x y = wide_whole r x y % 65536
 
 abbrev pub shade_at : Shade → ℕ → ℕ → Color
 shade_at s x y = channel_at s.red x y ∷ channel_at s.green x y ∷ channel_at s.blue x y ∷ channel_at s.alpha x y ∷ []

@@ -11,6 +11,7 @@ ghost use Rattle.int_raster.specs.Painted.{channel_at, place_at, shade_at, depth
 
 use crate::lists::{Paint, Prepared};
 use crate::painting::product;
+use crate::sampling::texel_at;
 use fix_math::Texels;
 use gfx_words::StateWord;
 use tri_cover::{Ramp, Setup, Steps, WideRamp};
@@ -24,7 +25,7 @@ pub(crate) struct Shade {
     pub alpha: Ramp,
 }
 
-/// The two texture positions of the vertices, modulo whole units.
+/// The two texture positions of the vertices, modulo one unit.
 #[derive(Clone, Copy)]
 pub(crate) struct Place {
     pub u: WideRamp,
@@ -64,10 +65,11 @@ fn channel(ramp: &Ramp, x: u16, y: u16) -> u8
     (value_at(ramp, x, y) >> 56) as u8
 }
 
-fn unit_part(ramp: &WideRamp, x: u16, y: u16) -> i32
-    ensures { result ≡ pos (place_at ramp.now x y) }
+fn unit_part(ramp: &WideRamp, x: u16, y: u16) -> u32
+    ensures part { result ≡ place_at ramp.now x y }
+    ensures unit { result < 65536 }
 {
-    (wide_value_at(ramp, x, y) >> 104) as i32
+    (wide_value_at(ramp, x, y) >> 104) as u32 % 65536
 }
 
 impl Shade {
@@ -90,12 +92,13 @@ pub(crate) fn color_at(painter: &Painter, x: u16, y: u16) -> [u8; 4]
     match painter {
         Painter::Solid(color) => *color,
         Painter::Vertex(shade) => shade.at(x, y),
-        Painter::Texture(texels, at) => texels.sample(
+        Painter::Texture(texels, at) => texel_at(
+            texels,
             unit_part(&at.u, x, y),
             unit_part(&at.v, x, y),
         ),
         Painter::TexColor(texels, at, shade) => {
-            let sample = texels.sample(unit_part(&at.u, x, y), unit_part(&at.v, x, y));
+            let sample = texel_at(texels, unit_part(&at.u, x, y), unit_part(&at.v, x, y));
             product(sample, shade.at(x, y))
         }
     }
