@@ -1,10 +1,10 @@
 -- A texture repeats, so whole units of a position do not matter.
-use Rattle.std.proofs.Common.{◌≡◌, ℕ, ◌-◌, ◌/◌, ◌%◌, ◌<◌, ap, sym, ◌∙◌, refl, arith}
+use Rattle.std.proofs.Common.{◌≡◌, ℕ, ◌-◌, ◌*◌, ◌/◌, ◌%◌, ◌<◌, ap, sym, ◌∙◌, refl, arith}
 use Rattle.std.specs.Prelude.{ℤ, pos, negsuc, ◌+ℤ◌, ◌*ℤ◌}
 use Rattle.std.specs.Int.{int_div_euclid, int_rem_euclid}
 use Rattle.std.proofs.lemmas.Int.{ints}
-use Rattle.std.proofs.lemmas.Nat.{div-add-mod'}
-use Rattle.std.proofs.Math.Nat.{mod-lt}
+use Rattle.std.proofs.lemmas.Nat.{div-add-mod', div_below}
+use Rattle.std.proofs.Math.Nat.{mod-lt, mod-eq_of_lt, mul-le-mul_right}
 use borrow.Author.Differences.{product_is}
 use Rattle.gfx_model.specs.Number.{at_least_zero}
 use Rattle.gfx_model.specs.Raster.{Texels, wrapped, sample, texel_at}
@@ -50,3 +50,18 @@ wrapped_same u a n h p =
 
 pub sample_same : (t : Texels) (u v : ℤ) (a b : ℕ) → 0 < t.width → 0 < t.height → IsSamePlace a u → IsSamePlace b v → sample t (pos a) (pos b) ≡ sample t u v
 sample_same t u v a b w h p q = sym (λ i. texel_at t (wrapped_same u a t.width w p i) (wrapped_same v b t.height h q i))
+
+-- ---- positions within one unit
+
+pub place_within : (u n : ℕ) → u < 65536 → 0 < n → u * n / 65536 < n
+place_within u n h p = div_below (u * n) 65536 n (omega arith) (omega (arith, mul-le-mul_right n h))
+
+pub wrapped_within : (u n : ℕ) → u < 65536 → 0 < n → wrapped (pos u) n ≡ u * n / 65536
+wrapped_within u n h p = mod-eq_of_lt (place_within u n h p)
+
+pub sample_within : (t : Texels) (u v : ℕ) → u < 65536 → v < 65536 → 0 < t.width → 0 < t.height → sample t (pos u) (pos v) ≡ texel_at t (u * t.width / 65536) (v * t.height / 65536)
+sample_within t u v hu hv w h = λ i. texel_at t (wrapped_within u t.width hu w i) (wrapped_within v t.height hv h i)
+
+-- the part of a position within one unit
+pub unit_part_same : (a : ℕ) (v : ℤ) → IsSamePlace a v → IsSamePlace (a % 65536) v
+unit_part_same a v f = (f.0 +ℤ pos (a / 65536), omega (arith, ints, product_is, f.1))

@@ -1,5 +1,5 @@
 -- The colours and depths that ramps give to a triangle's pixels.
-use Rattle.std.specs.Prelude.{◌≡◌, ℕ, ◌/◌, ◌^◌, ◌<◌, ◌≤◌, ℤ, pos, true, false, List, [], ◌∷◌, slice_index}
+use Rattle.std.specs.Prelude.{◌≡◌, ℕ, ◌/◌, ◌%◌, ◌^◌, ◌<◌, ◌≤◌, ℤ, pos, true, false, List, [], ◌∷◌, slice_index}
 use Rattle.gfx_model.specs.Number.{zip_with, byte_product, int_at}
 use Rattle.gfx_model.specs.Vertex.{Color}
 use Rattle.gfx_model.specs.Raster.{covers, fragment_at, sample}
@@ -7,7 +7,9 @@ use Rattle.gfx_model.specs.World as world
 use Rattle.gfx_model.specs.Words.{write_mask, is_blended}
 use Rattle.fix_math.specs.Seen.{texels_seen}
 use Rattle.tri_cover.specs.declared.ramps.Ramp.{Ramp}
+use Rattle.tri_cover.specs.declared.ramps.WideRamp.{WideRamp}
 use Rattle.tri_cover.specs.Slope.{ramp_at, IsSamePlace}
+use Rattle.tri_cover.specs.Widened.{wide_whole}
 use Rattle.tri_cover.specs.Shown.{setup_seen}
 use Rattle.tri_cover.specs.declared.triangles.Setup.{Setup}
 use Rattle.int_raster.specs.Seen.{paint_seen}
@@ -24,8 +26,8 @@ abbrev pub depth_at : Ramp → ℕ → ℕ → ℕ
 depth_at r x y = ramp_at r x y / 2 ^ 40
 
 -- a texture position modulo one unit
-abbrev pub place_at : Ramp → ℕ → ℕ → ℕ
-place_at r x y = ramp_at r x y / 2 ^ 48
+abbrev pub place_at : WideRamp → ℕ → ℕ → ℕ
+place_at r x y = wide_whole r x y % 65536
 
 abbrev pub shade_at : Shade → ℕ → ℕ → Color
 shade_at s x y = channel_at s.red x y ∷ channel_at s.green x y ∷ channel_at s.blue x y ∷ channel_at s.alpha x y ∷ []
@@ -54,6 +56,13 @@ HasDepths r s width height = (x y : ℕ) → x < width → y < height → covers
 
 abbrev pub HasSpanDepths : Ramp → Setup → (y first after : ℕ) → Type 0
 HasSpanDepths r s y first after = (x : ℕ) → first ≤ x → x < after → depth_at r x y ≡ (fragment_at (setup_seen s).triangle x y).depth
+
+-- the same of a ramp in 128 bits
+abbrev pub HasWideDepths : WideRamp → Setup → (width height : ℕ) → Type 0
+HasWideDepths r s width height = (x y : ℕ) → x < width → y < height → covers (setup_seen s).triangle x y ≡ true → wide_whole r x y ≡ (fragment_at (setup_seen s).triangle x y).depth
+
+abbrev pub HasWideSpanDepths : WideRamp → Setup → (y first after : ℕ) → Type 0
+HasWideSpanDepths r s y first after = (x : ℕ) → first ≤ x → x < after → wide_whole r x y ≡ (fragment_at (setup_seen s).triangle x y).depth
 
 -- all channels are stored, and as they are painted
 pub record IsOpaque (state : ℕ) : Type 0 where

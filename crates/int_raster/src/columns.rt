@@ -3,11 +3,13 @@ ghost use Rattle.std.specs.Prelude.{◌≡◌, ◌≤◌, ◌<◌, ◌+◌, ℕ,
 ghost use Rattle.gfx_model.specs.Raster.{contains, covers};
 ghost use Rattle.fix_math.specs.Seen.{rect_seen};
 ghost use Rattle.tri_cover.specs.Shown.{setup_seen};
+ghost use Rattle.tri_cover.specs.Walked.{AreSides};
 
 use fix_math::Rect;
-use tri_cover::Setup;
+use tri_cover::{Setup, Sides};
 
 /// The end of a side that begins at a place, within a limit.
+#[inline(always)]
 fn end_within(start: u16, side: u16, limit: u16) -> u16
     ensures { result ≡ min (start + side) limit }
 {
@@ -31,15 +33,23 @@ pub(crate) fn drawn_rows(setup: &Setup, cut: &Rect, height: u16) -> (u16, u16)
     }
 }
 
-/// The columns of a row of the cut that a triangle changes.
-pub(crate) fn drawn_columns(setup: &Setup, cut: &Rect, y: u16, width: u16) -> (u16, u16)
+/// The columns of a row of the cut that a triangle changes, by its sides in the row.
+#[inline(always)]
+pub(crate) fn drawn_columns(
+    setup: &Setup,
+    sides: &Sides,
+    cut: &Rect,
+    y: u16,
+    width: u16,
+) -> (u16, u16)
+    requires sides { AreSides sides.now setup.now y }
     requires upper { cut.now.y ≤ y }
     requires lower { y < cut.now.y + cut.now.h }
     ensures columns { (x : ℕ) → x < width → (contains (rect_seen cut.now) x y && covers (setup_seen setup.now).triangle x y) ≡ (nat_le result.0 x && nat_lt x result.1) }
     ensures order { result.0 ≤ result.1 }
     ensures within { result.1 ≤ width }
 {
-    let (first, after) = setup.span(y, width);
+    let (first, after) = setup.columns_of(sides, y, width);
     let first = first.max(cut.x);
     let after = after.min(end_within(cut.x, cut.w, width));
     if first < after {

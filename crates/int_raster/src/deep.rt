@@ -2,18 +2,16 @@
 ghost use Rattle.std.specs.Prelude.{◌≡◌, ◌≤◌, ◌<◌, ◌+◌, ◌*◌, ℕ, true, length, IfSome, IsTrue};
 ghost use Rattle.gfx_model.specs.Number.{map_from};
 ghost use Rattle.gfx_model.specs.Raster.{covers};
-ghost use Rattle.tri_cover.specs.Deepened.{AreDepths};
 ghost use Rattle.tri_cover.specs.Shown.{setup_seen};
 ghost use Rattle.int_raster.specs.Drawing.{prepared_step};
 ghost use Rattle.int_raster.specs.Places.{deep_pixels, spanned, by_place};
-ghost use Rattle.int_raster.specs.Painted.{PaintsSpan, HasSpanDepths, Paints, HasDepths};
+ghost use Rattle.int_raster.specs.Painted.{PaintsSpan, HasSpanDepths, HasWideSpanDepths, Paints, HasDepths, HasWideDepths};
 ghost use Rattle.int_raster.specs.Rules.{IsPlain};
 ghost use Rattle.int_raster.specs.Seen.{prepared_seen, step_seen, change_seen};
 
 use crate::columns::{drawn_columns, drawn_rows};
 use crate::deep_spans::{
-    fill, fill_stepped, step_exactly, step_painted, store, store_shade, store_shade_stepped,
-    store_stepped,
+    fill, fill_wide, step_exactly, step_painted, store, store_shade, store_shade_wide, store_wide,
 };
 use crate::lists::Prepared;
 use crate::opaque::{Rule, rule_of};
@@ -23,7 +21,7 @@ use crate::overs::Over;
 use crate::painters::{Painter, depth_for, is_opaque, painter_for, painter_of};
 use crate::painting::stencil_of;
 use crate::spans::Span;
-use tri_cover::{DepthSteps, Ramp, Setup};
+use tri_cover::{Ramp, Setup, WideRamp};
 
 /// What draws a triangle's pixels.
 #[derive(Clone, Copy)]
@@ -32,11 +30,11 @@ pub(crate) struct Brush<'x> {
     pub depth: Ramp,
 }
 
-/// What draws the pixels of a triangle whose depths have no ramp.
+/// What draws the pixels of a triangle for whose depths 64 bits are too few.
 #[derive(Clone, Copy)]
-pub(crate) struct Stepper<'x> {
+pub(crate) struct WideBrush<'x> {
     pub painter: Painter<'x>,
-    pub steps: DepthSteps,
+    pub depth: WideRamp,
 }
 
 /// What draws a triangle's pixels; none where 64 bits are too few.
@@ -51,22 +49,22 @@ fn brush_of<'x>(setup: &Setup, draw: &Prepared<'x>, width: u16, height: u16) -> 
 }
 
 /// What draws a triangle's pixels where there is no brush; none where the colours have no ramps either.
-fn stepper_of<'x>(
+fn wide_brush_of<'x>(
     setup: &Setup,
     draw: &Prepared<'x>,
     width: u16,
     height: u16,
     brush: &Option<Brush>,
-) -> Option<Stepper<'x>>
-    ensures paints { IfSome result (λ s. Paints s.painter draw.now setup.now width height) }
-    ensures steps { IfSome result (λ s. AreDepths s.steps (setup_seen setup.now).triangle) }
+) -> Option<WideBrush<'x>>
+    ensures paints { IfSome result (λ b. Paints b.painter draw.now setup.now width height) }
+    ensures depths { IfSome result (λ b. HasWideDepths b.depth setup.now width height) }
 {
     if brush.is_some() {
         return None;
     }
     let painter = painter_of(setup, draw, width, height)?;
-    let steps = setup.depth_steps();
-    Some(Stepper { painter, steps })
+    let depth = setup.wide_depth();
+    Some(WideBrush { painter, depth })
 }
 
 /// Draws a span with a brush.
@@ -119,54 +117,51 @@ fn paint(
                 draw,
             ),
         },
-        None => step_painted(
-            colors,
-            depths,
-            span,
-            &brush.painter,
-            &brush.depth,
-            setup,
-            draw,
-        ),
+        None => {
+            let depth = brush.depth.wide_depth();
+            step_painted(colors, depths, span, &brush.painter, &depth, setup, draw)
+        }
     }
 }
 
-/// Draws a span by the stepped depths.
-fn store_by_steps(
+/// Draws a span with a wide brush.
+fn paint_wide(
     colors: &mut [[u8; 4]],
     depths: &mut [[u8; 4]],
     span: &Span,
-    stepper: &Stepper,
-    rule: &Rule,
+    brush: &WideBrush,
+    rule: &Option<Rule>,
     setup: &Setup,
     draw: &Prepared,
 )
     requires inside { span.now.y * span.now.width + span.now.width ≤ length colors.old }
     requires same { length depths.old ≡ length colors.old }
-    requires plain { IsPlain rule.now draw.now setup.now }
-    requires covered { (x : ℕ) → span.now.first ≤ x → x < span.now.after → covers (setup_seen setup.now).triangle x span.now.y ≡ true }
-    requires paints { PaintsSpan stepper.now.painter draw.now setup.now span.now.y span.now.first span.now.after }
-    requires steps { AreDepths stepper.now.steps (setup_seen setup.now).triangle }
+    requires paints { PaintsSpan brush.now.painter draw.now setup.now span.now.y span.now.first span.now.after }
+    requires depths { HasWideSpanDepths brush.now.depth setup.now span.now.y span.now.first span.now.after }
+    requires rule { IfSome rule.now (λ r. IsPlain r draw.now setup.now) }
     ensures { deep_pixels colors.new depths.new ≡ map_from (spanned (by_place span.now.width (step_seen draw.now setup.now)) (span.now.y * span.now.width + span.now.first) (span.now.y * span.now.width + span.now.after)) 0 (deep_pixels colors.old depths.old) }
 {
-    let steps = &stepper.steps;
-    match &stepper.painter {
-        Painter::Solid(color) => fill_stepped(
-            colors, depths, span, *color, steps, rule, setup, draw,
-        ),
-        Painter::Vertex(shade) => store_shade_stepped(
-            colors, depths, span, shade, steps, rule, setup, draw,
-        ),
-        painter => store_stepped(colors, depths, span, painter, steps, rule, setup, draw),
+    let depth = &brush.depth;
+    match rule {
+        Some(rule) => match &brush.painter {
+            Painter::Solid(color) => fill_wide(
+                colors, depths, span, *color, depth, rule, setup, draw,
+            ),
+            Painter::Vertex(shade) => store_shade_wide(
+                colors, depths, span, shade, depth, rule, setup, draw,
+            ),
+            painter => store_wide(colors, depths, span, painter, depth, rule, setup, draw),
+        },
+        None => step_painted(colors, depths, span, &brush.painter, depth, setup, draw),
     }
 }
 
-/// Draws a span that a triangle covers, without a brush.
-fn draw_stepped(
+/// Draws a span that a triangle covers, without a brush of 64 bits.
+fn draw_wide(
     colors: &mut [[u8; 4]],
     depths: &mut [[u8; 4]],
     span: &Span,
-    stepper: &Option<Stepper>,
+    brush: &Option<WideBrush>,
     rule: &Option<Rule>,
     setup: &Setup,
     draw: &Prepared,
@@ -174,16 +169,13 @@ fn draw_stepped(
     requires inside { span.now.y * span.now.width + span.now.width ≤ length colors.old }
     requires same { length depths.old ≡ length colors.old }
     requires covered { (x : ℕ) → span.now.first ≤ x → x < span.now.after → covers (setup_seen setup.now).triangle x span.now.y ≡ true }
-    requires paints { IfSome stepper.now (λ s. PaintsSpan s.painter draw.now setup.now span.now.y span.now.first span.now.after) }
-    requires steps { IfSome stepper.now (λ s. AreDepths s.steps (setup_seen setup.now).triangle) }
+    requires paints { IfSome brush.now (λ b. PaintsSpan b.painter draw.now setup.now span.now.y span.now.first span.now.after) }
+    requires depths { IfSome brush.now (λ b. HasWideSpanDepths b.depth setup.now span.now.y span.now.first span.now.after) }
     requires rule { IfSome rule.now (λ r. IsPlain r draw.now setup.now) }
     ensures { deep_pixels colors.new depths.new ≡ map_from (spanned (by_place span.now.width (step_seen draw.now setup.now)) (span.now.y * span.now.width + span.now.first) (span.now.y * span.now.width + span.now.after)) 0 (deep_pixels colors.old depths.old) }
 {
-    match stepper {
-        Some(stepper) => match rule {
-            Some(rule) => store_by_steps(colors, depths, span, stepper, rule, setup, draw),
-            None => step_exactly(colors, depths, span, setup, draw),
-        },
+    match brush {
+        Some(brush) => paint_wide(colors, depths, span, brush, rule, setup, draw),
         None => step_exactly(colors, depths, span, setup, draw),
     }
 }
@@ -194,7 +186,7 @@ fn draw_span(
     depths: &mut [[u8; 4]],
     span: &Span,
     brush: &Option<Brush>,
-    stepper: &Option<Stepper>,
+    wide: &Option<WideBrush>,
     rule: &Option<Rule>,
     setup: &Setup,
     draw: &Prepared,
@@ -204,14 +196,14 @@ fn draw_span(
     requires covered { (x : ℕ) → span.now.first ≤ x → x < span.now.after → covers (setup_seen setup.now).triangle x span.now.y ≡ true }
     requires paints { IfSome brush.now (λ b. PaintsSpan b.painter draw.now setup.now span.now.y span.now.first span.now.after) }
     requires depths { IfSome brush.now (λ b. HasSpanDepths b.depth setup.now span.now.y span.now.first span.now.after) }
-    requires stepped { IfSome stepper.now (λ s. PaintsSpan s.painter draw.now setup.now span.now.y span.now.first span.now.after) }
-    requires steps { IfSome stepper.now (λ s. AreDepths s.steps (setup_seen setup.now).triangle) }
+    requires wide_paints { IfSome wide.now (λ b. PaintsSpan b.painter draw.now setup.now span.now.y span.now.first span.now.after) }
+    requires wide_depths { IfSome wide.now (λ b. HasWideSpanDepths b.depth setup.now span.now.y span.now.first span.now.after) }
     requires rule { IfSome rule.now (λ r. IsPlain r draw.now setup.now) }
     ensures { deep_pixels colors.new depths.new ≡ map_from (spanned (by_place span.now.width (step_seen draw.now setup.now)) (span.now.y * span.now.width + span.now.first) (span.now.y * span.now.width + span.now.after)) 0 (deep_pixels colors.old depths.old) }
 {
     match brush {
         Some(brush) => paint(colors, depths, span, brush, rule, setup, draw),
-        None => draw_stepped(colors, depths, span, stepper, rule, setup, draw),
+        None => draw_wide(colors, depths, span, wide, rule, setup, draw),
     }
 }
 
@@ -243,17 +235,19 @@ fn triangle_tested(
     ensures { deep_pixels colors.new depths.new ≡ map_from (by_place width (change_seen draw.now setup.now)) 0 (deep_pixels colors.old depths.old) }
 {
     let brush = brush_of(setup, draw, width, height);
-    let stepper = stepper_of(setup, draw, width, height, &brush);
+    let wide = wide_brush_of(setup, draw, width, height, &brush);
     let (top, bottom) = drawn_rows(setup, &draw.cut, height);
+    let mut sides = setup.sides(top);
     for y in top..bottom {
-        let (first, after) = drawn_columns(setup, &draw.cut, y, width);
+        let (first, after) = drawn_columns(setup, &sides, &draw.cut, y, width);
         let span = Span {
             width,
             y,
             first,
             after,
         };
-        draw_span(colors, depths, &span, &brush, &stepper, rule, setup, draw);
+        draw_span(colors, depths, &span, &brush, &wide, rule, setup, draw);
+        sides = setup.next_sides(sides, y);
     }
 }
 

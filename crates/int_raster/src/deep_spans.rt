@@ -3,20 +3,23 @@ ghost use Rattle.std.specs.Prelude.{◌≡◌, ◌≤◌, ◌<◌, ◌+◌, ◌*
 ghost use Rattle.gfx_model.specs.Number.{map_from, u32_at};
 ghost use Rattle.gfx_model.specs.Raster.{covers, fragment_at};
 ghost use Rattle.gfx_model.specs.World.{painted};
-ghost use Rattle.tri_cover.specs.Deepened.{AreDepths};
 ghost use Rattle.tri_cover.specs.Shown.{setup_seen};
 ghost use Rattle.int_raster.specs.Places.{deep_pixels, spanned, by_place};
-ghost use Rattle.int_raster.specs.Painted.{shade_at, PaintsSpan, HasSpanDepths};
+ghost use Rattle.int_raster.specs.Painted.{shade_at, PaintsSpan, HasSpanDepths, HasWideSpanDepths};
 ghost use Rattle.int_raster.specs.Rules.{IsPlain};
 ghost use Rattle.int_raster.specs.Seen.{paint_seen, step_seen};
 
 use crate::lists::Prepared;
 use crate::opaque::{Rule, stored_after};
-use crate::painters::{Painter, Shade, color_at, value_at};
+use crate::painters::{Painter, Shade, color_at, value_at, wide_value_at};
 use crate::painting::{stepped, stepped_by};
 use crate::spans::Span;
 use pixel_ops::Pixel;
-use tri_cover::{DepthSteps, Ramp, Setup};
+use tri_cover::{Ramp, Setup, WideRamp};
+
+/// From so many columns on it pays to copy what does not change along a span. What is borrowed may change with each pixel
+/// that is stored, as far as a compiler can tell, so it is read again for each.
+const LONG: u16 = 16;
 
 /// The depth word of a depth texel.
 fn depth_word(texel: [u8; 4]) -> u32
@@ -76,14 +79,14 @@ pub(crate) fn step_painted(
     depths: &mut [[u8; 4]],
     span: &Span,
     painter: &Painter,
-    depth: &Ramp,
+    depth: &WideRamp,
     setup: &Setup,
     draw: &Prepared,
 )
     requires inside { span.now.y * span.now.width + span.now.width ≤ length colors.old }
     requires same { length depths.old ≡ length colors.old }
     requires paints { PaintsSpan painter.now draw.now setup.now span.now.y span.now.first span.now.after }
-    requires depths { HasSpanDepths depth.now setup.now span.now.y span.now.first span.now.after }
+    requires depths { HasWideSpanDepths depth.now setup.now span.now.y span.now.first span.now.after }
     ensures { deep_pixels colors.new depths.new ≡ map_from (spanned (by_place span.now.width (step_seen draw.now setup.now)) (span.now.y * span.now.width + span.now.first) (span.now.y * span.now.width + span.now.after)) 0 (deep_pixels colors.old depths.old) }
 {
     let start = span.y as usize * span.width as usize;
@@ -95,7 +98,7 @@ pub(crate) fn step_painted(
             depth: Some(word),
         };
         let shade = color_at(painter, x, span.y);
-        let new = (value_at(depth, x, span.y) >> 40) as u32;
+        let new = (wide_value_at(depth, x, span.y) >> 104) as u32;
         let after = stepped_by(before, shade, new, setup, draw);
         let painted = after.color;
         colors[start + x as usize] = painted;
@@ -104,7 +107,8 @@ pub(crate) fn step_painted(
 }
 
 /// Stores one colour in a span where its depth passes.
-pub(crate) fn fill(
+#[inline(always)]
+fn fill_by(
     colors: &mut [[u8; 4]],
     depths: &mut [[u8; 4]],
     span: &Span,
@@ -131,6 +135,32 @@ pub(crate) fn fill(
         colors[start + x as usize] = painted;
         depths[start + x as usize] = word_texel(after.word);
         new = new.wrapping_add(depth.right);
+    }
+}
+
+/// Stores one colour in a span where its depth passes.
+pub(crate) fn fill(
+    colors: &mut [[u8; 4]],
+    depths: &mut [[u8; 4]],
+    span: &Span,
+    color: [u8; 4],
+    depth: &Ramp,
+    rule: &Rule,
+    setup: &Setup,
+    draw: &Prepared,
+)
+    requires inside { span.now.y * span.now.width + span.now.width ≤ length colors.old }
+    requires same { length depths.old ≡ length colors.old }
+    requires plain { IsPlain rule.now draw.now setup.now }
+    requires paints { (x : ℕ) → span.now.first ≤ x → x < span.now.after → color ≡ painted (paint_seen draw.now.paint) (fragment_at (setup_seen setup.now).triangle x span.now.y) }
+    requires depths { HasSpanDepths depth.now setup.now span.now.y span.now.first span.now.after }
+    ensures { deep_pixels colors.new depths.new ≡ map_from (spanned (by_place span.now.width (step_seen draw.now setup.now)) (span.now.y * span.now.width + span.now.first) (span.now.y * span.now.width + span.now.after)) 0 (deep_pixels colors.old depths.old) }
+{
+    if span.after - span.first < LONG {
+        fill_by(colors, depths, span, color, depth, rule, setup, draw);
+    } else {
+        let (depth, rule) = (*depth, *rule);
+        fill_by(colors, depths, span, color, &depth, &rule, setup, draw);
     }
 }
 
@@ -166,7 +196,8 @@ pub(crate) fn store(
 }
 
 /// Stores the vertices' colours in a span where their depths pass.
-pub(crate) fn store_shade(
+#[inline(always)]
+fn store_shade_by(
     colors: &mut [[u8; 4]],
     depths: &mut [[u8; 4]],
     span: &Span,
@@ -210,80 +241,13 @@ pub(crate) fn store_shade(
     }
 }
 
-/// Stores a painter's colours in a span where the depths pass that are stepped by quotient and rest.
-pub(crate) fn store_stepped(
-    colors: &mut [[u8; 4]],
-    depths: &mut [[u8; 4]],
-    span: &Span,
-    painter: &Painter,
-    steps: &DepthSteps,
-    rule: &Rule,
-    setup: &Setup,
-    draw: &Prepared,
-)
-    requires inside { span.now.y * span.now.width + span.now.width ≤ length colors.old }
-    requires same { length depths.old ≡ length colors.old }
-    requires plain { IsPlain rule.now draw.now setup.now }
-    requires covered { (x : ℕ) → span.now.first ≤ x → x < span.now.after → covers (setup_seen setup.now).triangle x span.now.y ≡ true }
-    requires paints { PaintsSpan painter.now draw.now setup.now span.now.y span.now.first span.now.after }
-    requires steps { AreDepths steps.now (setup_seen setup.now).triangle }
-    ensures { deep_pixels colors.new depths.new ≡ map_from (spanned (by_place span.now.width (step_seen draw.now setup.now)) (span.now.y * span.now.width + span.now.first) (span.now.y * span.now.width + span.now.after)) 0 (deep_pixels colors.old depths.old) }
-{
-    let start = span.y as usize * span.width as usize;
-    let mut at = setup.depth_at(steps, span.first, span.y);
-    for x in span.first..span.after {
-        let old = colors[start + x as usize];
-        let word = depth_word(depths[start + x as usize]);
-        let color = color_at(painter, x, span.y);
-        let new = at.depth();
-        let after = stored_after(old, word, color, new, rule);
-        let painted = after.color;
-        colors[start + x as usize] = painted;
-        depths[start + x as usize] = word_texel(after.word);
-        at = steps.next(at);
-    }
-}
-
-/// Stores one colour in a span where the depths pass that are stepped by quotient and rest.
-pub(crate) fn fill_stepped(
-    colors: &mut [[u8; 4]],
-    depths: &mut [[u8; 4]],
-    span: &Span,
-    color: [u8; 4],
-    steps: &DepthSteps,
-    rule: &Rule,
-    setup: &Setup,
-    draw: &Prepared,
-)
-    requires inside { span.now.y * span.now.width + span.now.width ≤ length colors.old }
-    requires same { length depths.old ≡ length colors.old }
-    requires plain { IsPlain rule.now draw.now setup.now }
-    requires covered { (x : ℕ) → span.now.first ≤ x → x < span.now.after → covers (setup_seen setup.now).triangle x span.now.y ≡ true }
-    requires paints { (x : ℕ) → span.now.first ≤ x → x < span.now.after → color ≡ painted (paint_seen draw.now.paint) (fragment_at (setup_seen setup.now).triangle x span.now.y) }
-    requires steps { AreDepths steps.now (setup_seen setup.now).triangle }
-    ensures { deep_pixels colors.new depths.new ≡ map_from (spanned (by_place span.now.width (step_seen draw.now setup.now)) (span.now.y * span.now.width + span.now.first) (span.now.y * span.now.width + span.now.after)) 0 (deep_pixels colors.old depths.old) }
-{
-    let start = span.y as usize * span.width as usize;
-    let mut at = setup.depth_at(steps, span.first, span.y);
-    for x in span.first..span.after {
-        let old = colors[start + x as usize];
-        let word = depth_word(depths[start + x as usize]);
-        let new = at.depth();
-        let after = stored_after(old, word, color, new, rule);
-        let painted = after.color;
-        colors[start + x as usize] = painted;
-        depths[start + x as usize] = word_texel(after.word);
-        at = steps.next(at);
-    }
-}
-
-/// Stores the vertices' colours in a span where the depths pass that are stepped by quotient and rest.
-pub(crate) fn store_shade_stepped(
+/// Stores the vertices' colours in a span where their depths pass.
+pub(crate) fn store_shade(
     colors: &mut [[u8; 4]],
     depths: &mut [[u8; 4]],
     span: &Span,
     shade: &Shade,
-    steps: &DepthSteps,
+    depth: &Ramp,
     rule: &Rule,
     setup: &Setup,
     draw: &Prepared,
@@ -291,9 +255,97 @@ pub(crate) fn store_shade_stepped(
     requires inside { span.now.y * span.now.width + span.now.width ≤ length colors.old }
     requires same { length depths.old ≡ length colors.old }
     requires plain { IsPlain rule.now draw.now setup.now }
-    requires covered { (x : ℕ) → span.now.first ≤ x → x < span.now.after → covers (setup_seen setup.now).triangle x span.now.y ≡ true }
     requires paints { (x : ℕ) → span.now.first ≤ x → x < span.now.after → shade_at shade.now x span.now.y ≡ painted (paint_seen draw.now.paint) (fragment_at (setup_seen setup.now).triangle x span.now.y) }
-    requires steps { AreDepths steps.now (setup_seen setup.now).triangle }
+    requires depths { HasSpanDepths depth.now setup.now span.now.y span.now.first span.now.after }
+    ensures { deep_pixels colors.new depths.new ≡ map_from (spanned (by_place span.now.width (step_seen draw.now setup.now)) (span.now.y * span.now.width + span.now.first) (span.now.y * span.now.width + span.now.after)) 0 (deep_pixels colors.old depths.old) }
+{
+    if span.after - span.first < LONG {
+        store_shade_by(colors, depths, span, shade, depth, rule, setup, draw);
+    } else {
+        let (shade, depth, rule) = (*shade, *depth, *rule);
+        store_shade_by(colors, depths, span, &shade, &depth, &rule, setup, draw);
+    }
+}
+
+/// Stores a painter's colours in a span where the depths pass of 128 bits.
+pub(crate) fn store_wide(
+    colors: &mut [[u8; 4]],
+    depths: &mut [[u8; 4]],
+    span: &Span,
+    painter: &Painter,
+    depth: &WideRamp,
+    rule: &Rule,
+    setup: &Setup,
+    draw: &Prepared,
+)
+    requires inside { span.now.y * span.now.width + span.now.width ≤ length colors.old }
+    requires same { length depths.old ≡ length colors.old }
+    requires plain { IsPlain rule.now draw.now setup.now }
+    requires paints { PaintsSpan painter.now draw.now setup.now span.now.y span.now.first span.now.after }
+    requires depths { HasWideSpanDepths depth.now setup.now span.now.y span.now.first span.now.after }
+    ensures { deep_pixels colors.new depths.new ≡ map_from (spanned (by_place span.now.width (step_seen draw.now setup.now)) (span.now.y * span.now.width + span.now.first) (span.now.y * span.now.width + span.now.after)) 0 (deep_pixels colors.old depths.old) }
+{
+    let start = span.y as usize * span.width as usize;
+    let mut new = wide_value_at(depth, span.first, span.y);
+    for x in span.first..span.after {
+        let old = colors[start + x as usize];
+        let word = depth_word(depths[start + x as usize]);
+        let color = color_at(painter, x, span.y);
+        let after = stored_after(old, word, color, (new >> 104) as u32, rule);
+        let painted = after.color;
+        colors[start + x as usize] = painted;
+        depths[start + x as usize] = word_texel(after.word);
+        new = new.wrapping_add(depth.right);
+    }
+}
+
+/// Stores one colour in a span where the depths pass of 128 bits.
+pub(crate) fn fill_wide(
+    colors: &mut [[u8; 4]],
+    depths: &mut [[u8; 4]],
+    span: &Span,
+    color: [u8; 4],
+    depth: &WideRamp,
+    rule: &Rule,
+    setup: &Setup,
+    draw: &Prepared,
+)
+    requires inside { span.now.y * span.now.width + span.now.width ≤ length colors.old }
+    requires same { length depths.old ≡ length colors.old }
+    requires plain { IsPlain rule.now draw.now setup.now }
+    requires paints { (x : ℕ) → span.now.first ≤ x → x < span.now.after → color ≡ painted (paint_seen draw.now.paint) (fragment_at (setup_seen setup.now).triangle x span.now.y) }
+    requires depths { HasWideSpanDepths depth.now setup.now span.now.y span.now.first span.now.after }
+    ensures { deep_pixels colors.new depths.new ≡ map_from (spanned (by_place span.now.width (step_seen draw.now setup.now)) (span.now.y * span.now.width + span.now.first) (span.now.y * span.now.width + span.now.after)) 0 (deep_pixels colors.old depths.old) }
+{
+    let start = span.y as usize * span.width as usize;
+    let mut new = wide_value_at(depth, span.first, span.y);
+    for x in span.first..span.after {
+        let old = colors[start + x as usize];
+        let word = depth_word(depths[start + x as usize]);
+        let after = stored_after(old, word, color, (new >> 104) as u32, rule);
+        let painted = after.color;
+        colors[start + x as usize] = painted;
+        depths[start + x as usize] = word_texel(after.word);
+        new = new.wrapping_add(depth.right);
+    }
+}
+
+/// Stores the vertices' colours in a span where the depths pass of 128 bits.
+pub(crate) fn store_shade_wide(
+    colors: &mut [[u8; 4]],
+    depths: &mut [[u8; 4]],
+    span: &Span,
+    shade: &Shade,
+    depth: &WideRamp,
+    rule: &Rule,
+    setup: &Setup,
+    draw: &Prepared,
+)
+    requires inside { span.now.y * span.now.width + span.now.width ≤ length colors.old }
+    requires same { length depths.old ≡ length colors.old }
+    requires plain { IsPlain rule.now draw.now setup.now }
+    requires paints { (x : ℕ) → span.now.first ≤ x → x < span.now.after → shade_at shade.now x span.now.y ≡ painted (paint_seen draw.now.paint) (fragment_at (setup_seen setup.now).triangle x span.now.y) }
+    requires depths { HasWideSpanDepths depth.now setup.now span.now.y span.now.first span.now.after }
     ensures { deep_pixels colors.new depths.new ≡ map_from (spanned (by_place span.now.width (step_seen draw.now setup.now)) (span.now.y * span.now.width + span.now.first) (span.now.y * span.now.width + span.now.after)) 0 (deep_pixels colors.old depths.old) }
 {
     let start = span.y as usize * span.width as usize;
@@ -301,7 +353,7 @@ pub(crate) fn store_shade_stepped(
     let mut green = value_at(&shade.green, span.first, span.y);
     let mut blue = value_at(&shade.blue, span.first, span.y);
     let mut alpha = value_at(&shade.alpha, span.first, span.y);
-    let mut at = setup.depth_at(steps, span.first, span.y);
+    let mut new = wide_value_at(depth, span.first, span.y);
     for x in span.first..span.after {
         let old = colors[start + x as usize];
         let word = depth_word(depths[start + x as usize]);
@@ -311,8 +363,7 @@ pub(crate) fn store_shade_stepped(
             (blue >> 56) as u8,
             (alpha >> 56) as u8,
         ];
-        let new = at.depth();
-        let after = stored_after(old, word, color, new, rule);
+        let after = stored_after(old, word, color, (new >> 104) as u32, rule);
         let painted = after.color;
         colors[start + x as usize] = painted;
         depths[start + x as usize] = word_texel(after.word);
@@ -320,6 +371,6 @@ pub(crate) fn store_shade_stepped(
         green = green.wrapping_add(shade.green.right);
         blue = blue.wrapping_add(shade.blue.right);
         alpha = alpha.wrapping_add(shade.alpha.right);
-        at = steps.next(at);
+        new = new.wrapping_add(depth.right);
     }
 }

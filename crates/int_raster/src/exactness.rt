@@ -18,7 +18,7 @@ fn flat_exactly(colors: &mut [[u8; 4]], width: u16, height: u16, setup: &Setup, 
 {
     let (top, bottom) = drawn_rows(setup, &draw.cut, height);
     for y in top..bottom {
-        let (first, after) = drawn_columns(setup, &draw.cut, y, width);
+        let (first, after) = drawn_columns(setup, &setup.sides(y), &draw.cut, y, width);
         let span = Span {
             width,
             y,
@@ -43,7 +43,7 @@ fn deep_exactly(
 {
     let (top, bottom) = drawn_rows(setup, &draw.cut, height);
     for y in top..bottom {
-        let (first, after) = drawn_columns(setup, &draw.cut, y, width);
+        let (first, after) = drawn_columns(setup, &setup.sides(y), &draw.cut, y, width);
         let span = Span {
             width,
             y,
@@ -142,6 +142,14 @@ const TARGET: Rect = Rect {
     h: 20,
 };
 
+// A view that reaches far beyond the surface, so that 64 bits are too few for the ramps of large triangles.
+const FAR: Rect = Rect {
+    x: 0,
+    y: 0,
+    w: 60000,
+    h: 50000,
+};
+
 // Opaque, with depth tests, masked, blended, and with stencils.
 const WORDS: [(u64, u32, u32); 8] = [
     (15, 0, 0),
@@ -177,8 +185,9 @@ fn random_draw<'x, R: Abort>(
         vertices.push(numbers.vertex())?;
     }
     let (word, front, back) = WORDS[(numbers.next() & 7) as usize];
+    let target = if numbers.next() & 1 == 0 { TARGET } else { FAR };
     Ok(Prepared {
-        triangles: setups(alloc, &vertices, TARGET, 0)?,
+        triangles: setups(alloc, &vertices, target, 0)?,
         cut: numbers.cut(),
         state: state(rt, word),
         front: stencil(rt, front),

@@ -151,8 +151,9 @@ fn triangle_flat(colors: &mut [[u8; 4]], width: u16, height: u16, setup: &Setup,
 {
     let painter = painter_of(setup, draw, width, height);
     let (top, bottom) = drawn_rows(setup, &draw.cut, height);
+    let mut sides = setup.sides(top);
     for y in top..bottom {
-        let (first, after) = drawn_columns(setup, &draw.cut, y, width);
+        let (first, after) = drawn_columns(setup, &sides, &draw.cut, y, width);
         let span = Span {
             width,
             y,
@@ -160,6 +161,7 @@ fn triangle_flat(colors: &mut [[u8; 4]], width: u16, height: u16, setup: &Setup,
             after,
         };
         draw_span(colors, &span, &painter, setup, draw);
+        sides = setup.next_sides(sides, y);
     }
 }
 

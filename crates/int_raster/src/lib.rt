@@ -13,6 +13,7 @@ mod over_spans;
 mod overs;
 mod painters;
 mod painting;
+mod sampling;
 mod spans;
 mod surfaces;
 

@@ -1,5 +1,5 @@
 // Draws that store all channels as they are painted, with a depth test and without a stencil.
-ghost use Rattle.std.specs.Prelude.{◌≡◌, ◌≤◌, ◌<◌, ◌%◌, ◌^◌, ◌+◌, ◌*◌, ◌/◌, ◌==◌, ◌&&◌, ℕ, nat_lt, if◌then◌else◌, Some};
+ghost use Rattle.std.specs.Prelude.{◌≡◌, ◌≤◌, ◌<◌, ◌%◌, ◌^◌, ◌+◌, ◌*◌, ◌/◌, ◌==◌, ◌&&◌, ◌||◌, ℕ, nat_lt, if◌then◌else◌, Some};
 ghost use Rattle.gfx_model.specs.Pixel.{pixel_step as model_step};
 ghost use Rattle.int_raster.specs.Painted.{IsOpaque, bytes_of};
 ghost use Rattle.int_raster.specs.Rules.{IsRule};
@@ -37,16 +37,28 @@ pub(crate) fn rule_of(state: &StateWord) -> Rule
 }
 
 #[inline(always)]
+fn both(a: bool, b: bool) -> bool
+    ensures { result ≡ (a && b) }
+{
+    a & b
+}
+
+#[inline(always)]
+fn any(a: bool, b: bool, c: bool) -> bool
+    ensures { result ≡ (a || (b || c)) }
+{
+    a | b | c
+}
+
+#[inline(always)]
 fn passes(rule: &Rule, new: u32, stored: u32) -> bool
     ensures { result ≡ (if nat_lt new stored then rule.now.less else (if new == stored then rule.now.equal else rule.now.greater)) }
 {
-    if new < stored {
-        rule.less
-    } else if new == stored {
-        rule.equal
-    } else {
-        rule.greater
-    }
+    any(
+        both(rule.less, new < stored),
+        both(rule.equal, new == stored),
+        both(rule.greater, stored < new),
+    )
 }
 
 #[inline(always)]
@@ -75,13 +87,6 @@ fn kept_word(stores: bool, depth: u32, word: u32) -> u32
     } else {
         word
     }
-}
-
-#[inline(always)]
-fn both(a: bool, b: bool) -> bool
-    ensures { result ≡ (a && b) }
-{
-    a & b
 }
 
 /// What is stored after a fragment of a colour and a depth.

@@ -31,8 +31,9 @@ pub(crate) fn triangle_over(
         → deep_pixels colors.new depths ≡ map_from (by_place width (change_seen draw.now setup.now)) 0 (deep_pixels colors.old depths) }
 {
     let (top, bottom) = drawn_rows(setup, &draw.cut, height);
+    let mut sides = setup.sides(top);
     for y in top..bottom {
-        let (first, after) = drawn_columns(setup, &draw.cut, y, width);
+        let (first, after) = drawn_columns(setup, &sides, &draw.cut, y, width);
         let span = Span {
             width,
             y,
@@ -40,5 +41,6 @@ pub(crate) fn triangle_over(
             after,
         };
         cover_span(colors, &span, over, setup, draw);
+        sides = setup.next_sides(sides, y);
     }
 }

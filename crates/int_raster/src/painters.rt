@@ -1,8 +1,9 @@
 // Colours and depths of a triangle's pixels, by ramps.
 ghost use Rattle.std.specs.Prelude.{◌≡◌, ◌<◌, ◌≤◌, ◌/◌, ◌^◌, ◌%◌, ◌+◌, ◌*◌, ℕ, pos, true, length, IfSome, IsTrue};
-ghost use Rattle.gfx_model.specs.Raster.{covers, fragment_at};
+ghost use Rattle.gfx_model.specs.Raster.{covers, fragment_at, weighted};
 ghost use Rattle.gfx_model.specs.World as world;
-ghost use Rattle.tri_cover.specs.Slope.{ramp_at};
+ghost use Rattle.tri_cover.specs.Slope.{ramp_at, IsSamePlace};
+ghost use Rattle.tri_cover.specs.Widened.{wide_at};
 ghost use Rattle.tri_cover.specs.Stepped.{AreSteps, IsNearby};
 ghost use Rattle.tri_cover.specs.Shown.{setup_seen};
 ghost use Rattle.int_raster.specs.Seen.{paint_seen};
@@ -10,9 +11,10 @@ ghost use Rattle.int_raster.specs.Painted.{channel_at, place_at, shade_at, depth
 
 use crate::lists::{Paint, Prepared};
 use crate::painting::product;
+use crate::sampling::texel_at;
 use fix_math::Texels;
 use gfx_words::StateWord;
-use tri_cover::{Ramp, Setup, Steps};
+use tri_cover::{Ramp, Setup, Steps, WideRamp};
 
 /// The four channels of the vertices' colours.
 #[derive(Clone, Copy)]
@@ -26,8 +28,8 @@ pub(crate) struct Shade {
 /// The two texture positions of the vertices, modulo one unit.
 #[derive(Clone, Copy)]
 pub(crate) struct Place {
-    pub u: Ramp,
-    pub v: Ramp,
+    pub u: WideRamp,
+    pub v: WideRamp,
 }
 
 /// What paints a triangle's pixels.
@@ -48,16 +50,26 @@ pub(crate) fn value_at(ramp: &Ramp, x: u16, y: u16) -> u64
         .wrapping_add((y as u64).wrapping_mul(ramp.down))
 }
 
+/// The value of a wide ramp at a column and a row.
+pub(crate) fn wide_value_at(ramp: &WideRamp, x: u16, y: u16) -> u128
+    ensures { result ≡ wide_at ramp.now x y }
+{
+    ramp.start
+        .wrapping_add((x as u128).wrapping_mul(ramp.right))
+        .wrapping_add((y as u128).wrapping_mul(ramp.down))
+}
+
 fn channel(ramp: &Ramp, x: u16, y: u16) -> u8
     ensures { result ≡ channel_at ramp.now x y }
 {
     (value_at(ramp, x, y) >> 56) as u8
 }
 
-fn unit_part(ramp: &Ramp, x: u16, y: u16) -> i32
-    ensures { result ≡ pos (place_at ramp.now x y) }
+fn unit_part(ramp: &WideRamp, x: u16, y: u16) -> u32
+    ensures part { result ≡ place_at ramp.now x y }
+    ensures unit { result < 65536 }
 {
-    (value_at(ramp, x, y) >> 48) as i32
+    (wide_value_at(ramp, x, y) >> 104) as u32 % 65536
 }
 
 impl Shade {
@@ -80,12 +92,13 @@ pub(crate) fn color_at(painter: &Painter, x: u16, y: u16) -> [u8; 4]
     match painter {
         Painter::Solid(color) => *color,
         Painter::Vertex(shade) => shade.at(x, y),
-        Painter::Texture(texels, at) => texels.sample(
+        Painter::Texture(texels, at) => texel_at(
+            texels,
             unit_part(&at.u, x, y),
             unit_part(&at.v, x, y),
         ),
         Painter::TexColor(texels, at, shade) => {
-            let sample = texels.sample(unit_part(&at.u, x, y), unit_part(&at.v, x, y));
+            let sample = texel_at(texels, unit_part(&at.u, x, y), unit_part(&at.v, x, y));
             product(sample, shade.at(x, y))
         }
     }
@@ -108,14 +121,26 @@ fn shade_for(setup: &Setup, steps: &Steps) -> Option<Shade>
     })
 }
 
-fn place_for(setup: &Setup, steps: &Steps) -> Option<Place>
+/// The mean of three texture positions.
+fn place_ramp(setup: &Setup, steps: &Steps, u: i32, v: i32, w: i32) -> WideRamp
     requires { AreSteps steps.now (setup_seen setup.now).triangle }
-    ensures { IfSome result (λ p. (x y : ℕ) → IsNearby steps.now x y → covers (setup_seen setup.now).triangle x y ≡ true → AreSamePlaces p x y (fragment_at (setup_seen setup.now).triangle x y).texcoord) }
+    ensures { (x y : ℕ) → x < 65536 → y < 65536 → IsNearby steps.now x y → covers (setup_seen setup.now).triangle x y ≡ true → IsSamePlace (place_at result x y) (weighted (setup_seen setup.now).triangle x y u v w) }
+{
+    match steps.place(u, v, w) {
+        Some(ramp) => ramp.wide_place(),
+        None => setup.wide_place(u, v, w),
+    }
+}
+
+fn place_for(setup: &Setup, steps: &Steps) -> Place
+    requires { AreSteps steps.now (setup_seen setup.now).triangle }
+    ensures { (x y : ℕ) → x < 65536 → y < 65536 → IsNearby steps.now x y → covers (setup_seen setup.now).triangle x y ≡ true → AreSamePlaces result x y (fragment_at (setup_seen setup.now).triangle x y).texcoord }
 {
     let (a, b, c) = (&setup.a.texcoord, &setup.b.texcoord, &setup.c.texcoord);
-    let u = steps.place(a[0], b[0], c[0])?;
-    let v = steps.place(a[1], b[1], c[1])?;
-    Some(Place { u, v })
+    Place {
+        u: place_ramp(setup, steps, a[0], b[0], c[0]),
+        v: place_ramp(setup, steps, a[1], b[1], c[1]),
+    }
 }
 
 /// The ramp of a triangle's depths; none where 64 bits are too few.
@@ -134,14 +159,14 @@ pub(crate) fn painter_for<'x>(
     paint: &Paint<'x>,
 ) -> Option<Painter<'x>>
     requires { AreSteps steps.now (setup_seen setup.now).triangle }
-    ensures { IfSome result (λ p. (x y : ℕ) → IsNearby steps.now x y → covers (setup_seen setup.now).triangle x y ≡ true → painter_color p x y ≡ world.painted (paint_seen paint.now) (fragment_at (setup_seen setup.now).triangle x y)) }
+    ensures { IfSome result (λ p. (x y : ℕ) → x < 65536 → y < 65536 → IsNearby steps.now x y → covers (setup_seen setup.now).triangle x y ≡ true → painter_color p x y ≡ world.painted (paint_seen paint.now) (fragment_at (setup_seen setup.now).triangle x y)) }
 {
     match *paint {
         Paint::Solid(color) => Some(Painter::Solid(color)),
         Paint::Vertex => Some(Painter::Vertex(shade_for(setup, steps)?)),
-        Paint::Texture(texels) => Some(Painter::Texture(texels, place_for(setup, steps)?)),
+        Paint::Texture(texels) => Some(Painter::Texture(texels, place_for(setup, steps))),
         Paint::TexColor(texels) => {
-            let place = place_for(setup, steps)?;
+            let place = place_for(setup, steps);
             let shade = shade_for(setup, steps)?;
             Some(Painter::TexColor(texels, place, shade))
         }

@@ -11,4 +11,5 @@ pub mod Slopes
 pub mod Lines
 pub mod Aligned
 pub mod Raised
-pub mod Sums
+pub mod Widened
+pub mod Walks

@@ -1,7 +1,7 @@
 -- Values by fixed point, where the start and the steps are only nearly floors.
 use Rattle.std.proofs.Common.{◌≡◌, ℕ, ◌+◌, ◌-◌, ◌*◌, ◌^◌, ◌<◌, ◌≤◌, ap, sym, ◌∙◌, refl, arith}
 use Rattle.std.specs.Prelude.{ℤ, pos, negsuc, ◌+ℤ◌, ◌-ℤ◌, ◌*ℤ◌, ◌≤ℤ◌, unsigned_abs}
-use Rattle.std.proofs.Common.{◌/◌, lit<}
+use Rattle.std.proofs.Common.{◌/◌, ◌%◌, lit<}
 use Rattle.std.specs.Int.{int_div_euclid, int_rem_euclid}
 use Rattle.std.proofs.lemmas.Nat.{pow-add, div-add-mod'}
 use Rattle.std.proofs.Math.Nat.{mod-lt}
@@ -116,6 +116,10 @@ pub rest_of : (g : ℤ) (m : ℕ) → 0 < m → (turns : ℤ) × (g ≡ int_rem_
 rest_of (pos a) m h = (pos (a / m), omega (arith, ints, product_is, div-add-mod' a m))
 rest_of (negsuc a) m h = (int_div_euclid (negsuc a) (pos m), omega (arith, ints, product_is, div-add-mod' a m, mod-lt a h))
 
+pub whole_and_rest : (z : ℤ) (n : ℕ) → 0 < n → z ≡ int_div_euclid z (pos n) *ℤ pos n +ℤ int_rem_euclid z (pos n)
+whole_and_rest (pos a) n h = omega (arith, ints, product_is, div-add-mod' a n)
+whole_and_rest (negsuc a) n h = omega (arith, ints, product_is, div-add-mod' a n, mod-lt a h)
+
 -- what the code of a slope computes
 pub slope_is : (z : ℤ) (f n r dropped bits scale : ℕ) → dropped + bits ≡ scale → 0 < n → r * n ≤ 2 ^ scale → 2 ^ scale < r * n + n → unsigned_abs z ≤ 2 ^ dropped →
     pos f ≡ int_rem_euclid (int_div_euclid (z *ℤ pos r) (pos (2 ^ dropped))) (pos (2 ^ 64)) → IsSlope z f n (2 ^ bits)
@@ -133,3 +137,33 @@ slope_is z f n r dropped bits scale e pn low high hz hf =
       low = turned.1 ∙ ap (λ w. w +ℤ turned.0 *ℤ pos (2 ^ 64)) (sym hf);
       near = nearly_by_inverse z g n r (2 ^ scale - r * n) q (2 ^ bits) fl.rest pn pq whole (omega (arith, high, pn, low)) fl.is fl.below hz;
     }
+
+all_bits : (bits scale : ℕ) → 62 ≤ scale → bits ≤ 62 → scale - bits ≤ 62 → 2 ^ (62 - (scale - bits)) * 2 ^ (scale - 62) ≡ 2 ^ bits
+all_bits bits scale few small room =
+    let whole : 62 - (scale - bits) + (scale - 62) ≡ bits = omega (arith, few, small, room) in
+    sym (pow-add 2 (62 - (scale - bits)) (scale - 62)) ∙ ap (λ k. 2 ^ k) whole
+
+times_times : (z w : ℤ) (a b c : ℕ) → w ≡ z *ℤ pos a → a * b ≡ c → w *ℤ pos b ≡ z *ℤ pos c
+times_times z w a b c e h = ap (λ k. k *ℤ pos b) (e ∙ *ℤ_comm z (pos a)) ∙ swap_last (pos a) z (pos b) ∙ ap (λ k. pos k *ℤ z) h ∙ *ℤ_comm (pos c) z
+
+-- the same where z is raised to 62 bits
+pub filled_slope : (z w : ℤ) (f n r bits scale : ℕ) → 62 ≤ scale → bits ≤ 62 → scale - bits ≤ 62 → w ≡ z *ℤ pos (2 ^ (62 - (scale - bits))) → 0 < n → r * n ≤ 2 ^ scale → 2 ^ scale < r * n + n → unsigned_abs w ≤ 2 ^ 62 →
+    pos f ≡ int_rem_euclid (int_div_euclid (w *ℤ pos r) (pos (2 ^ 62))) (pos (2 ^ 64)) → IsSlope z f n (2 ^ bits)
+filled_slope z w f n r bits scale few small room e pn low high hw hf =
+    let s = slope_is w f n r 62 (scale - 62) scale (omega (arith, few)) pn low high hw hf in
+    let times : w *ℤ pos (2 ^ (scale - 62)) ≡ z *ℤ pos (2 ^ bits) = times_times z w (2 ^ (62 - (scale - bits))) (2 ^ (scale - 62)) (2 ^ bits) e (all_bits bits scale few small room) in
+    record { number = s.number; turns = s.turns; low = s.low; near = rw times at s.near }
+
+-- a number of so many bits is raised to 62 bits
+pub filled_near : (z : ℤ) (bits : ℕ) → bits ≤ 62 → unsigned_abs z ≤ 2 ^ bits → unsigned_abs (z *ℤ pos (2 ^ (62 - bits))) ≤ 2 ^ 62
+filled_near z bits few h =
+    let whole : bits + (62 - bits) ≡ 62 = omega (arith, few) in
+    let e : 2 ^ bits * 2 ^ (62 - bits) ≡ 2 ^ 62 = sym (pow-add 2 bits (62 - bits)) ∙ ap (λ k. 2 ^ k) whole in
+    rw unsigned_abs-mul (omega (arith, mul-le-mul_right (2 ^ (62 - bits)) h, e))
+
+-- a quotient by two divisions, the second of the first one's rest
+pub by_parts_low : (m d s : ℕ) → (m / d * s + m % d * s / d) * d ≤ m * s
+by_parts_low m d s = omega (arith, ap (λ k. k * s) (div-add-mod' m d), div-add-mod' (m % d * s) d)
+
+pub by_parts_high : (m d s : ℕ) → 0 < d → m * s < (m / d * s + m % d * s / d) * d + d
+by_parts_high m d s h = omega (arith, ap (λ k. k * s) (div-add-mod' m d), div-add-mod' (m % d * s) d, mod-lt (m % d * s) h)

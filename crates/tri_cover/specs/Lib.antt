@@ -3,4 +3,5 @@ pub mod Columns
 pub mod Shown
 pub mod Slope
 pub mod Stepped
-pub mod Deepened
+pub mod Widened
+pub mod Walked

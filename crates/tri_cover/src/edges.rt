@@ -1,8 +1,8 @@
-// Edges, and the columns of a row on their inner side.
-ghost use Rattle.std.specs.Prelude.{◌≡◌, ◌≤◌, ◌<◌, ◌^◌, ◌*◌, ℕ, pos, ◌+ℤ◌, ◌*ℤ◌, ◌≤ℤ◌, ◌<ℤ◌, unsigned_abs, ◌&&◌, nat_le, nat_lt};
+// Edges and their values at the ends of rows.
+ghost use Rattle.std.specs.Prelude.{◌≡◌, ◌<◌, ◌^◌, ◌*◌, pos, ◌+ℤ◌, ◌*ℤ◌, unsigned_abs};
 ghost use Rattle.gfx_model.specs.Raster.{is_top_or_left};
-ghost use Rattle.tri_cover.specs.Seen.{screen_seen, IsEdge, IsNear, is_on_side};
-ghost use Rattle.tri_cover.specs.Columns.{is_between, is_reached, lost};
+ghost use Rattle.tri_cover.specs.Seen.{screen_seen, IsEdge, IsNear};
+ghost use Rattle.tri_cover.specs.Columns.{lost};
 
 use crate::corners::ScreenVertex;
 use crate::numbers::{difference, less, product};
@@ -48,7 +48,7 @@ pub(crate) fn edge_between(p: &ScreenVertex, q: &ScreenVertex) -> Edge
 }
 
 /// The value of an edge at the left end of a row.
-fn reach(edge: &Edge, row: u16) -> i64
+pub(crate) fn reach(edge: &Edge, row: u16) -> i64
     requires { IsNear edge.now }
     ensures value { result ≡ edge.now.base +ℤ edge.now.rise *ℤ pos (256 * row) }
     ensures near { unsigned_abs result < 2 ^ 62 }
@@ -56,50 +56,11 @@ fn reach(edge: &Edge, row: u16) -> i64
     edge.base + product(edge.rise, 256 * row as i64)
 }
 
-/// The columns from first up to after that lie on the inner side of an edge.
-fn narrowed(first: i64, after: i64, reach: i64, fall: i64) -> (i64, i64)
-    requires first { unsigned_abs first < 2 ^ 62 }
-    requires reach { unsigned_abs reach < 2 ^ 62 }
-    requires fall { unsigned_abs fall < 2 ^ 29 }
-    ensures columns { (x : ℕ) → is_between result.0 result.1 x ≡ (is_between first after x && is_reached reach fall x) }
-    ensures first { first ≤ℤ result.0 }
-    ensures after { result.0 <ℤ result.1 → result.1 ≤ℤ after }
-    ensures low { unsigned_abs result.0 < 2 ^ 62 }
+/// What the value of an edge gains per row.
+pub(crate) fn gained_by_row(edge: &Edge) -> i64
+    requires { IsNear edge.now }
+    ensures value { result ≡ pos 256 *ℤ edge.now.rise }
+    ensures near { unsigned_abs result < 2 ^ 60 }
 {
-    if fall > 0 {
-        (first, after.min(reach.div_euclid(256 * fall) + 1))
-    } else if fall < 0 {
-        (first.max(-reach.div_euclid(256 * -fall)), after)
-    } else if reach >= 0 {
-        (first, after)
-    } else {
-        (first, first)
-    }
-}
-
-/// The columns from first up to after that lie on the inner side of an edge in a row.
-pub(crate) fn cut(first: i64, after: i64, edge: &Edge, row: u16) -> (i64, i64)
-    requires edge { IsNear edge.now }
-    requires first { unsigned_abs first < 2 ^ 62 }
-    ensures columns { (x : ℕ) → is_between result.0 result.1 x ≡ (is_between first after x && is_on_side edge.now row x) }
-    ensures first { first ≤ℤ result.0 }
-    ensures after { result.0 <ℤ result.1 → result.1 ≤ℤ after }
-    ensures low { unsigned_abs result.0 < 2 ^ 62 }
-{
-    narrowed(first, after, reach(edge, row), edge.fall)
-}
-
-/// The same columns as numbers of columns.
-pub(crate) fn ends(first: i64, after: i64, width: u16) -> (u16, u16)
-    requires first { pos 0 ≤ℤ first }
-    requires after { first <ℤ after → after ≤ℤ pos width }
-    ensures columns { (x : ℕ) → (nat_le result.0 x && nat_lt x result.1) ≡ is_between first after x }
-    ensures order { result.0 ≤ result.1 }
-    ensures within { result.1 ≤ width }
-{
-    if first < after {
-        (first as u16, after as u16)
-    } else {
-        (0, 0)
-    }
+    256 * edge.rise
 }

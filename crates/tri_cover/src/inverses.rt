@@ -1,5 +1,5 @@
 // Quotients by one divisor, without a division for each.
-ghost use Rattle.std.specs.Prelude.{◌≡◌, ◌≤◌, ◌<◌, ◌^◌, ◌+◌, ◌*◌, ℕ, pos, ◌*ℤ◌, unsigned_abs, IfSome, IsTrue};
+ghost use Rattle.std.specs.Prelude.{◌≡◌, ◌≤◌, ◌<◌, ◌^◌, ◌+◌, ◌-◌, ◌*◌, ℕ, pos, ◌*ℤ◌, unsigned_abs, IfSome};
 ghost use Rattle.std.specs.Int.{int_div_euclid, int_rem_euclid};
 
 /// A divisor with a power of two by it.
@@ -40,12 +40,43 @@ fn quotient(a: u128, divisor: u64) -> u128
     a / divisor as u128
 }
 
-fn is_within(z: i128, dropped: u32) -> bool
-    requires { dropped < 126 }
-    ensures power { IsTrue result → unsigned_abs z ≤ 2 ^ dropped }
-    ensures small { IsTrue result → unsigned_abs z ≤ 2 ^ 62 }
+/// A power of two in 64 bits.
+pub(crate) fn small_power(n: u32) -> u64
+    requires { n ≤ 62 }
+    ensures value { result ≡ 2 ^ n }
+    ensures near { result ≤ 2 ^ 62 }
 {
-    z.unsigned_abs() <= power(dropped) && z.unsigned_abs() <= 1 << 62
+    1 << n
+}
+
+/// A power of two from 2^62 on by a divisor of 32 bits, in two divisions of 64 bits.
+fn short_quotient(more: u32, divisor: u64) -> u128
+    requires more { more < 32 }
+    requires positive { 0 < divisor }
+    requires short { divisor < 2 ^ 32 }
+    ensures low { result * divisor ≤ 2 ^ (62 + more) }
+    ensures high { 2 ^ (62 + more) < result * divisor + divisor }
+{
+    let step = small_power(more);
+    let full = small_power(62);
+    let whole = full / divisor;
+    let rest = full % divisor;
+    whole as u128 * step as u128 + (rest * step / divisor) as u128
+}
+
+/// A power of two by a divisor.
+fn power_by(scale: u32, divisor: u64) -> u128
+    requires few { 62 ≤ scale }
+    requires many { scale < 126 }
+    requires positive { 0 < divisor }
+    ensures low { result * divisor ≤ 2 ^ scale }
+    ensures high { 2 ^ scale < result * divisor + divisor }
+{
+    if divisor < 1 << 32 && scale < 94 {
+        short_quotient(scale - 62, divisor)
+    } else {
+        quotient(power(scale), divisor)
+    }
 }
 
 impl Inverse {
@@ -57,7 +88,7 @@ impl Inverse {
         ensures { IfSome result (λ r. r.divisor ≡ divisor) }
     {
         let scale = scale_for(divisor);
-        let inverse = quotient(power(scale), divisor);
+        let inverse = power_by(scale, divisor);
         if inverse < 1 << 63 {
             Some(Inverse {
                 divisor,
@@ -69,28 +100,35 @@ impl Inverse {
         }
     }
 
-    /// The low 64 bits of z by the divisor, times 2^bits; none where z is too great for that.
-    pub(crate) fn slope(&self, z: i128, bits: u32) -> Option<u64>
-        requires { bits ≤ 62 }
-        ensures { IfSome result (λ f. IsSlope z f self.now.divisor (2 ^ bits)) }
+    /// The low 64 bits of z by the divisor, times 2^bits.
+    pub(crate) fn slope(&self, z: i64, bits: u32) -> u64
+        requires bits { bits ≤ 62 }
+        requires room { self.now.scale - bits ≤ 62 }
+        requires z { unsigned_abs z ≤ 2 ^ (self.now.scale - bits) }
+        ensures { IsSlope z result self.now.divisor (2 ^ bits) }
     {
-        let dropped = self.scale - bits;
-        if is_within(z, dropped) {
-            Some(low_bits(shifted(z, self.inverse, dropped)))
-        } else {
-            None
-        }
+        let full = filled(z, self.scale - bits);
+        low_bits(shifted(full, self.inverse))
     }
 }
 
-/// The floor of a product by a power of two.
-fn shifted(z: i128, inverse: u64, dropped: u32) -> i128
+/// A number of so many bits, raised to 62.
+fn filled(z: i64, bits: u32) -> i64
+    requires bits { bits ≤ 62 }
+    requires z { unsigned_abs z ≤ 2 ^ bits }
+    ensures value { result ≡ z *ℤ pos (2 ^ (62 - bits)) }
+    ensures near { unsigned_abs result ≤ 2 ^ 62 }
+{
+    z * small_power(62 - bits) as i64
+}
+
+/// The floor of a product by 2^62.
+fn shifted(z: i64, inverse: u64) -> i128
     requires z { unsigned_abs z ≤ 2 ^ 62 }
     requires inverse { inverse < 2 ^ 63 }
-    requires dropped { dropped < 126 }
-    ensures { result ≡ int_div_euclid (z *ℤ pos inverse) (pos (2 ^ dropped)) }
+    ensures { result ≡ int_div_euclid (z *ℤ pos inverse) (pos (2 ^ 62)) }
 {
-    z * inverse as i128 >> dropped
+    z as i128 * inverse as i64 as i128 >> 62
 }
 
 /// The number modulo 2^64.

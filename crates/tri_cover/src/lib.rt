@@ -3,22 +3,22 @@
 
 mod averages;
 mod corners;
-mod deepening;
 mod edges;
 mod inverses;
 mod numbers;
 mod placing;
-mod quotients;
 mod ramps;
 mod rows;
+mod sides;
 mod stepping;
 mod steps;
 mod triangles;
+mod wide;
 
 pub use corners::{Fragment, ScreenVertex};
 pub use placing::place;
-pub use quotients::{DepthAt, DepthSteps};
-pub use ramps::Ramp;
+pub use ramps::{Ramp, WideRamp};
+pub use sides::Sides;
 pub use stepping::{Quotient, advanced};
 pub use steps::Steps;
 pub use triangles::Setup;

@@ -9,14 +9,6 @@ pub struct Quotient {
     pub rest: i64,
 }
 
-/// A value along a row: its first quotient, its step, and the divisor of both.
-#[derive(Clone, Copy)]
-pub struct Line {
-    pub start: Quotient,
-    pub step: Quotient,
-    pub n: i64,
-}
-
 #[inline(always)]
 fn settled(rest: i64, n: i64) -> Quotient
     requires n { unsigned_abs n < 2 ^ 60 }

@@ -2,8 +2,8 @@
 ghost use Rattle.std.specs.Prelude.{◌≡◌, ◌≤◌, ◌<◌, ◌^◌, ◌+◌, ◌-◌, ◌*◌, ◌%◌, ◌/◌, true, ℕ, ℤ, pos, ◌+ℤ◌, ◌-ℤ◌, ◌*ℤ◌, unsigned_abs, IfSome, IsTrue};
 ghost use Rattle.std.specs.Int.{int_rem_euclid};
 
-use crate::inverses::{Inverse, low_bits, power};
-use crate::numbers::weighted;
+use crate::inverses::{Inverse, low_bits, power, small_power};
+use crate::numbers::{limited, narrow_sum, pair_sum, wide_limited};
 use crate::ramps::Ramp;
 
 /// Three numbers, one for each corner.
@@ -12,13 +12,12 @@ pub(crate) struct Three {
     pub a: i64,
     pub b: i64,
     pub c: i64,
-    pub ghost near_a: { unsigned_abs a < 2 ^ 60 },
     pub ghost near_b: { unsigned_abs b < 2 ^ 60 },
     pub ghost near_c: { unsigned_abs c < 2 ^ 60 },
 }
 
 /// The weights at a pixel, what they gain per column and per row, and the inverse of their sum. Pixels are at most `most`
-/// steps less one away.
+/// steps less one away. Where they are narrow, the sums of values by the weights fit 64 bits.
 #[derive(Clone, Copy)]
 pub struct Steps {
     pub(crate) x: u16,
@@ -28,16 +27,52 @@ pub struct Steps {
     pub(crate) right: Three,
     pub(crate) down: Three,
     pub(crate) inverse: Inverse,
+    pub(crate) narrow: bool,
     pub ghost few: { most < 2 ^ 18 },
+    pub ghost small_at_b: { IsTrue narrow → unsigned_abs at.b < 2 ^ 30 },
+    pub ghost small_at_c: { IsTrue narrow → unsigned_abs at.c < 2 ^ 30 },
+    pub ghost small_right_b: { IsTrue narrow → unsigned_abs right.b < 2 ^ 30 },
+    pub ghost small_right_c: { IsTrue narrow → unsigned_abs right.c < 2 ^ 30 },
+    pub ghost small_down_b: { IsTrue narrow → unsigned_abs down.b < 2 ^ 30 },
+    pub ghost small_down_c: { IsTrue narrow → unsigned_abs down.c < 2 ^ 30 },
 }
 
-fn sum_of(by: &Three, u: i64, v: i64, w: i64) -> i128
-    requires u { unsigned_abs u < 2 ^ 32 }
+/// Whether the weights of the second and the third corner are small.
+fn is_narrow(by: &Three) -> bool
+    ensures b { IsTrue result → unsigned_abs by.now.b < 2 ^ 30 }
+    ensures c { IsTrue result → unsigned_abs by.now.c < 2 ^ 30 }
+{
+    by.b.unsigned_abs() < 1 << 30 && by.c.unsigned_abs() < 1 << 30
+}
+
+/// Whether all weights of the second and the third corner are small.
+pub(crate) fn are_narrow(at: &Three, right: &Three, down: &Three) -> bool
+    ensures at_b { IsTrue result → unsigned_abs at.now.b < 2 ^ 30 }
+    ensures at_c { IsTrue result → unsigned_abs at.now.c < 2 ^ 30 }
+    ensures right_b { IsTrue result → unsigned_abs right.now.b < 2 ^ 30 }
+    ensures right_c { IsTrue result → unsigned_abs right.now.c < 2 ^ 30 }
+    ensures down_b { IsTrue result → unsigned_abs down.now.b < 2 ^ 30 }
+    ensures down_c { IsTrue result → unsigned_abs down.now.c < 2 ^ 30 }
+{
+    is_narrow(at) && is_narrow(right) && is_narrow(down)
+}
+
+/// The sum of 0 and two values by their weights; none where it is further from 0 than a limit.
+#[inline(always)]
+fn sum_within(by: &Three, narrow: bool, v: i64, w: i64, limit: u64) -> Option<i64>
+    requires b { IsTrue narrow → unsigned_abs by.now.b < 2 ^ 30 }
+    requires c { IsTrue narrow → unsigned_abs by.now.c < 2 ^ 30 }
     requires v { unsigned_abs v < 2 ^ 32 }
     requires w { unsigned_abs w < 2 ^ 32 }
-    ensures { result ≡ by.now.a *ℤ u +ℤ by.now.b *ℤ v +ℤ by.now.c *ℤ w }
+    requires limit { limit ≤ 2 ^ 62 }
+    ensures value { IfSome result (λ z. z ≡ by.now.b *ℤ v +ℤ by.now.c *ℤ w) }
+    ensures near { IfSome result (λ z. unsigned_abs z ≤ limit) }
 {
-    weighted(by.a, by.b, by.c, u, v, w)
+    if narrow {
+        limited(narrow_sum(by.b, by.c, v, w), limit)
+    } else {
+        wide_limited(pair_sum(by.b, by.c, v, w), limit)
+    }
 }
 
 /// Whether so many steps are exact.
@@ -46,7 +81,7 @@ fn is_fine(most: u64, divisor: u64, bits: u32) -> bool
     requires bits { bits ≤ 62 }
     ensures { IsTrue result → 4 * most * divisor ≤ 2 ^ bits }
 {
-    4 * most as u128 * divisor as u128 <= power(bits)
+    4 * most as u128 * divisor as u128 <= small_power(bits) as u128
 }
 
 /// The value at column 0 of row 0 of a value whose slopes are given.
@@ -108,20 +143,28 @@ impl Steps {
     ghost use Rattle.tri_cover.specs.Slope.{IsRamp, IsSamePlace, ramp_at};
     ghost use Rattle.tri_cover.specs.Stepped.{AreSteps, IsNearby};
 
-    /// The mean of three values, with so many bits of fraction; none where these are too few.
-    fn slopes(&self, u: i64, v: i64, w: i64, bits: u32) -> Option<Ramp>
-        requires u { unsigned_abs u < 2 ^ 32 }
+    /// The mean of 0 and two values, with so many bits of fraction; none where these are too few.
+    #[inline(always)]
+    fn slopes(&self, v: i64, w: i64, bits: u32) -> Option<Ramp>
         requires v { unsigned_abs v < 2 ^ 32 }
         requires w { unsigned_abs w < 2 ^ 32 }
         requires bits { bits ≤ 62 }
-        ensures { IfSome result (λ r. (t : Triangle ScreenVertex) → AreSteps self.now t → (x y : ℕ) → IsNearby self.now x y → IsRamp r t u v w (2 ^ bits) x y) }
+        ensures { IfSome result (λ r. (t : Triangle ScreenVertex) → AreSteps self.now t → (x y : ℕ) → IsNearby self.now x y → IsRamp r t (pos 0) v w (2 ^ bits) x y) }
     {
+        let dropped = self.inverse.scale - bits;
+        if dropped > 62 {
+            return None;
+        }
         if !is_fine(self.most, self.inverse.divisor, bits) {
             return None;
         }
-        let at = self.inverse.slope(sum_of(&self.at, u, v, w), bits)?;
-        let right = self.inverse.slope(sum_of(&self.right, u, v, w), bits)?;
-        let down = self.inverse.slope(sum_of(&self.down, u, v, w), bits)?;
+        let limit = small_power(dropped);
+        let at = sum_within(&self.at, self.narrow, v, w, limit)?;
+        let right = sum_within(&self.right, self.narrow, v, w, limit)?;
+        let down = sum_within(&self.down, self.narrow, v, w, limit)?;
+        let at = self.inverse.slope(at, bits);
+        let right = self.inverse.slope(right, bits);
+        let down = self.inverse.slope(down, bits);
         Some(Ramp {
             start: started(at, right, down, self.x, self.y, self.most),
             right,
@@ -130,6 +173,7 @@ impl Steps {
     }
 
     /// The mean of 0 and two values. Where both are 0 it is 0 everywhere.
+    #[inline(always)]
     fn relative(&self, v: i64, w: i64, bits: u32) -> Option<Ramp>
         requires v { unsigned_abs v < 2 ^ 32 }
         requires w { unsigned_abs w < 2 ^ 32 }
@@ -143,11 +187,12 @@ impl Steps {
                 down: 0,
             });
         }
-        let ramp = self.slopes(0, v, w, bits)?;
+        let ramp = self.slopes(v, w, bits)?;
         Some(ramp)
     }
 
     /// The mean of three values, by what the second and the third differ from the first.
+    #[inline(always)]
     fn ramp(&self, u: i64, v: i64, w: i64, bits: u32) -> Option<Ramp>
         requires u { unsigned_abs u < 2 ^ 32 }
         requires v { unsigned_abs (v -ℤ u) < 2 ^ 32 }
@@ -162,6 +207,7 @@ impl Steps {
     }
 
     /// The mean of three channels in the upper 8 bits; none where 64 bits are too few.
+    #[inline(always)]
     pub fn channel(&self, u: u8, v: u8, w: u8) -> Option<Ramp>
         ensures { IfSome result (λ r. (t : Triangle ScreenVertex) → AreSteps self.now t → (x y : ℕ) → IsNearby self.now x y → covers t x y ≡ true → ramp_at r x y / 2 ^ 56 ≡ weighted_number t x y u v w) }
     {
@@ -169,6 +215,7 @@ impl Steps {
     }
 
     /// The mean of three depths in the upper 24 bits; none where 64 bits are too few.
+    #[inline(always)]
     pub fn depth(&self, u: u32, v: u32, w: u32) -> Option<Ramp>
         requires u { u ≤ 16777215 }
         requires v { v ≤ 16777215 }
@@ -179,6 +226,7 @@ impl Steps {
     }
 
     /// The mean of three texture positions modulo 65536 in the upper 16 bits; none where 64 bits are too few.
+    #[inline(always)]
     pub fn place(&self, u: i32, v: i32, w: i32) -> Option<Ramp>
         ensures { IfSome result (λ r. (t : Triangle ScreenVertex) → AreSteps self.now t → (x y : ℕ) → IsNearby self.now x y → covers t x y ≡ true → IsSamePlace (ramp_at r x y / 2 ^ 48) (weighted t x y u v w)) }
     {

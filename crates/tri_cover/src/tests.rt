@@ -1,6 +1,7 @@
 // Placed vertices and covered columns that were worked out by hand, and ramps beside the exact means.
 use crate::{ScreenVertex, Setup, place};
 use fix_math::{Affine, Point, Rect};
+use std::process::Abort;
 use std::test::Fail;
 use vertex_layout::Vertex;
 
@@ -104,6 +105,38 @@ fn columns_of_rows(rt: HostRuntime) {
         }
         let (first, after) = setup.span(0, 4);
         assert_eq!(rt; first, after);
+    }
+}
+
+// The columns of each row by stepped sides, beside those of the row by itself.
+fn step_rows<R: Abort>(rt: &R, setup: &Setup) {
+    let (top, bottom) = setup.rows(64);
+    let mut sides = setup.sides(top);
+    for y in top..bottom {
+        assert_eq!(rt;
+            setup.columns_of(&sides, y, 64),
+            setup.span(y, 64),
+            "row {y}"
+        );
+        sides = setup.next_sides(sides, y);
+    }
+}
+
+#[test]
+fn sides_are_stepped_over_rows(rt: HostRuntime) {
+    for (a, b, c) in [
+        // a sliver, a level edge, and corners above the first row
+        (corner(700, 3), corner(901, 15021), corner(690, 9000)),
+        (corner(130, 300), corner(9001, 300), corner(4007, 12345)),
+        (
+            corner(5000, -7001),
+            corner(16001, 4096),
+            corner(-3001, 16300),
+        ),
+    ] {
+        if let Some(setup) = Setup::new(a, b, c, 0) {
+            step_rows(&rt, &setup);
+        }
     }
 }
 

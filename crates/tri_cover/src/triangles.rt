@@ -1,19 +1,21 @@
 // Triangles that are ready to be drawn.
 ghost use Rattle.std.specs.Prelude.{true, ◌≡◌, ◌≤◌, ◌<◌, ◌^◌, ◌+◌, ◌*◌, ℕ, pos, ◌-ℤ◌, ◌*ℤ◌, ◌<ℤ◌, unsigned_abs, ◌&&◌, nat_le, nat_lt, IsSome, IfSome, IsTrue, ◌↔◌, ◌||◌, ◌==◌, not};
-ghost use Rattle.gfx_model.specs.Raster.{covers, area as area_spec, clockwise as clockwise_spec, is_front as faces_front, is_back, is_kept, edge, centre, fragment_at};
-ghost use Rattle.tri_cover.specs.Deepened.{AreDepths, IsDepthAt};
+ghost use Rattle.gfx_model.specs.Raster.{covers, area as area_spec, clockwise as clockwise_spec, is_front as faces_front, is_back, is_kept, edge, centre, fragment_at, weighted as weighted_mean};
+ghost use Rattle.tri_cover.specs.Slope.{IsSamePlace};
+ghost use Rattle.tri_cover.specs.Widened.{wide_whole, IsLowPart};
 ghost use Rattle.tri_cover.specs.Stepped.{AreSteps, IsNearby};
 ghost use Rattle.tri_cover.specs.Seen.{screen_seen, triangle_seen, IsEdge, IsNear, fragment_seen};
 
 use crate::averages::{Weights, mean_channel, mean_depth, mean_place};
 use crate::corners::{Fragment, ScreenVertex};
-use crate::deepening::{divided, weighted_depth};
-use crate::edges::{Edge, cut, edge_between, ends};
+use crate::edges::{Edge, edge_between, gained_by_row};
 use crate::inverses::Inverse;
-use crate::numbers::{difference, less, product};
-use crate::quotients::{DepthAt, DepthSteps};
+use crate::numbers::{difference, less, product, weighted};
+use crate::ramps::WideRamp;
 use crate::rows::{greatest, least, row_after, row_from, within};
-use crate::steps::{Steps, Three};
+use crate::sides::{Sides, cut, ends, next_side, side_of};
+use crate::steps::{Steps, Three, are_narrow};
+use crate::wide::{wide_slope, wide_start};
 
 /// A triangle that is ready to be drawn, the clockwise way round.
 #[derive(Clone, Copy)]
@@ -68,15 +70,6 @@ fn gained_by_column(edge: &Edge) -> i64
     ensures near { unsigned_abs result < 2 ^ 60 }
 {
     0 - 256 * edge.fall
-}
-
-/// What the value of an edge gains per row.
-fn gained_by_row(edge: &Edge) -> i64
-    requires { IsNear edge.now }
-    ensures value { result ≡ pos 256 *ℤ edge.now.rise }
-    ensures near { unsigned_abs result < 2 ^ 60 }
-{
-    256 * edge.rise
 }
 
 /// The pixel near the mean of three places, within two ends.
@@ -151,6 +144,7 @@ fn clockwise(a: ScreenVertex, b: ScreenVertex, c: ScreenVertex, is_front: bool) 
 impl Setup {
     ghost use Rattle.std.specs.Prelude.{option_map};
     ghost use Rattle.tri_cover.specs.Shown.{setup_seen, shown_unless_culled};
+    ghost use Rattle.tri_cover.specs.Walked.{AreSides};
 
     /// The triangle, the clockwise way round. `None` exactly where it has no area or is culled: by 1 where it faces the
     /// front, by 2 where it faces the back.
@@ -241,81 +235,140 @@ impl Setup {
     }
 
     /// The steps of the corners' weights over a surface's covered pixels; none where the triangle has no room there.
+    #[inline(always)]
     pub fn steps(&self, width: u16, height: u16) -> Option<Steps>
         ensures steps { IfSome result (λ s. AreSteps s (triangle_seen self.now.a self.now.b self.now.c)) }
         ensures nearby { IfSome result (λ s. (x y : ℕ) → x < width → y < height → covers (triangle_seen self.now.a self.now.b self.now.c) x y ≡ true → IsNearby s x y) }
     {
-        let (left, right) = self.columns(width);
+        let (left, after) = self.columns(width);
         let (top, bottom) = self.rows(height);
-        if right < left || bottom < top {
+        if after < left || bottom < top {
             return None;
         }
         let inverse = Inverse::new(size(area(&self.a, &self.b, &self.c)))?;
-        let x = middle(self.a.x, self.b.x, self.c.x, left, right);
+        let x = middle(self.a.x, self.b.x, self.c.x, left, after);
         let y = middle(self.a.y, self.b.y, self.c.y, top, bottom);
+        let at = Three {
+            a: weight(&self.b, &self.c, x, y),
+            b: weight(&self.c, &self.a, x, y),
+            c: weight(&self.a, &self.b, x, y),
+        };
+        let right = Three {
+            a: gained_by_column(&self.bc),
+            b: gained_by_column(&self.ca),
+            c: gained_by_column(&self.ab),
+        };
+        let down = Three {
+            a: gained_by_row(&self.bc),
+            b: gained_by_row(&self.ca),
+            c: gained_by_row(&self.ab),
+        };
+        let narrow = are_narrow(&at, &right, &down);
         Some(Steps {
             x,
             y,
-            most: (right - left) as u64 + (bottom - top) as u64 + 1,
-            at: Three {
-                a: weight(&self.b, &self.c, x, y),
-                b: weight(&self.c, &self.a, x, y),
-                c: weight(&self.a, &self.b, x, y),
-            },
-            right: Three {
-                a: gained_by_column(&self.bc),
-                b: gained_by_column(&self.ca),
-                c: gained_by_column(&self.ab),
-            },
-            down: Three {
-                a: gained_by_row(&self.bc),
-                b: gained_by_row(&self.ca),
-                c: gained_by_row(&self.ab),
-            },
+            most: (after - left) as u64 + (bottom - top) as u64 + 1,
+            at,
+            right,
+            down,
             inverse,
+            narrow,
         })
     }
 
-    /// What the depth gains per column, by quotient and rest.
-    pub fn depth_steps(&self) -> DepthSteps
-        ensures { AreDepths result (triangle_seen self.now.a self.now.b self.now.c) }
+    /// The mean of three values, by divisions.
+    fn wide_ramp(&self, u: i64, v: i64, w: i64) -> WideRamp
+        requires u { unsigned_abs u < 2 ^ 32 }
+        requires v { unsigned_abs v < 2 ^ 32 }
+        requires w { unsigned_abs w < 2 ^ 32 }
+        ensures { (x y : ℕ) → x < 65536 → y < 65536 → IsLowPart (wide_whole result x y) (weighted_mean (triangle_seen self.now.a self.now.b self.now.c) x y u v w) }
     {
         let n = size(area(&self.a, &self.b, &self.c));
-        let gain = divided(
-            weighted_depth(
-                gained_by_column(&self.bc),
-                gained_by_column(&self.ca),
-                gained_by_column(&self.ab),
-                &self.a,
-                &self.b,
-                &self.c,
-            ),
-            n,
+        let at = weighted(
+            weight(&self.b, &self.c, 0, 0),
+            weight(&self.c, &self.a, 0, 0),
+            weight(&self.a, &self.b, 0, 0),
+            u,
+            v,
+            w,
         );
-        DepthSteps {
-            whole: gain.whole,
-            rest: gain.rest,
-            divisor: n,
+        let right = weighted(
+            gained_by_column(&self.bc),
+            gained_by_column(&self.ca),
+            gained_by_column(&self.ab),
+            u,
+            v,
+            w,
+        );
+        let down = weighted(
+            gained_by_row(&self.bc),
+            gained_by_row(&self.ca),
+            gained_by_row(&self.ab),
+            u,
+            v,
+            w,
+        );
+        WideRamp {
+            start: wide_start(wide_slope(at, n)),
+            right: wide_slope(right, n),
+            down: wide_slope(down, n),
         }
     }
 
-    /// The depth at a pixel, from which it is stepped along the row.
-    pub fn depth_at(&self, steps: &DepthSteps, x: u16, y: u16) -> DepthAt
-        requires { AreDepths steps.now (triangle_seen self.now.a self.now.b self.now.c) }
-        ensures below { result.rest < steps.now.divisor }
-        ensures is { IsDepthAt result steps.now (triangle_seen self.now.a self.now.b self.now.c) x y }
+    /// The depth in the upper 24 bits, for triangles of any size.
+    pub fn wide_depth(&self) -> WideRamp
+        ensures { (x y : ℕ) → x < 65536 → y < 65536 → covers (triangle_seen self.now.a self.now.b self.now.c) x y ≡ true → wide_whole result x y ≡ (fragment_at (triangle_seen self.now.a self.now.b self.now.c) x y).depth }
     {
-        divided(
-            weighted_depth(
-                weight(&self.b, &self.c, x, y),
-                weight(&self.c, &self.a, x, y),
-                weight(&self.a, &self.b, x, y),
-                &self.a,
-                &self.b,
-                &self.c,
-            ),
-            steps.divisor,
+        self.wide_ramp(
+            self.a.depth as i64,
+            self.b.depth as i64,
+            self.c.depth as i64,
         )
+    }
+
+    /// The mean of three texture positions modulo 65536 in the bits from 104 to 119, for triangles of any size.
+    pub fn wide_place(&self, u: i32, v: i32, w: i32) -> WideRamp
+        ensures { (x y : ℕ) → x < 65536 → y < 65536 → IsSamePlace (wide_whole result x y) (weighted_mean (triangle_seen self.now.a self.now.b self.now.c) x y u v w) }
+    {
+        self.wide_ramp(u as i64, v as i64, w as i64)
+    }
+
+    /// The triangle's sides in a row.
+    pub fn sides(&self, row: u16) -> Sides
+        ensures { AreSides result self.now row }
+    {
+        Sides {
+            ab: side_of(&self.ab, row),
+            bc: side_of(&self.bc, row),
+            ca: side_of(&self.ca, row),
+        }
+    }
+
+    /// The sides one row on, without a division.
+    #[inline(always)]
+    pub fn next_sides(&self, sides: Sides, row: u16) -> Sides
+        requires { AreSides sides self.now row }
+        ensures { AreSides result self.now (row + 1) }
+    {
+        Sides {
+            ab: next_side(sides.ab, &self.ab, row),
+            bc: next_side(sides.bc, &self.bc, row),
+            ca: next_side(sides.ca, &self.ca, row),
+        }
+    }
+
+    /// The covered columns of the row that the sides stand at, from the first up to the second number.
+    #[inline(always)]
+    pub fn columns_of(&self, sides: &Sides, row: u16, width: u16) -> (u16, u16)
+        requires { AreSides sides.now self.now row }
+        ensures columns { (x : ℕ) → x < width → covers (triangle_seen self.now.a self.now.b self.now.c) x row ≡ (nat_le result.0 x && nat_lt x result.1) }
+        ensures order { result.0 ≤ result.1 }
+        ensures within { result.1 ≤ width }
+    {
+        let (first, after) = cut(0, width as i64, &sides.ab, &self.ab, row);
+        let (first, after) = cut(first, after, &sides.bc, &self.bc, row);
+        let (first, after) = cut(first, after, &sides.ca, &self.ca, row);
+        ends(first, after, width)
     }
 
     /// The covered columns of a row, from the first up to the second number.
@@ -324,9 +377,6 @@ impl Setup {
         ensures order { result.0 ≤ result.1 }
         ensures within { result.1 ≤ width }
     {
-        let (first, after) = cut(0, width as i64, &self.ab, row);
-        let (first, after) = cut(first, after, &self.bc, row);
-        let (first, after) = cut(first, after, &self.ca, row);
-        ends(first, after, width)
+        self.columns_of(&self.sides(row), row, width)
     }
 }

@@ -14,9 +14,12 @@ pub loop-y-init : goal.loop-y-init
 loop-y-init c =
     let d = c.args.draw.now in
     let f = facing_seen c.args.draw.now c.args.setup.now in
-    rows_before (step_seen c.args.draw.now c.args.setup.now) (is_drawn (rect_seen d.cut) f) c.args.width c.args.height c.drawn_rows-top.result.0 (deep_pixels c.args.colors.now c.args.depths.now) c.requires.wide
-    (length-deep c.args.colors.now c.args.depths.now c.requires.same ∙ c.requires.whole)
-    (λ x y b t. let p = and_parts (contains (rect_seen d.cut) x y) (covers f.triangle x y) t in (c.drawn_rows-top.ensures.all x y b p.0 p.1).0)
+    record {
+      sides = c.sides-sides.ensures;
+      done = rows_before (step_seen c.args.draw.now c.args.setup.now) (is_drawn (rect_seen d.cut) f) c.args.width c.args.height c.drawn_rows-top.result.0 (deep_pixels c.args.colors.now c.args.depths.now) c.requires.wide
+          (length-deep c.args.colors.now c.args.depths.now c.requires.same ∙ c.requires.whole)
+          (λ x y b t. let p = and_parts (contains (rect_seen d.cut) x y) (covers f.triangle x y) t in (c.drawn_rows-top.ensures.all x y b p.0 p.1).0);
+    }
 
 pub drawn_columns-first-requires-clause-upper : goal.drawn_columns-first-requires-clause-upper
 drawn_columns-first-requires-clause-upper c = (c.drawn_rows-top.ensures.first c.loop-y.y c.loop-y.auto.y c.loop-y-test.true).0
@@ -34,13 +37,13 @@ draw_span-requires-clause-paints c =
     (λ b h x lo hi. h x c.loop-y.y (omega (arith, hi, within)) (omega (arith, c.loop-y-test.true, c.drawn_rows-top.ensures.within))
     (drawn_column (rect_seen d.cut) f ends.0 ends.1 x c.loop-y.y (c.drawn_columns-first.ensures.columns x (omega (arith, hi, within))) lo hi))
 
-pub draw_span-requires-clause-stepped : goal.draw_span-requires-clause-stepped
-draw_span-requires-clause-stepped c =
+pub draw_span-requires-clause-wide_paints : goal.draw_span-requires-clause-wide_paints
+draw_span-requires-clause-wide_paints c =
     let d = c.args.draw.now in
     let f = facing_seen c.args.draw.now c.args.setup.now in
     let ends = c.drawn_columns-first.result in
     let within = c.drawn_columns-first.ensures.within in
-    IfSome_then c.stepper_of-stepper.result c.stepper_of-stepper.ensures.paints
+    IfSome_then c.wide_brush_of-wide.result c.wide_brush_of-wide.ensures.paints
     (λ b h x lo hi. h x c.loop-y.y (omega (arith, hi, within)) (omega (arith, c.loop-y-test.true, c.drawn_rows-top.ensures.within))
     (drawn_column (rect_seen d.cut) f ends.0 ends.1 x c.loop-y.y (c.drawn_columns-first.ensures.columns x (omega (arith, hi, within))) lo hi))
 
@@ -54,13 +57,26 @@ draw_span-requires-clause-depths c =
     (λ b h x lo hi. h x c.loop-y.y (omega (arith, hi, within)) (omega (arith, c.loop-y-test.true, c.drawn_rows-top.ensures.within))
     (drawn_column (rect_seen d.cut) f ends.0 ends.1 x c.loop-y.y (c.drawn_columns-first.ensures.columns x (omega (arith, hi, within))) lo hi))
 
+pub draw_span-requires-clause-wide_depths : goal.draw_span-requires-clause-wide_depths
+draw_span-requires-clause-wide_depths c =
+    let d = c.args.draw.now in
+    let f = facing_seen c.args.draw.now c.args.setup.now in
+    let ends = c.drawn_columns-first.result in
+    let within = c.drawn_columns-first.ensures.within in
+    IfSome_then c.wide_brush_of-wide.result c.wide_brush_of-wide.ensures.depths
+    (λ b h x lo hi. h x c.loop-y.y (omega (arith, hi, within)) (omega (arith, c.loop-y-test.true, c.drawn_rows-top.ensures.within))
+    (drawn_column (rect_seen d.cut) f ends.0 ends.1 x c.loop-y.y (c.drawn_columns-first.ensures.columns x (omega (arith, hi, within))) lo hi))
+
 pub loop-y-preserved : goal.loop-y-preserved
 loop-y-preserved c =
     let d = c.args.draw.now in
     let f = facing_seen c.args.draw.now c.args.setup.now in
-    row_more (step_seen c.args.draw.now c.args.setup.now) (is_drawn (rect_seen d.cut) f) c.args.width c.loop-y.y c.drawn_columns-first.result.0 c.drawn_columns-first.result.1
-    (deep_pixels c.args.colors.now c.args.depths.now) (deep_pixels c.loop-y.colors c.loop-y.depths) (deep_pixels c.draw_span.new.colors c.draw_span.new.depths)
-    c.requires.wide c.drawn_columns-first.ensures.within c.drawn_columns-first.ensures.columns c.loop-y.invariant c.draw_span.ensures
+    record {
+      sides = c.next_sides-sides.ensures;
+      done = row_more (step_seen c.args.draw.now c.args.setup.now) (is_drawn (rect_seen d.cut) f) c.args.width c.loop-y.y c.drawn_columns-first.result.0 c.drawn_columns-first.result.1
+          (deep_pixels c.args.colors.now c.args.depths.now) (deep_pixels c.loop-y.colors c.loop-y.depths) (deep_pixels c.draw_span.new.colors c.draw_span.new.depths)
+          c.requires.wide c.drawn_columns-first.ensures.within c.drawn_columns-first.ensures.columns c.loop-y.invariant.done c.draw_span.ensures;
+    }
 
 pub returns : goal.returns
 returns c =
@@ -70,4 +86,4 @@ returns c =
     rows_behind (step_seen c.args.draw.now c.args.setup.now) (is_drawn (rect_seen d.cut) f) c.args.width c.args.height c.drawn_rows-top.result.1 (deep_pixels c.args.colors.now c.args.depths.now) (deep_pixels c.loop-y.colors c.loop-y.depths) c.requires.wide
     (length-deep c.args.colors.now c.args.depths.now c.requires.same ∙ c.requires.whole)
     (λ x y b t. let p = and_parts (contains (rect_seen d.cut) x y) (covers f.triangle x y) t in (c.drawn_rows-top.ensures.all x y b p.0 p.1).1)
-    (c.loop-y.invariant ∙ ap (λ n. map_from (above c.args.width n (change_seen c.args.draw.now c.args.setup.now)) 0 (deep_pixels c.args.colors.now c.args.depths.now)) last)
+    (c.loop-y.invariant.done ∙ ap (λ n. map_from (above c.args.width n (change_seen c.args.draw.now c.args.setup.now)) 0 (deep_pixels c.args.colors.now c.args.depths.now)) last)

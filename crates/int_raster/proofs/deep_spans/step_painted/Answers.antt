@@ -20,9 +20,9 @@ loop-x-preserved c =
     let before = slice_index_or c.loop-x.depths (s.y * s.width + c.loop-x.x) [] in
     let f = (step_seen c.args.draw.now c.args.setup.now) in
     let stepped : pixel_seen c.stepped_by-after.result ≡ f c.loop-x.x s.y (deep_pixel old before) =
-    shaded_step c.args.draw.now c.args.setup.now c.loop-x.x s.y (c.value_at.result / 2 ^ 40) c.color_at-shade.result (record { color = old; depth = Some c.depth_word-word.result }) (pixel_seen c.stepped_by-after.result)
+    shaded_step c.args.draw.now c.args.setup.now c.loop-x.x s.y (c.wide_value_at.result / 2 ^ 104) c.color_at-shade.result (record { color = old; depth = Some c.depth_word-word.result }) (pixel_seen c.stepped_by-after.result)
     (c.color_at-shade.ensures ∙ c.requires.paints c.loop-x.x c.loop-x.auto.x here)
-    (ap (λ n. n / 2 ^ 40) c.value_at.ensures ∙ c.requires.depths c.loop-x.x c.loop-x.auto.x here)
+    (ap (λ n. n / 2 ^ 104) c.wide_value_at.ensures ∙ c.requires.depths c.loop-x.x c.loop-x.auto.x here)
     c.stepped_by-after.ensures
     ∙ ap (λ n. f c.loop-x.x s.y (record { color = old; depth = Some n })) c.depth_word-word.ensures in
     deep_more (step_seen c.args.draw.now c.args.setup.now) s.width s.y s.first c.loop-x.x c.args.colors.now c.loop-x.colors c.args.depths.now c.loop-x.depths c.stepped_by-after.result.color c.depth_texel.result

@@ -45,3 +45,16 @@ returns-clause-nearby c x y bx by h =
     let across = apart x c.middle-x.result c.columns-left.result.0 c.columns-left.result.1 c.middle-x.ensures.low c.middle-x.ensures.high columns.0 columns.1 in
     let down = apart y c.middle-y.result c.rows-top.result.0 c.rows-top.result.1 c.middle-y.ensures.low c.middle-y.ensures.high rows.0 rows.1 in
     omega (arith, across, down)
+
+pub invariant_of-result : goal.invariant_of-result
+invariant_of-result c =
+    let small = c.are_narrow-narrow.ensures in
+    record {
+      few = omega (arith, c.columns-left.ensures.within, c.rows-top.ensures.within, c.ranges.width, c.ranges.height);
+      small_at_b = small.at_b;
+      small_at_c = small.at_c;
+      small_right_b = small.right_b;
+      small_right_c = small.right_c;
+      small_down_b = small.down_b;
+      small_down_c = small.down_c;
+    }
