@@ -41,20 +41,27 @@ def turned(angle, radius):
     return radius * math.cos(math.radians(angle)), radius * math.sin(math.radians(angle))
 
 
+def head(version, size):
+    """The first lines of a scene of one picture of 256 by 256 pixels; VERSION and SIZE are what is said of these two lines."""
+    return f"""\
+# {version}
+scene 1
+# {size}
+size 256 256
+# One encoder records the draws.
+encoders 1
+"""
+
+
 def triangle():
     """One triangle in one frame."""
+    top = head("The version of the scene language. It is always the first line.", "The picture is 256 pixels wide and 256 pixels high.")
     color, corners, submit = draw(0, 0, (255, 200, 87), [(0, 0.6), (0.6928, -0.6), (-0.6928, -0.6)])
     return f"""\
 # One yellow triangle on dark blue.
 # A line that begins with # is a comment. Empty lines are skipped too.
 
-# The version of the scene language. It is always the first line.
-scene 1
-# The picture is 256 pixels wide and 256 pixels high.
-size 256 256
-# One encoder records the draws.
-encoders 1
-
+{top}
 # Each `frame` line begins a new picture. This scene has one.
 frame
 # Things are made first. `corners` says what a vertex is: a position of two fixed numbers, x and y.
@@ -96,17 +103,12 @@ def depth_order():
     fir = "\n".join(draw(1, 0, (23, 74, 62), FIR))
     far = "\n".join(draw(0, 1, (205, 172, 190), FAR))
     middle = "\n".join(draw(0, 2, (138, 112, 150), MIDDLE))
+    top = head("The version of the scene language.", "Width and height of the picture, in pixels.")
     return f"""\
 # Three mountains and a fir. The draws stand in a mixed order in this text.
 # What is in front of what is decided by views and depths.
 
-# The version of the scene language.
-scene 1
-# Width and height of the picture, in pixels.
-size 256 256
-# One encoder records the draws.
-encoders 1
-
+{top}
 # The one picture of this scene.
 frame
 # A vertex is two fixed numbers: x and y.
