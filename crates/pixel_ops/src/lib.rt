@@ -5,7 +5,7 @@ mod blending;
 mod depths;
 mod pixels;
 
-pub use blending::{blend, multiply};
+pub use blending::{Blending, blend, multiply};
 pub use depths::{depth_test, stencil_step};
 pub use pixels::{Pixel, Shaded, pixel_step};
 
