@@ -3,7 +3,7 @@ use Rattle.std.specs.Prelude.{◌≡◌, ℕ, if◌then◌else◌, true, false, 
 use Rattle.gfx_model.specs.Vertex.{Color}
 use Rattle.gfx_model.specs.Words.{write_mask, is_blended, color_source, color_destination, color_equation, alpha_source, alpha_destination, alpha_equation}
 use Rattle.gfx_model.specs.Pixel.{blend_channel, stored_channels}
-use Rattle.pixel_ops.specs.declared.blending.Blending.{Blending}
+use Rattle.pixel_ops.specs.declared.parts.Blending.{Blending}
 
 -- the parts are those of a state word
 pub record IsBlending (b : Blending) (state : ℕ) : Type 0 where
@@ -30,3 +30,10 @@ mixed_by b source stored =
 -- the channels of it whose write bit is set, and of the stored colour elsewhere
 abbrev pub stored_by : Blending → Color → Color → Color
 stored_by b source stored = stored_channels b.mask (mixed_by b source stored) stored
+
+-- the source by its alpha over the stored colour by what is left, in all channels
+abbrev pub over_by : Color → Color → Color
+over_by source stored =
+    let sa = slice_index source 3 in
+    let da = slice_index stored 3 in
+    map (λ k. blend_channel 5 6 0 false (slice_index source k) (slice_index stored k) sa da) (0 ∷ 1 ∷ 2 ∷ []) ++ blend_channel 5 6 0 true sa da sa da ∷ []

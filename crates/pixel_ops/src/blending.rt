@@ -1,8 +1,11 @@
 // Blending, and the channels that are written.
-ghost use Rattle.std.specs.Prelude.{◌≡◌, ◌<◌, if◌then◌else◌};
+ghost use Rattle.std.specs.Prelude.{◌≡◌, ◌<◌, if◌then◌else◌, ℕ, Bool, true, IsTrue};
+ghost use Rattle.gfx_model.specs.Words.{is_blended, write_mask, color_source, color_destination, color_equation, alpha_source, alpha_destination, alpha_equation};
+ghost use Rattle.pixel_ops.specs.Blended.{over_by};
 ghost use Rattle.gfx_model.specs.Number.{byte_product, is_bit_set};
 ghost use Rattle.gfx_model.specs.Pixel as model;
 
+use crate::parts::Blending;
 use gfx_words::StateWord;
 
 /// The product of two bytes as shares of 255, rounded to the nearest.
@@ -65,21 +68,51 @@ fn blended_channel(
     combined(equation, s, d, scaled_s, scaled_d)
 }
 
-/// How a draw's colours are blended and stored: the parts of its state word, to be decoded once a draw.
-#[derive(Clone, Copy)]
-pub struct Blending {
-    pub(crate) mask: u8,
-    pub(crate) blended: bool,
-    pub(crate) source: u8,
-    pub(crate) destination: u8,
-    pub(crate) equation: u8,
-    pub(crate) alpha_source: u8,
-    pub(crate) alpha_destination: u8,
-    pub(crate) alpha_equation: u8,
+/// Whether all channels are the source by its alpha over the stored colour by what is left, which is how most draws blend.
+fn is_over(state: &StateWord) -> bool
+    ensures blended { IsTrue result → is_blended state.now ≡ true }
+    ensures mask { IsTrue result → write_mask state.now ≡ 15 }
+    ensures source { IsTrue result → color_source state.now ≡ 5 }
+    ensures destination { IsTrue result → color_destination state.now ≡ 6 }
+    ensures equation { IsTrue result → color_equation state.now ≡ 0 }
+    ensures alpha_source { IsTrue result → alpha_source state.now ≡ 5 }
+    ensures alpha_destination { IsTrue result → alpha_destination state.now ≡ 6 }
+    ensures alpha_equation { IsTrue result → alpha_equation state.now ≡ 0 }
+{
+    state.blended()
+        && state.write_mask() == 15
+        && state.color_source() == 5
+        && state.color_destination() == 6
+        && state.color_equation() == 0
+        && state.alpha_source() == 5
+        && state.alpha_destination() == 6
+        && state.alpha_equation() == 0
+}
+
+/// A channel of the source by an alpha, over the stored one by what is left.
+#[inline(always)]
+fn over_channel(s: u8, d: u8, sa: u8) -> u8
+    ensures { (is_alpha : Bool) (da : ℕ) → result ≡ model.blend_channel 5 6 0 is_alpha s d sa da }
+{
+    multiply(s, sa).saturating_add(multiply(d, 255 - sa))
+}
+
+/// The source over the stored colour.
+#[inline(always)]
+fn over(source: [u8; 4], stored: [u8; 4]) -> [u8; 4]
+    ensures { result ≡ over_by source stored }
+{
+    let sa = source[3];
+    [
+        over_channel(source[0], stored[0], sa),
+        over_channel(source[1], stored[1], sa),
+        over_channel(source[2], stored[2], sa),
+        over_channel(sa, stored[3], sa),
+    ]
 }
 
 impl Blending {
-    ghost use Rattle.std.specs.Prelude.{ℕ, true, false};
+    ghost use Rattle.std.specs.Prelude.{false};
     ghost use Rattle.pixel_ops.specs.Blended.{IsBlending, mixed_by, stored_by};
 
     /// The parts of a state word.
@@ -95,6 +128,7 @@ impl Blending {
             alpha_source: state.alpha_source(),
             alpha_destination: state.alpha_destination(),
             alpha_equation: state.alpha_equation(),
+            over: is_over(state),
         }
     }
 
@@ -154,6 +188,9 @@ impl Blending {
     pub fn stored(&self, source: [u8; 4], stored: [u8; 4]) -> [u8; 4]
         ensures { (state : ℕ) → IsBlending self.now state → result ≡ model.stored_color state source stored }
     {
+        if self.over {
+            return over(source, stored);
+        }
         let mixed = self.mixed(source, stored);
         [
             stored_channel(self.mask, 0, mixed[0], stored[0]),
