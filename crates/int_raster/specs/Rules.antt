@@ -6,7 +6,9 @@ use Rattle.tri_cover.specs.declared.triangles.Setup.{Setup}
 use Rattle.int_raster.specs.declared.lists.Prepared.{Prepared}
 use Rattle.int_raster.specs.Seen.{facing_seen}
 use Rattle.int_raster.specs.Painted.{IsOpaque}
+use Rattle.pixel_ops.specs.Blended.{IsBlending}
 use Rattle.int_raster.specs.declared.opaque.Rule.{Rule}
+use Rattle.int_raster.specs.declared.opaque.Mix.{Mix}
 
 abbrev pub by_order : Rule → ℕ → ℕ → Bool
 by_order r new stored = if nat_lt new stored then r.less else (if new == stored then r.equal else r.greater)
@@ -26,4 +28,10 @@ pub record IsOver (r : Rule) : Type 0 where
 pub record IsPlain (r : Rule) (d : Prepared) (s : Setup) : Type 0 where
   pub opaque : IsOpaque d.state
   pub rule : IsRule r d.state
+  pub plain : (facing_seen d s).stencil ≡ 0
+
+-- the depth test and the blending of a triangle without a stencil word
+pub record IsMix (m : Mix) (d : Prepared) (s : Setup) : Type 0 where
+  pub rule : IsRule m.rule d.state
+  pub blending : IsBlending m.blending d.state
   pub plain : (facing_seen d s).stencil ≡ 0

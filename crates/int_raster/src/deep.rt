@@ -6,21 +6,23 @@ ghost use Rattle.tri_cover.specs.Shown.{setup_seen};
 ghost use Rattle.int_raster.specs.Drawing.{prepared_step};
 ghost use Rattle.int_raster.specs.Places.{deep_pixels, spanned, by_place};
 ghost use Rattle.int_raster.specs.Painted.{PaintsSpan, HasSpanDepths, HasWideSpanDepths, Paints, HasDepths, HasWideDepths};
-ghost use Rattle.int_raster.specs.Rules.{IsPlain};
+ghost use Rattle.int_raster.specs.Rules.{IsPlain, IsMix};
 ghost use Rattle.int_raster.specs.Seen.{prepared_seen, step_seen, change_seen};
 
 use crate::columns::{drawn_columns, drawn_rows};
 use crate::deep_spans::{
-    fill, fill_wide, step_exactly, step_painted, store, store_shade, store_shade_wide, store_wide,
+    fill, fill_wide, mix_painted, step_exactly, step_painted, store, store_shade, store_shade_wide,
+    store_wide,
 };
 use crate::lists::Prepared;
-use crate::opaque::{Rule, rule_of};
+use crate::opaque::{Mix, Rule, rule_of};
 use crate::over::triangle_over;
 use crate::over_spans::is_over;
 use crate::overs::Over;
 use crate::painters::{Painter, depth_for, is_opaque, painter_for, painter_of};
 use crate::painting::stencil_of;
 use crate::spans::Span;
+use pixel_ops::Blending;
 use tri_cover::{Ramp, Setup, WideRamp};
 
 /// What draws a triangle's pixels.
@@ -67,6 +69,30 @@ fn wide_brush_of<'x>(
     Some(WideBrush { painter, depth })
 }
 
+/// Draws a span by a painter where fragments are not stored as they are painted.
+fn paint_mixed(
+    colors: &mut [[u8; 4]],
+    depths: &mut [[u8; 4]],
+    span: &Span,
+    painter: &Painter,
+    depth: &WideRamp,
+    mix: &Option<Mix>,
+    setup: &Setup,
+    draw: &Prepared,
+)
+    requires inside { span.now.y * span.now.width + span.now.width ≤ length colors.old }
+    requires same { length depths.old ≡ length colors.old }
+    requires paints { PaintsSpan painter.now draw.now setup.now span.now.y span.now.first span.now.after }
+    requires depths { HasWideSpanDepths depth.now setup.now span.now.y span.now.first span.now.after }
+    requires mix { IfSome mix.now (λ m. IsMix m draw.now setup.now) }
+    ensures { deep_pixels colors.new depths.new ≡ map_from (spanned (by_place span.now.width (step_seen draw.now setup.now)) (span.now.y * span.now.width + span.now.first) (span.now.y * span.now.width + span.now.after)) 0 (deep_pixels colors.old depths.old) }
+{
+    match mix {
+        Some(mix) => mix_painted(colors, depths, span, painter, depth, mix, setup, draw),
+        None => step_painted(colors, depths, span, painter, depth, setup, draw),
+    }
+}
+
 /// Draws a span with a brush.
 fn paint(
     colors: &mut [[u8; 4]],
@@ -74,6 +100,7 @@ fn paint(
     span: &Span,
     brush: &Brush,
     rule: &Option<Rule>,
+    mix: &Option<Mix>,
     setup: &Setup,
     draw: &Prepared,
 )
@@ -82,6 +109,7 @@ fn paint(
     requires paints { PaintsSpan brush.now.painter draw.now setup.now span.now.y span.now.first span.now.after }
     requires depths { HasSpanDepths brush.now.depth setup.now span.now.y span.now.first span.now.after }
     requires rule { IfSome rule.now (λ r. IsPlain r draw.now setup.now) }
+    requires mix { IfSome mix.now (λ m. IsMix m draw.now setup.now) }
     ensures { deep_pixels colors.new depths.new ≡ map_from (spanned (by_place span.now.width (step_seen draw.now setup.now)) (span.now.y * span.now.width + span.now.first) (span.now.y * span.now.width + span.now.after)) 0 (deep_pixels colors.old depths.old) }
 {
     match rule {
@@ -119,7 +147,16 @@ fn paint(
         },
         None => {
             let depth = brush.depth.wide_depth();
-            step_painted(colors, depths, span, &brush.painter, &depth, setup, draw)
+            paint_mixed(
+                colors,
+                depths,
+                span,
+                &brush.painter,
+                &depth,
+                mix,
+                setup,
+                draw,
+            )
         }
     }
 }
@@ -131,6 +168,7 @@ fn paint_wide(
     span: &Span,
     brush: &WideBrush,
     rule: &Option<Rule>,
+    mix: &Option<Mix>,
     setup: &Setup,
     draw: &Prepared,
 )
@@ -139,6 +177,7 @@ fn paint_wide(
     requires paints { PaintsSpan brush.now.painter draw.now setup.now span.now.y span.now.first span.now.after }
     requires depths { HasWideSpanDepths brush.now.depth setup.now span.now.y span.now.first span.now.after }
     requires rule { IfSome rule.now (λ r. IsPlain r draw.now setup.now) }
+    requires mix { IfSome mix.now (λ m. IsMix m draw.now setup.now) }
     ensures { deep_pixels colors.new depths.new ≡ map_from (spanned (by_place span.now.width (step_seen draw.now setup.now)) (span.now.y * span.now.width + span.now.first) (span.now.y * span.now.width + span.now.after)) 0 (deep_pixels colors.old depths.old) }
 {
     let depth = &brush.depth;
@@ -152,7 +191,16 @@ fn paint_wide(
             ),
             painter => store_wide(colors, depths, span, painter, depth, rule, setup, draw),
         },
-        None => step_painted(colors, depths, span, &brush.painter, depth, setup, draw),
+        None => paint_mixed(
+            colors,
+            depths,
+            span,
+            &brush.painter,
+            depth,
+            mix,
+            setup,
+            draw,
+        ),
     }
 }
 
@@ -163,6 +211,7 @@ fn draw_wide(
     span: &Span,
     brush: &Option<WideBrush>,
     rule: &Option<Rule>,
+    mix: &Option<Mix>,
     setup: &Setup,
     draw: &Prepared,
 )
@@ -172,10 +221,11 @@ fn draw_wide(
     requires paints { IfSome brush.now (λ b. PaintsSpan b.painter draw.now setup.now span.now.y span.now.first span.now.after) }
     requires depths { IfSome brush.now (λ b. HasWideSpanDepths b.depth setup.now span.now.y span.now.first span.now.after) }
     requires rule { IfSome rule.now (λ r. IsPlain r draw.now setup.now) }
+    requires mix { IfSome mix.now (λ m. IsMix m draw.now setup.now) }
     ensures { deep_pixels colors.new depths.new ≡ map_from (spanned (by_place span.now.width (step_seen draw.now setup.now)) (span.now.y * span.now.width + span.now.first) (span.now.y * span.now.width + span.now.after)) 0 (deep_pixels colors.old depths.old) }
 {
     match brush {
-        Some(brush) => paint_wide(colors, depths, span, brush, rule, setup, draw),
+        Some(brush) => paint_wide(colors, depths, span, brush, rule, mix, setup, draw),
         None => step_exactly(colors, depths, span, setup, draw),
     }
 }
@@ -188,6 +238,7 @@ fn draw_span(
     brush: &Option<Brush>,
     wide: &Option<WideBrush>,
     rule: &Option<Rule>,
+    mix: &Option<Mix>,
     setup: &Setup,
     draw: &Prepared,
 )
@@ -199,11 +250,12 @@ fn draw_span(
     requires wide_paints { IfSome wide.now (λ b. PaintsSpan b.painter draw.now setup.now span.now.y span.now.first span.now.after) }
     requires wide_depths { IfSome wide.now (λ b. HasWideSpanDepths b.depth setup.now span.now.y span.now.first span.now.after) }
     requires rule { IfSome rule.now (λ r. IsPlain r draw.now setup.now) }
+    requires mix { IfSome mix.now (λ m. IsMix m draw.now setup.now) }
     ensures { deep_pixels colors.new depths.new ≡ map_from (spanned (by_place span.now.width (step_seen draw.now setup.now)) (span.now.y * span.now.width + span.now.first) (span.now.y * span.now.width + span.now.after)) 0 (deep_pixels colors.old depths.old) }
 {
     match brush {
-        Some(brush) => paint(colors, depths, span, brush, rule, setup, draw),
-        None => draw_wide(colors, depths, span, wide, rule, setup, draw),
+        Some(brush) => paint(colors, depths, span, brush, rule, mix, setup, draw),
+        None => draw_wide(colors, depths, span, wide, rule, mix, setup, draw),
     }
 }
 
@@ -216,6 +268,19 @@ fn plain_rule(setup: &Setup, draw: &Prepared) -> Option<Rule>
     } else {
         None
     }
+}
+
+/// The depth test and the blending of a triangle that has no rule of its own; none where it has a stencil word.
+fn mix_of(rule: &Option<Rule>, setup: &Setup, draw: &Prepared) -> Option<Mix>
+    ensures { IfSome result (λ m. IsMix m draw.now setup.now) }
+{
+    if rule.is_some() || stencil_of(draw, setup).word() != 0 {
+        return None;
+    }
+    Some(Mix {
+        rule: rule_of(&draw.state),
+        blending: Blending::new(&draw.state),
+    })
 }
 
 /// Draws a triangle pixel by pixel with its depth.
@@ -236,6 +301,7 @@ fn triangle_tested(
 {
     let brush = brush_of(setup, draw, width, height);
     let wide = wide_brush_of(setup, draw, width, height, &brush);
+    let mix = mix_of(rule, setup, draw);
     let (top, bottom) = drawn_rows(setup, &draw.cut, height);
     let mut sides = setup.sides(top);
     for y in top..bottom {
@@ -246,7 +312,9 @@ fn triangle_tested(
             first,
             after,
         };
-        draw_span(colors, depths, &span, &brush, &wide, rule, setup, draw);
+        draw_span(
+            colors, depths, &span, &brush, &wide, rule, &mix, setup, draw,
+        );
         sides = setup.next_sides(sides, y);
     }
 }

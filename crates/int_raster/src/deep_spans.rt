@@ -6,11 +6,11 @@ ghost use Rattle.gfx_model.specs.World.{painted};
 ghost use Rattle.tri_cover.specs.Shown.{setup_seen};
 ghost use Rattle.int_raster.specs.Places.{deep_pixels, spanned, by_place};
 ghost use Rattle.int_raster.specs.Painted.{shade_at, PaintsSpan, HasSpanDepths, HasWideSpanDepths};
-ghost use Rattle.int_raster.specs.Rules.{IsPlain};
+ghost use Rattle.int_raster.specs.Rules.{IsPlain, IsMix};
 ghost use Rattle.int_raster.specs.Seen.{paint_seen, step_seen};
 
 use crate::lists::Prepared;
-use crate::opaque::{Rule, stored_after};
+use crate::opaque::{Mix, Rule, mixed_after, stored_after};
 use crate::painters::{Painter, Shade, color_at, value_at, wide_value_at};
 use crate::painting::{stepped, stepped_by};
 use crate::spans::Span;
@@ -103,6 +103,38 @@ pub(crate) fn step_painted(
         let painted = after.color;
         colors[start + x as usize] = painted;
         depths[start + x as usize] = depth_texel(&after);
+    }
+}
+
+/// Blends or masks a painter's colours in a span where their depths pass.
+pub(crate) fn mix_painted(
+    colors: &mut [[u8; 4]],
+    depths: &mut [[u8; 4]],
+    span: &Span,
+    painter: &Painter,
+    depth: &WideRamp,
+    mix: &Mix,
+    setup: &Setup,
+    draw: &Prepared,
+)
+    requires inside { span.now.y * span.now.width + span.now.width ≤ length colors.old }
+    requires same { length depths.old ≡ length colors.old }
+    requires mix { IsMix mix.now draw.now setup.now }
+    requires paints { PaintsSpan painter.now draw.now setup.now span.now.y span.now.first span.now.after }
+    requires depths { HasWideSpanDepths depth.now setup.now span.now.y span.now.first span.now.after }
+    ensures { deep_pixels colors.new depths.new ≡ map_from (spanned (by_place span.now.width (step_seen draw.now setup.now)) (span.now.y * span.now.width + span.now.first) (span.now.y * span.now.width + span.now.after)) 0 (deep_pixels colors.old depths.old) }
+{
+    let start = span.y as usize * span.width as usize;
+    let mut new = wide_value_at(depth, span.first, span.y);
+    for x in span.first..span.after {
+        let old = colors[start + x as usize];
+        let word = depth_word(depths[start + x as usize]);
+        let color = color_at(painter, x, span.y);
+        let after = mixed_after(old, word, color, (new >> 104) as u32, mix);
+        let painted = after.color;
+        colors[start + x as usize] = painted;
+        depths[start + x as usize] = word_texel(after.word);
+        new = new.wrapping_add(depth.right);
     }
 }
 

@@ -12,9 +12,9 @@ ghost use Rattle.int_raster.specs.Seen.{paint_seen, prepared_seen, step_seen, ch
 use crate::columns::{drawn_columns, drawn_rows};
 use crate::lists::Prepared;
 use crate::painters::{Painter, Shade, color_at, is_opaque, painter_of, value_at, whole};
-use crate::painting::{stepped, stepped_by};
+use crate::painting::stepped;
 use crate::spans::Span;
-use pixel_ops::Pixel;
+use pixel_ops::{Blending, Pixel};
 use tri_cover::Setup;
 
 /// Steps the pixels of a span by the exact means at each.
@@ -32,8 +32,8 @@ pub(crate) fn step_exactly(colors: &mut [[u8; 4]], span: &Span, setup: &Setup, d
     }
 }
 
-/// Steps the pixels of a span by a painter's colours.
-fn step_painted(
+/// Blends or masks a painter's colours in a span.
+fn mix_painted(
     colors: &mut [[u8; 4]],
     span: &Span,
     painter: &Painter,
@@ -45,12 +45,11 @@ fn step_painted(
     ensures { flat_pixels colors.new ≡ map_from (spanned (by_place span.now.width (step_seen draw.now setup.now)) (span.now.y * span.now.width + span.now.first) (span.now.y * span.now.width + span.now.after)) 0 (flat_pixels colors.old) }
 {
     let start = span.y as usize * span.width as usize;
+    let blending = Blending::new(&draw.state);
     for x in span.first..span.after {
-        let color = colors[start + x as usize];
-        let shade = color_at(painter, x, span.y);
-        let after = stepped_by(Pixel { color, depth: None }, shade, 0, setup, draw);
-        let painted = after.color;
-        colors[start + x as usize] = painted;
+        let old = colors[start + x as usize];
+        let color = color_at(painter, x, span.y);
+        colors[start + x as usize] = blending.stored(color, old);
     }
 }
 
@@ -120,7 +119,7 @@ fn paint(colors: &mut [[u8; 4]], span: &Span, painter: &Painter, setup: &Setup, 
             _ => store(colors, span, painter, setup, draw),
         }
     } else {
-        step_painted(colors, span, painter, setup, draw);
+        mix_painted(colors, span, painter, setup, draw);
     }
 }
 

@@ -1,12 +1,13 @@
-// Draws that store all channels as they are painted, with a depth test and without a stencil.
+// Fragments that are stored without a stencil, by a depth test: as they are painted, or blended and masked.
 ghost use Rattle.std.specs.Prelude.{◌≡◌, ◌≤◌, ◌<◌, ◌%◌, ◌^◌, ◌+◌, ◌*◌, ◌/◌, ◌==◌, ◌&&◌, ◌||◌, ℕ, nat_lt, if◌then◌else◌, Some};
 ghost use Rattle.gfx_model.specs.Pixel.{pixel_step as model_step};
 ghost use Rattle.int_raster.specs.Painted.{IsOpaque, bytes_of};
 ghost use Rattle.int_raster.specs.Rules.{IsRule};
+ghost use Rattle.pixel_ops.specs.Blended.{IsBlending};
 
 use crate::painters::whole;
 use gfx_words::StateWord;
-use pixel_ops::depth_test;
+use pixel_ops::{Blending, depth_test};
 
 /// The depth test by the order of the new and the stored depth, and whether a depth that passes is stored.
 #[derive(Clone, Copy)]
@@ -22,6 +23,13 @@ pub(crate) struct Rule {
 pub(crate) struct Stored {
     pub color: [u8; 4],
     pub word: u32,
+}
+
+/// The depth test, and how colours are blended and stored where it passes.
+#[derive(Clone, Copy)]
+pub(crate) struct Mix {
+    pub rule: Rule,
+    pub blending: Blending,
 }
 
 pub(crate) fn rule_of(state: &StateWord) -> Rule
@@ -106,5 +114,20 @@ pub(crate) fn stored_after(
     Stored {
         color: kept_color(pass, whole(color), old),
         word: kept_word(both(pass, rule.writes), depth, word),
+    }
+}
+
+/// What is stored after a fragment of a colour and a depth that is blended or masked.
+#[inline(always)]
+pub(crate) fn mixed_after(old: [u8; 4], word: u32, color: [u8; 4], depth: u32, mix: &Mix) -> Stored
+    requires { depth ≤ 16777215 }
+    ensures { (state : ℕ) → IsRule mix.now.rule state → IsBlending mix.now.blending state →
+        record { color = result.color; depth = Some result.word } ≡ model_step (record { color = old; depth = Some word }) (record { color = color; depth = depth }) state 0 }
+{
+    let pass = passes(&mix.rule, depth, depth_of(word));
+    let mixed = mix.blending.stored(color, old);
+    Stored {
+        color: kept_color(pass, mixed, old),
+        word: kept_word(both(pass, mix.rule.writes), depth, word),
     }
 }

@@ -1,11 +1,15 @@
 // Blending, and the channels that are written.
-ghost use Rattle.std.specs.Prelude.{◌≡◌, ◌<◌, if◌then◌else◌};
+ghost use Rattle.std.specs.Prelude.{◌≡◌, ◌<◌, if◌then◌else◌, ℕ, Bool, true, IsTrue};
+ghost use Rattle.gfx_model.specs.Words.{is_blended, write_mask, color_source, color_destination, color_equation, alpha_source, alpha_destination, alpha_equation};
+ghost use Rattle.pixel_ops.specs.Blended.{over_by};
 ghost use Rattle.gfx_model.specs.Number.{byte_product, is_bit_set};
 ghost use Rattle.gfx_model.specs.Pixel as model;
 
+use crate::parts::Blending;
 use gfx_words::StateWord;
 
 /// The product of two bytes as shares of 255, rounded to the nearest.
+#[inline(always)]
 pub fn multiply(a: u8, b: u8) -> u8
     ensures { result ≡ byte_product a b }
 {
@@ -13,6 +17,7 @@ pub fn multiply(a: u8, b: u8) -> u8
 }
 
 /// A factor's value for one channel: s and d are the channel of source and stored colour, sa and da their alphas.
+#[inline(always)]
 fn factor_value(factor: u8, is_alpha: bool, s: u8, d: u8, sa: u8, da: u8) -> u8
     ensures { result ≡ model.factor_value factor is_alpha s d sa da }
 {
@@ -31,6 +36,7 @@ fn factor_value(factor: u8, is_alpha: bool, s: u8, d: u8, sa: u8, da: u8) -> u8
     }
 }
 
+#[inline(always)]
 fn combined(equation: u8, s: u8, d: u8, scaled_s: u8, scaled_d: u8) -> u8
     ensures { result ≡ model.combine equation s d scaled_s scaled_d }
 {
@@ -44,6 +50,7 @@ fn combined(equation: u8, s: u8, d: u8, scaled_s: u8, scaled_d: u8) -> u8
 }
 
 /// One channel of the blended colour.
+#[inline(always)]
 fn blended_channel(
     source: u8,
     destination: u8,
@@ -61,34 +68,147 @@ fn blended_channel(
     combined(equation, s, d, scaled_s, scaled_d)
 }
 
-/// The source colour blended with the stored one. Without blending it is the source.
-pub fn blend(state: &StateWord, source: [u8; 4], stored: [u8; 4]) -> [u8; 4]
-    ensures { result ≡ model.blend state.now source stored }
+/// Whether all channels are the source by its alpha over the stored colour by what is left, which is how most draws blend.
+fn is_over(state: &StateWord) -> bool
+    ensures blended { IsTrue result → is_blended state.now ≡ true }
+    ensures mask { IsTrue result → write_mask state.now ≡ 15 }
+    ensures source { IsTrue result → color_source state.now ≡ 5 }
+    ensures destination { IsTrue result → color_destination state.now ≡ 6 }
+    ensures equation { IsTrue result → color_equation state.now ≡ 0 }
+    ensures alpha_source { IsTrue result → alpha_source state.now ≡ 5 }
+    ensures alpha_destination { IsTrue result → alpha_destination state.now ≡ 6 }
+    ensures alpha_equation { IsTrue result → alpha_equation state.now ≡ 0 }
 {
-    if !state.blended() {
-        return source;
-    }
-    let from = state.color_source();
-    let to = state.color_destination();
-    let equation = state.color_equation();
-    let (sa, da) = (source[3], stored[3]);
+    state.blended()
+        && state.write_mask() == 15
+        && state.color_source() == 5
+        && state.color_destination() == 6
+        && state.color_equation() == 0
+        && state.alpha_source() == 5
+        && state.alpha_destination() == 6
+        && state.alpha_equation() == 0
+}
+
+/// A channel of the source by an alpha, over the stored one by what is left.
+#[inline(always)]
+fn over_channel(s: u8, d: u8, sa: u8) -> u8
+    ensures { (is_alpha : Bool) (da : ℕ) → result ≡ model.blend_channel 5 6 0 is_alpha s d sa da }
+{
+    multiply(s, sa).saturating_add(multiply(d, 255 - sa))
+}
+
+/// The source over the stored colour.
+#[inline(always)]
+fn over(source: [u8; 4], stored: [u8; 4]) -> [u8; 4]
+    ensures { result ≡ over_by source stored }
+{
+    let sa = source[3];
     [
-        blended_channel(from, to, equation, false, source[0], stored[0], sa, da),
-        blended_channel(from, to, equation, false, source[1], stored[1], sa, da),
-        blended_channel(from, to, equation, false, source[2], stored[2], sa, da),
+        over_channel(source[0], stored[0], sa),
+        over_channel(source[1], stored[1], sa),
+        over_channel(source[2], stored[2], sa),
+        over_channel(sa, stored[3], sa),
+    ]
+}
+
+impl Blending {
+    ghost use Rattle.std.specs.Prelude.{false};
+    ghost use Rattle.pixel_ops.specs.Blended.{IsBlending, mixed_by, stored_by};
+
+    /// The parts of a state word.
+    pub fn new(state: &StateWord) -> Blending
+        ensures { IsBlending result state.now }
+    {
+        Blending {
+            mask: state.write_mask(),
+            blended: state.blended(),
+            source: state.color_source(),
+            destination: state.color_destination(),
+            equation: state.color_equation(),
+            alpha_source: state.alpha_source(),
+            alpha_destination: state.alpha_destination(),
+            alpha_equation: state.alpha_equation(),
+            over: is_over(state),
+        }
+    }
+
+    /// One channel of the colour.
+    #[inline(always)]
+    fn color_channel(&self, s: u8, d: u8, sa: u8, da: u8) -> u8
+        ensures { result ≡ model.blend_channel self.now.source self.now.destination self.now.equation false s d sa da }
+    {
         blended_channel(
-            state.alpha_source(),
-            state.alpha_destination(),
-            state.alpha_equation(),
+            self.source,
+            self.destination,
+            self.equation,
+            false,
+            s,
+            d,
+            sa,
+            da,
+        )
+    }
+
+    /// The alpha.
+    #[inline(always)]
+    fn alpha_channel(&self, sa: u8, da: u8) -> u8
+        ensures { result ≡ model.blend_channel self.now.alpha_source self.now.alpha_destination self.now.alpha_equation true sa da sa da }
+    {
+        blended_channel(
+            self.alpha_source,
+            self.alpha_destination,
+            self.alpha_equation,
             true,
             sa,
             da,
             sa,
             da,
-        ),
-    ]
+        )
+    }
+
+    #[inline(always)]
+    fn mixed(&self, source: [u8; 4], stored: [u8; 4]) -> [u8; 4]
+        ensures { result ≡ mixed_by self.now source stored }
+    {
+        if !self.blended {
+            return source;
+        }
+        let (sa, da) = (source[3], stored[3]);
+        [
+            self.color_channel(source[0], stored[0], sa, da),
+            self.color_channel(source[1], stored[1], sa, da),
+            self.color_channel(source[2], stored[2], sa, da),
+            self.alpha_channel(sa, da),
+        ]
+    }
+
+    /// The colour that a pixel keeps: the channels of the blended colour whose write bit is set, and the stored ones
+    /// elsewhere.
+    #[inline(always)]
+    pub fn stored(&self, source: [u8; 4], stored: [u8; 4]) -> [u8; 4]
+        ensures { (state : ℕ) → IsBlending self.now state → result ≡ model.stored_color state source stored }
+    {
+        if self.over {
+            return over(source, stored);
+        }
+        let mixed = self.mixed(source, stored);
+        [
+            stored_channel(self.mask, 0, mixed[0], stored[0]),
+            stored_channel(self.mask, 1, mixed[1], stored[1]),
+            stored_channel(self.mask, 2, mixed[2], stored[2]),
+            stored_channel(self.mask, 3, mixed[3], stored[3]),
+        ]
+    }
 }
 
+/// The source colour blended with the stored one. Without blending it is the source.
+pub fn blend(state: &StateWord, source: [u8; 4], stored: [u8; 4]) -> [u8; 4]
+    ensures { result ≡ model.blend state.now source stored }
+{
+    Blending::new(state).mixed(source, stored)
+}
+
+#[inline(always)]
 fn stored_channel(mask: u8, bit: u8, new: u8, stored: u8) -> u8
     requires { bit < 4 }
     ensures { result ≡ (if is_bit_set mask bit then new else stored) }
@@ -96,16 +216,9 @@ fn stored_channel(mask: u8, bit: u8, new: u8, stored: u8) -> u8
     if mask >> bit & 1 == 1 { new } else { stored }
 }
 
-/// The colour that a pixel keeps: the channels of the blended colour whose write bit is set, and the stored ones elsewhere.
+/// The colour that a pixel keeps.
 pub(crate) fn stored_color(state: &StateWord, source: [u8; 4], stored: [u8; 4]) -> [u8; 4]
     ensures { result ≡ model.stored_color state.now source stored }
 {
-    let blended = blend(state, source, stored);
-    let mask = state.write_mask();
-    [
-        stored_channel(mask, 0, blended[0], stored[0]),
-        stored_channel(mask, 1, blended[1], stored[1]),
-        stored_channel(mask, 2, blended[2], stored[2]),
-        stored_channel(mask, 3, blended[3], stored[3]),
-    ]
+    Blending::new(state).stored(source, stored)
 }

@@ -3,10 +3,12 @@
 
 mod blending;
 mod depths;
+mod parts;
 mod pixels;
 
 pub use blending::{blend, multiply};
 pub use depths::{depth_test, stencil_step};
+pub use parts::Blending;
 pub use pixels::{Pixel, Shaded, pixel_step};
 
 #[cfg(test)]

@@ -2,7 +2,7 @@ use Rattle.std.proofs.Common.{◌≡◌, ◌+◌, ◌*◌}
 use Rattle.gfx_model.specs.Number.{map_from}
 use Rattle.int_raster.specs.Places.{flat_pixels, spanned, by_place}
 use Rattle.int_raster.specs.Seen.{step_seen}
-use Rattle.int_raster.proofs.flat.step_painted.Given as goal
+use Rattle.int_raster.proofs.flat.mix_painted.Given as goal
 
 -- the pixels before the column are stepped
 abbrev pub invariant-loop-x : goal.invariant-loop-x

@@ -5,7 +5,7 @@ use Rattle.int_raster.specs.Places.{flat_pixel, flat_pixels, spanned, by_place}
 use Rattle.int_raster.specs.Seen.{step_seen}
 use Rattle.int_raster.proofs.Changes.{span_none}
 use Rattle.int_raster.proofs.Along.{flat_more}
-use Rattle.int_raster.proofs.flat.step_painted.Goals as goal
+use Rattle.int_raster.proofs.flat.mix_painted.Goals as goal
 
 pub loop-x-init : goal.loop-x-init
 loop-x-init c =
@@ -15,11 +15,11 @@ pub loop-x-preserved : goal.loop-x-preserved
 loop-x-preserved c =
     let s = c.args.span.now in
     let here : c.loop-x.x < s.after = c.loop-x-test.true in
-    flat_more (step_seen c.args.draw.now c.args.setup.now) s.width s.y s.first c.loop-x.x c.args.colors.now c.loop-x.colors c.stepped_by-after.result.color
+    flat_more (step_seen c.args.draw.now c.args.setup.now) s.width s.y s.first c.loop-x.x c.args.colors.now c.loop-x.colors c.stored.result
     c.loop-x.invariant c.loop-x.auto.x (omega (arith, here, s.within)) c.requires.inside
-    (ap (λ q. flat_pixel q.color) c.stepped_by-after.ensures
+    (ap flat_pixel (c.stored.ensures c.args.draw.now.state c.new-blending.ensures)
     ∙ ap (λ k. flat_pixel (stored_color c.args.draw.now.state k (slice_index_or c.loop-x.colors (s.y * s.width + c.loop-x.x) [])))
-    (c.color_at-shade.ensures ∙ c.requires.paints c.loop-x.x c.loop-x.auto.x here))
+    (c.color_at-color.ensures ∙ c.requires.paints c.loop-x.x c.loop-x.auto.x here))
 
 pub returns : goal.returns
 returns c =
