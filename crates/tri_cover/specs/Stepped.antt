@@ -1,5 +1,5 @@
 -- Weights that are stepped over a triangle's pixels.
-use Rattle.std.specs.Prelude.{◌≡◌, ℕ, ◌+◌, ◌≤◌, pos, ◌-ℤ◌, ◌*ℤ◌, unsigned_abs}
+use Rattle.std.specs.Prelude.{◌≡◌, ℕ, ◌+◌, ◌-◌, ◌*◌, ◌^◌, ◌≤◌, ℤ, pos, ◌+ℤ◌, ◌-ℤ◌, ◌*ℤ◌, unsigned_abs}
 use Rattle.gfx_model.specs.Vertex.{Triangle}
 use Rattle.gfx_model.specs.Raster.{ScreenVertex, edge, area}
 use Rattle.tri_cover.specs.declared.steps.Steps.{Steps}
@@ -20,3 +20,12 @@ pub record AreSteps (s : Steps) (t : Triangle ScreenVertex) : Type 0 where
 -- a pixel that so many steps reach
 abbrev pub IsNearby : Steps → ℕ → ℕ → Type 0
 IsNearby s x y = 1 + unsigned_abs (pos x -ℤ pos s.x) + unsigned_abs (pos y -ℤ pos s.y) ≤ s.most
+
+-- so many bits of fraction are enough for the mean of 0 and two values: for the steps made, for the weights' sum, and for
+-- the values at the pixel and per column and row
+pub record HasRoom (s : Steps) (v w : ℤ) (bits : ℕ) : Type 0 where
+  pub fine : 4 * s.most * s.inverse.divisor ≤ 2 ^ bits
+  pub few : s.inverse.scale - bits ≤ 62
+  pub at : unsigned_abs (s.at.b *ℤ v +ℤ s.at.c *ℤ w) ≤ 2 ^ (s.inverse.scale - bits)
+  pub right : unsigned_abs (s.right.b *ℤ v +ℤ s.right.c *ℤ w) ≤ 2 ^ (s.inverse.scale - bits)
+  pub down : unsigned_abs (s.down.b *ℤ v +ℤ s.down.c *ℤ w) ≤ 2 ^ (s.inverse.scale - bits)

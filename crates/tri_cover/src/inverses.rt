@@ -1,5 +1,5 @@
 // Quotients by one divisor, without a division for each.
-ghost use Rattle.std.specs.Prelude.{◌≡◌, ◌≤◌, ◌<◌, ◌^◌, ◌+◌, ◌-◌, ◌*◌, ℕ, pos, ◌*ℤ◌, unsigned_abs, IfSome};
+ghost use Rattle.std.specs.Prelude.{◌≡◌, ◌≤◌, ◌<◌, ◌^◌, ◌+◌, ◌-◌, ◌*◌, ℕ, pos, ◌*ℤ◌, unsigned_abs};
 ghost use Rattle.std.specs.Int.{int_div_euclid, int_rem_euclid};
 
 /// A divisor with a power of two by it.
@@ -21,6 +21,7 @@ fn scale_for(divisor: u64) -> u32
     requires { 0 < divisor }
     ensures few { 62 ≤ result }
     ensures many { result < 126 }
+    ensures close { 2 ^ result ≤ 2 ^ 62 * divisor }
 {
     125 - divisor.leading_zeros()
 }
@@ -69,8 +70,10 @@ fn power_by(scale: u32, divisor: u64) -> u128
     requires few { 62 ≤ scale }
     requires many { scale < 126 }
     requires positive { 0 < divisor }
+    requires close { 2 ^ scale ≤ 2 ^ 62 * divisor }
     ensures low { result * divisor ≤ 2 ^ scale }
     ensures high { 2 ^ scale < result * divisor + divisor }
+    ensures fits { result ≤ 2 ^ 62 }
 {
     if divisor < 1 << 32 && scale < 94 {
         short_quotient(scale - 62, divisor)
@@ -83,20 +86,15 @@ impl Inverse {
     ghost use Rattle.tri_cover.specs.Slope.{IsSlope};
 
     /// The inverse of a divisor, in 62 bits or so.
-    pub(crate) fn new(divisor: u64) -> Option<Inverse>
+    pub(crate) fn new(divisor: u64) -> Inverse
         requires { 0 < divisor }
-        ensures { IfSome result (λ r. r.divisor ≡ divisor) }
+        ensures { result.divisor ≡ divisor }
     {
         let scale = scale_for(divisor);
-        let inverse = power_by(scale, divisor);
-        if inverse < 1 << 63 {
-            Some(Inverse {
-                divisor,
-                scale,
-                inverse: inverse as u64,
-            })
-        } else {
-            None
+        Inverse {
+            divisor,
+            scale,
+            inverse: power_by(scale, divisor) as u64,
         }
     }
 

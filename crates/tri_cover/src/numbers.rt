@@ -1,5 +1,5 @@
 // Signed sums and products with the bounds that keep them from overflowing.
-ghost use Rattle.std.specs.Prelude.{◌≡◌, ◌≤◌, ◌<◌, ◌^◌, pos, ◌+ℤ◌, ◌-ℤ◌, ◌*ℤ◌, ◌<ℤ◌, unsigned_abs, IfSome};
+ghost use Rattle.std.specs.Prelude.{◌≡◌, ◌≤◌, ◌<◌, ◌^◌, pos, ◌+ℤ◌, ◌-ℤ◌, ◌*ℤ◌, ◌<ℤ◌, unsigned_abs, IfSome, IsSome};
 ghost use Rattle.std.specs.Int.{int_div_euclid};
 
 pub(crate) fn difference(a: i32, b: i32) -> i64
@@ -98,6 +98,7 @@ pub(crate) fn pair_sum(q: i64, r: i64, v: i64, w: i64) -> i128
 pub(crate) fn limited(z: i64, limit: u64) -> Option<i64>
     ensures value { IfSome result (λ r. r ≡ z) }
     ensures near { IfSome result (λ r. unsigned_abs r ≤ limit) }
+    ensures some { unsigned_abs z ≤ limit → IsSome result }
 {
     if z.unsigned_abs() <= limit {
         Some(z)
@@ -111,6 +112,7 @@ pub(crate) fn wide_limited(z: i128, limit: u64) -> Option<i64>
     requires { limit ≤ 2 ^ 62 }
     ensures value { IfSome result (λ r. r ≡ z) }
     ensures near { IfSome result (λ r. unsigned_abs r ≤ limit) }
+    ensures some { unsigned_abs z ≤ limit → IsSome result }
 {
     if z.unsigned_abs() <= limit as u128 {
         Some(z as i64)

@@ -1,5 +1,5 @@
 // The weights of a triangle's corners, stepped by columns and rows.
-ghost use Rattle.std.specs.Prelude.{◌≡◌, ◌≤◌, ◌<◌, ◌^◌, ◌+◌, ◌-◌, ◌*◌, ◌%◌, ◌/◌, true, ℕ, ℤ, pos, ◌+ℤ◌, ◌-ℤ◌, ◌*ℤ◌, unsigned_abs, IfSome, IsTrue};
+ghost use Rattle.std.specs.Prelude.{◌≡◌, ◌≤◌, ◌<◌, ◌^◌, ◌+◌, ◌-◌, ◌*◌, ◌%◌, ◌/◌, true, ℕ, ℤ, pos, ◌+ℤ◌, ◌-ℤ◌, ◌*ℤ◌, unsigned_abs, IfSome, IsSome, IsTrue};
 ghost use Rattle.std.specs.Int.{int_rem_euclid};
 
 use crate::inverses::{Inverse, low_bits, power, small_power};
@@ -67,6 +67,7 @@ fn sum_within(by: &Three, narrow: bool, v: i64, w: i64, limit: u64) -> Option<i6
     requires limit { limit ≤ 2 ^ 62 }
     ensures value { IfSome result (λ z. z ≡ by.now.b *ℤ v +ℤ by.now.c *ℤ w) }
     ensures near { IfSome result (λ z. unsigned_abs z ≤ limit) }
+    ensures some { unsigned_abs (by.now.b *ℤ v +ℤ by.now.c *ℤ w) ≤ limit → IsSome result }
 {
     if narrow {
         limited(narrow_sum(by.b, by.c, v, w), limit)
@@ -79,7 +80,8 @@ fn sum_within(by: &Three, narrow: bool, v: i64, w: i64, limit: u64) -> Option<i6
 fn is_fine(most: u64, divisor: u64, bits: u32) -> bool
     requires most { most < 2 ^ 18 }
     requires bits { bits ≤ 62 }
-    ensures { IsTrue result → 4 * most * divisor ≤ 2 ^ bits }
+    ensures exact { IsTrue result → 4 * most * divisor ≤ 2 ^ bits }
+    ensures fine { 4 * most * divisor ≤ 2 ^ bits → IsTrue result }
 {
     4 * most as u128 * divisor as u128 <= small_power(bits) as u128
 }
@@ -141,7 +143,7 @@ impl Steps {
     ghost use Rattle.gfx_model.specs.Vertex.{Triangle};
     ghost use Rattle.gfx_model.specs.Raster.{ScreenVertex, covers, weighted, weighted_number};
     ghost use Rattle.tri_cover.specs.Slope.{IsRamp, IsSamePlace, ramp_at};
-    ghost use Rattle.tri_cover.specs.Stepped.{AreSteps, IsNearby};
+    ghost use Rattle.tri_cover.specs.Stepped.{AreSteps, IsNearby, HasRoom};
 
     /// The mean of 0 and two values, with so many bits of fraction; none where these are too few.
     #[inline(always)]
@@ -149,7 +151,8 @@ impl Steps {
         requires v { unsigned_abs v < 2 ^ 32 }
         requires w { unsigned_abs w < 2 ^ 32 }
         requires bits { bits ≤ 62 }
-        ensures { IfSome result (λ r. (t : Triangle ScreenVertex) → AreSteps self.now t → (x y : ℕ) → IsNearby self.now x y → IsRamp r t (pos 0) v w (2 ^ bits) x y) }
+        ensures ramp { IfSome result (λ r. (t : Triangle ScreenVertex) → AreSteps self.now t → (x y : ℕ) → IsNearby self.now x y → IsRamp r t (pos 0) v w (2 ^ bits) x y) }
+        ensures some { HasRoom self.now v w bits → IsSome result }
     {
         let dropped = self.inverse.scale - bits;
         if dropped > 62 {
@@ -178,7 +181,8 @@ impl Steps {
         requires v { unsigned_abs v < 2 ^ 32 }
         requires w { unsigned_abs w < 2 ^ 32 }
         requires bits { bits ≤ 62 }
-        ensures { IfSome result (λ r. (t : Triangle ScreenVertex) → AreSteps self.now t → (x y : ℕ) → IsNearby self.now x y → IsRamp r t (pos 0) v w (2 ^ bits) x y) }
+        ensures ramp { IfSome result (λ r. (t : Triangle ScreenVertex) → AreSteps self.now t → (x y : ℕ) → IsNearby self.now x y → IsRamp r t (pos 0) v w (2 ^ bits) x y) }
+        ensures some { HasRoom self.now v w bits → IsSome result }
     {
         if is_zero(v) && is_zero(w) {
             return Some(Ramp {
@@ -200,35 +204,39 @@ impl Steps {
         requires far_v { unsigned_abs v < 2 ^ 32 }
         requires far_w { unsigned_abs w < 2 ^ 32 }
         requires bits { bits ≤ 62 }
-        ensures { IfSome result (λ r. (t : Triangle ScreenVertex) → AreSteps self.now t → (x y : ℕ) → IsNearby self.now x y → IsRamp r t u v w (2 ^ bits) x y) }
+        ensures ramp { IfSome result (λ r. (t : Triangle ScreenVertex) → AreSteps self.now t → (x y : ℕ) → IsNearby self.now x y → IsRamp r t u v w (2 ^ bits) x y) }
+        ensures some { HasRoom self.now (v -ℤ u) (w -ℤ u) bits → IsSome result }
     {
         let ramp = self.relative(v - u, w - u, bits)?;
         Some(raised(ramp, u, bits))
     }
 
-    /// The mean of three channels in the upper 8 bits; none where 64 bits are too few.
+    /// The mean of three channels in the upper 8 bits; some where 64 bits are enough.
     #[inline(always)]
     pub fn channel(&self, u: u8, v: u8, w: u8) -> Option<Ramp>
-        ensures { IfSome result (λ r. (t : Triangle ScreenVertex) → AreSteps self.now t → (x y : ℕ) → IsNearby self.now x y → covers t x y ≡ true → ramp_at r x y / 2 ^ 56 ≡ weighted_number t x y u v w) }
+        ensures ramp { IfSome result (λ r. (t : Triangle ScreenVertex) → AreSteps self.now t → (x y : ℕ) → IsNearby self.now x y → covers t x y ≡ true → ramp_at r x y / 2 ^ 56 ≡ weighted_number t x y u v w) }
+        ensures some { HasRoom self.now (pos v -ℤ pos u) (pos w -ℤ pos u) 53 → IsSome result }
     {
         Some(aligned(self.ramp(u as i64, v as i64, w as i64, 53)?))
     }
 
-    /// The mean of three depths in the upper 24 bits; none where 64 bits are too few.
+    /// The mean of three depths in the upper 24 bits; some where 64 bits are enough.
     #[inline(always)]
     pub fn depth(&self, u: u32, v: u32, w: u32) -> Option<Ramp>
         requires u { u ≤ 16777215 }
         requires v { v ≤ 16777215 }
         requires w { w ≤ 16777215 }
-        ensures { IfSome result (λ r. (t : Triangle ScreenVertex) → AreSteps self.now t → (x y : ℕ) → IsNearby self.now x y → covers t x y ≡ true → ramp_at r x y / 2 ^ 40 ≡ weighted_number t x y u v w) }
+        ensures ramp { IfSome result (λ r. (t : Triangle ScreenVertex) → AreSteps self.now t → (x y : ℕ) → IsNearby self.now x y → covers t x y ≡ true → ramp_at r x y / 2 ^ 40 ≡ weighted_number t x y u v w) }
+        ensures some { HasRoom self.now (pos v -ℤ pos u) (pos w -ℤ pos u) 37 → IsSome result }
     {
         Some(aligned(self.ramp(u as i64, v as i64, w as i64, 37)?))
     }
 
-    /// The mean of three texture positions modulo 65536 in the upper 16 bits; none where 64 bits are too few.
+    /// The mean of three texture positions modulo 65536 in the upper 16 bits; some where 64 bits are enough.
     #[inline(always)]
     pub fn place(&self, u: i32, v: i32, w: i32) -> Option<Ramp>
-        ensures { IfSome result (λ r. (t : Triangle ScreenVertex) → AreSteps self.now t → (x y : ℕ) → IsNearby self.now x y → covers t x y ≡ true → IsSamePlace (ramp_at r x y / 2 ^ 48) (weighted t x y u v w)) }
+        ensures ramp { IfSome result (λ r. (t : Triangle ScreenVertex) → AreSteps self.now t → (x y : ℕ) → IsNearby self.now x y → covers t x y ≡ true → IsSamePlace (ramp_at r x y / 2 ^ 48) (weighted t x y u v w)) }
+        ensures some { HasRoom self.now (v -ℤ u) (w -ℤ u) 45 → IsSome result }
     {
         Some(aligned(self.ramp(u as i64, v as i64, w as i64, 45)?))
     }

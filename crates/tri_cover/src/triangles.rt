@@ -234,18 +234,19 @@ impl Setup {
         (within(first, width), within(after, width))
     }
 
-    /// The steps of the corners' weights over a surface's covered pixels; none where the triangle has no room there.
+    /// The steps of the corners' weights over a surface's covered pixels; some where there is one.
     #[inline(always)]
     pub fn steps(&self, width: u16, height: u16) -> Option<Steps>
         ensures steps { IfSome result (λ s. AreSteps s (triangle_seen self.now.a self.now.b self.now.c)) }
         ensures nearby { IfSome result (λ s. (x y : ℕ) → x < width → y < height → covers (triangle_seen self.now.a self.now.b self.now.c) x y ≡ true → IsNearby s x y) }
+        ensures some { (x y : ℕ) → x < width → y < height → covers (triangle_seen self.now.a self.now.b self.now.c) x y ≡ true → IsSome result }
     {
         let (left, after) = self.columns(width);
         let (top, bottom) = self.rows(height);
         if after < left || bottom < top {
             return None;
         }
-        let inverse = Inverse::new(size(area(&self.a, &self.b, &self.c)))?;
+        let inverse = Inverse::new(size(area(&self.a, &self.b, &self.c)));
         let x = middle(self.a.x, self.b.x, self.c.x, left, after);
         let y = middle(self.a.y, self.b.y, self.c.y, top, bottom);
         let at = Three {

@@ -13,7 +13,7 @@ returns-in-Some c x y hx hy near covered =
     let v : FitsSigned w32 c.args.v = c.ranges.v in
     let w : FitsSigned w32 c.args.w = c.ranges.w in
     unit_part_same (wide_whole c.wide_place.result x y) (weighted t x y c.args.u c.args.v c.args.w)
-    (c.wide_place.ensures x y (weighted t x y c.args.u c.args.v c.args.w) (simp to_z-of_z at (c.in-Some.ensures t c.requires x y near covered)))
+    (c.wide_place.ensures x y (weighted t x y c.args.u c.args.v c.args.w) (simp to_z-of_z at (c.in-Some.ensures.ramp t c.requires x y near covered)))
 
 pub returns-in-None : goal.returns-in-None
 returns-in-None c x y hx hy near covered =

@@ -8,8 +8,8 @@ use Rattle.tri_cover.proofs.steps.Steps.slopes.Goals as goal
 with_zero : (a b c v w z : ℤ) → z ≡ b *ℤ v +ℤ c *ℤ w → z ≡ a *ℤ pos 0 +ℤ b *ℤ v +ℤ c *ℤ w
 with_zero a b c v w z h = omega (arith, ints, h, *ℤ-zero a)
 
-pub returns : goal.returns
-returns c t s x y near =
+pub returns-clause-ramp : goal.returns-clause-ramp
+returns-clause-ramp c t s x y near =
     let i = c.args.self.now in
     let a = i.at in
     let r = i.right in
@@ -30,5 +30,5 @@ returns c t s x y near =
     let st = start_is c.slope-at.result c.slope-right.result c.slope-down.result i.x i.y i.most in
     ramp_is t (pos 0) v w i.inverse.divisor (2 ^ c.args.bits) i.most i.x i.y x y a.a a.b a.c r.a r.b r.c d.a d.b d.c _ c.slope-at.result
     s.divisor i.inverse.positive s.at_a s.at_b s.at_c s.right_a s.right_b s.right_c s.down_a s.down_b s.down_c sa sb sc near
-    (c.is_fine.ensures c.if-not-is_fine.false)
+    (c.is_fine.ensures.exact c.if-not-is_fine.false)
     (st.0, ap (λ n. pos n +ℤ st.0 *ℤ pos (2 ^ 64)) c.started.ensures ∙ st.1)

@@ -23,7 +23,7 @@ returns-clause-steps c =
     let fa : FitsSigned w64 c.area.result = search rules in
     let whole : c.area.result ≡ area_spec (triangle_seen s.a s.b s.c) = c.area.ensures.value in
     record {
-      divisor = ap pos c.in_ok-inverse.ensures ∙ (simp to_z-of_z at c.size.ensures.value) ∙ whole;
+      divisor = ap pos c.new-inverse.ensures ∙ (simp to_z-of_z at c.size.ensures.value) ∙ whole;
       at_a = simp to_z-of_z c.weight.ensures.value;
       at_b = simp to_z-of_z c.weight-2.ensures.value;
       at_c = simp to_z-of_z c.weight-3.ensures.value;
@@ -58,3 +58,9 @@ invariant_of-result c =
       small_down_b = small.down_b;
       small_down_c = small.down_c;
     }
+
+pub returns-then-after-left-clause-some : goal.returns-then-after-left-clause-some
+returns-then-after-left-clause-some c x y bx by h =
+    let columns = c.columns-left.ensures.covered x y bx h in
+    let rows = c.rows-top.ensures.covered x y by h in
+    grind (arith, columns.0, columns.1, rows.0, rows.1)
