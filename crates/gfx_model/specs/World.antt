@@ -503,7 +503,7 @@ draw_on w view d = painted_by w view d (paint_of w view d (content_of w d.progra
 
 -- ---- the frame
 
--- an item and its number within the frame
+-- an item and its number
 pub record Numbered : Type 0 where
   pub number : ℕ
   pub item : Item
@@ -527,13 +527,13 @@ key_of_item vs number (draw_item d) =
 key_of_item vs number (touch_item t) = sort_key (view_at vs t.view).mode (position_of_view vs t.view) 0 511 0 number
 key_of_item vs number (blit_item b) = 0
 
--- an item of a sorted list of items with their keys, put before the first whose key is not less
-abbrev pub insert_by_key : (ℕ × Item) → List (ℕ × Item) → List (ℕ × Item)
+-- something with its key, put into an ascending list before the first whose key is not less
+abbrev pub insert_by_key : {A : Type 0} → (ℕ × A) → List (ℕ × A) → List (ℕ × A)
 insert_by_key x [] = x ∷ []
 insert_by_key x (y ∷ ys) = if nat_le x.0 y.0 then x ∷ y ∷ ys else y ∷ insert_by_key x ys
 
--- items ascending by key, at equal keys in their order
-abbrev pub sorted_by_key : List (ℕ × Item) → List (ℕ × Item)
+-- ascending by key, and at equal keys as they stood
+abbrev pub sorted_by_key : {A : Type 0} → List (ℕ × A) → List (ℕ × A)
 sorted_by_key [] = []
 sorted_by_key (x ∷ xs) = insert_by_key x (sorted_by_key xs)
 
