@@ -13,26 +13,41 @@ use std::marker::Model;
 
 // how many bits each field of a key has
 const POSITION_BITS: u32 = 9;
+
 const TYPE_BITS: u32 = 2;
+
 const BLEND_BITS: u32 = 2;
+
 const PROGRAM_BITS: u32 = 9;
+
 const DEPTH_BITS: u32 = 32;
+
 const NUMBER_BITS: u32 = 19;
 
 // the lowest bits of the position, of the 1 of draws and touches, and of the type
 const POSITION: u32 = 64 - POSITION_BITS;
+
 const DRAW: u32 = POSITION - 1;
+
 const TYPE: u32 = DRAW - TYPE_BITS;
 
 // the lowest bits of the fields of a type, one below the other
 const BLEND_BY_PROGRAM: u32 = TYPE - BLEND_BITS;
+
 const PROGRAM_BY_PROGRAM: u32 = BLEND_BY_PROGRAM - PROGRAM_BITS;
+
 const DEPTH_BY_PROGRAM: u32 = PROGRAM_BY_PROGRAM - DEPTH_BITS;
+
 const DEPTH_BY_DEPTH: u32 = TYPE - DEPTH_BITS;
+
 const BLEND_BY_DEPTH: u32 = DEPTH_BY_DEPTH - BLEND_BITS;
+
 const PROGRAM_BY_DEPTH: u32 = BLEND_BY_DEPTH - PROGRAM_BITS;
+
 const NUMBER_BY_NUMBER: u32 = TYPE - NUMBER_BITS;
+
 const BLEND_BY_NUMBER: u32 = NUMBER_BY_NUMBER - BLEND_BITS;
+
 const PROGRAM_BY_NUMBER: u32 = BLEND_BY_NUMBER - PROGRAM_BITS;
 
 /// The fields of a key; one that the mode's key does not hold is 0.
@@ -123,9 +138,7 @@ fn low_bits(key: KeyFields) -> u64
         0 => (blend << BLEND_BY_PROGRAM)
             + (program << PROGRAM_BY_PROGRAM)
             + (depth << DEPTH_BY_PROGRAM),
-        1 => (depth << DEPTH_BY_DEPTH)
-            + (blend << BLEND_BY_DEPTH)
-            + (program << PROGRAM_BY_DEPTH),
+        1 => (depth << DEPTH_BY_DEPTH) + (blend << BLEND_BY_DEPTH) + (program << PROGRAM_BY_DEPTH),
         _ => ((key.number as u64) << NUMBER_BY_NUMBER)
             + (blend << BLEND_BY_NUMBER)
             + (program << PROGRAM_BY_NUMBER),
