@@ -2,12 +2,12 @@
 ghost use Rattle.std.specs.Prelude.{◌≡◌, ◌≢◌, ◌+◌, ◌*◌, ◌<◌, ◌≤◌, true, false, length, map, Some, None, IfOk, IfSome, IsOk, IsSome, MatchOption, MatchResult, option_map, is_some};
 ghost use Rattle.std.specs.Option.{option_and_then};
 ghost use Rattle.gfx_model.specs.Raster as raster;
-ghost use Rattle.gfx_model.specs.Resources.{first_refusal, wrong_kind};
+ghost use Rattle.gfx_model.specs.Resources.{first_refusal, wrong_kind, texels_from};
 ghost use Rattle.gfx_model.specs.World.{with_texels_in};
 ghost use Rattle.gfx_words.specs.Seen.{format_seen, refusal_seen};
 ghost use Rattle.fix_math.specs.Seen.{rect_seen, texels_seen};
 ghost use Rattle.store_model.specs.Slots.{at, filled_at, emptied_at, changed_at};
-ghost use Rattle.store_model.specs.Textures.{no_textures, texels_at as texels_in_store, new_texture, source_texels, create_refusals, update_refusals, changed_texels, copied_region, can_attach_at, destroyed, attached_texels, target_texels, target_out, attached_back, IsOutAt};
+ghost use Rattle.store_model.specs.Textures.{no_textures, texels_at as texels_in_store, new_texture, create_refusals, update_refusals, changed_texels, copied_region, can_attach_at, destroyed, attached_texels, target_texels, target_out, attached_back, IsOutAt};
 ghost use Rattle.texture_store.specs.Seen.{source_seen, region_seen, target_seen, sides_seen};
 
 use crate::pictures::made;
@@ -72,7 +72,7 @@ impl TextureStore {
         requires free { at self.old.textures index ≡ None }
         ensures { let refusal = first_refusal (create_refusals width height (source_seen source)) in
             MatchResult result
-            (λ _. (refusal ≡ None) × (self.new ≡ record self.old { textures = filled_at index (new_texture (format_seen format) (source_texels width height (source_seen source))) self.old.textures }))
+            (λ _. (refusal ≡ None) × (self.new ≡ record self.old { textures = filled_at index (new_texture (format_seen format) (texels_from width height (source_seen source))) self.old.textures }))
             (λ r. (refusal_seen r ≡ refusal) × (self.new ≡ self.old)) }
     {
         let texels = made(self.alloc, width, height, source)?;
