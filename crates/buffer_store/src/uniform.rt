@@ -3,8 +3,9 @@ ghost use Rattle.std.specs.Prelude.{◌≡◌, length, Some, None, IfSome, IsSom
 ghost use Rattle.std.specs.Option.{option_and_then};
 ghost use Rattle.store_model.specs.Slots.{at, changed_at};
 ghost use Rattle.gfx_model.specs.Words.{value_kind, is_uniform_kind};
+ghost use Rattle.gfx_model.specs.Resources.{zero_value};
 ghost use Rattle.gfx_words.specs.Seen.{uniform_seen, value_seen};
-ghost use Rattle.store_model.specs.Buffers.{new_uniform, with_slot_value, zeros as zeros_of, newest_slot, is_named as is_named_of, better as better_of, newer as newer_of};
+ghost use Rattle.store_model.specs.Buffers.{new_uniform, with_slot_value, newest_slot, is_named as is_named_of, better as better_of, newer as newer_of};
 
 use gfx_words::{UniformKind, UniformValue};
 use slot_row::Row;
@@ -28,7 +29,7 @@ impl Model for Uniform {
 }
 
 fn zeros(kind: UniformKind) -> UniformValue
-    ensures { value_seen result ≡ zeros_of (uniform_seen kind) }
+    ensures { value_seen result ≡ zero_value (uniform_seen kind) }
 {
     match kind {
         UniformKind::Vec4 => UniformValue::Vec4([0; 4]),

@@ -2,5 +2,4 @@ pub mod BlockLaws
 pub mod RowLaws
 pub mod CutLaws
 pub mod TextureLaws
-pub mod AttachLaws
 pub mod TakeLaws

@@ -1,10 +1,10 @@
 // Texels of one texture changed.
 ghost use Rattle.std.specs.Prelude.{◌≡◌, ◌+◌, ◌-◌, ◌*◌, ◌≤◌, length, min, true, None, IfOk, MatchResult};
-ghost use Rattle.gfx_model.specs.Resources.{first_refusal, is_size as is_size_of, source_fits as fits_of};
+ghost use Rattle.gfx_model.specs.Resources.{first_refusal, is_size as is_size_of, source_fits as fits_of, texels_from};
 ghost use Rattle.gfx_words.specs.Seen.{refusal_seen};
 ghost use Rattle.gfx_model.specs.World.{with_texels_in};
 ghost use Rattle.fix_math.specs.Seen.{rect_seen, texels_seen};
-ghost use Rattle.store_model.specs.Textures.{copied_region, create_refusals, source_texels};
+ghost use Rattle.store_model.specs.Textures.{copied_region, create_refusals};
 ghost use Rattle.texture_store.specs.Seen.{region_seen, source_seen, cut_seen, cut_copied};
 
 use crate::rows::{Cut, copy_rows, texels_of, write_rows};
@@ -106,7 +106,7 @@ pub(crate) fn made(
 ) -> Result<Texels, Refusal>
     ensures { let refusal = first_refusal (create_refusals width height (source_seen source)) in
         MatchResult result
-        (λ texels. (refusal ≡ None) × (texels_seen texels ≡ source_texels width height (source_seen source)))
+        (λ texels. (refusal ≡ None) × (texels_seen texels ≡ texels_from width height (source_seen source)))
         (λ r. refusal_seen r ≡ refusal) }
 {
     if !is_size(width) || !is_size(height) || !source_fits(width, height, &source) {
@@ -122,7 +122,7 @@ fn made_of(alloc: Global, width: u16, height: u16, source: TexSource) -> Result<
     requires wide { is_size_of width ≡ true }
     requires high { is_size_of height ≡ true }
     requires enough { fits_of width height (source_seen source) ≡ true }
-    ensures { IfOk result (λ texels. texels_seen texels ≡ source_texels width height (source_seen source)) }
+    ensures { IfOk result (λ texels. texels_seen texels ≡ texels_from width height (source_seen source)) }
 {
     match source {
         TexSource::Fill(color) => Texels::filled(alloc, width, height, color),

@@ -2,7 +2,7 @@
 ghost use Rattle.std.specs.Prelude.{◌≡◌, ◌≢◌, ◌+◌, ◌*◌, ◌≤◌, length, true, None, option_map, IfSome, IsOk, IsSome, MatchOption, MatchResult, is_some};
 ghost use Rattle.std.specs.Option.{option_and_then};
 ghost use Rattle.gfx_model.specs.World.{with_texels_in};
-ghost use Rattle.gfx_words.specs.Seen.{format_seen, refusal_seen};
+ghost use Rattle.gfx_words.specs.Seen.{format_seen, IsFirstRefusal};
 ghost use Rattle.gfx_model.specs.Resources.{first_refusal, same_sides as same_sides_of};
 ghost use Rattle.fix_math.specs.Seen.{rect_seen, texels_seen};
 ghost use Rattle.store_model.specs.Slots.{at, changed_at};
@@ -144,7 +144,7 @@ fn same_sides(a: Option<(u16, u16)>, b: Option<(u16, u16)>) -> bool
 /// `BadRange` exactly where a rectangle passes a side; then `BadSize` exactly where bytes are not four per texel.
 pub(crate) fn check_rect(texels: &Texels, rect: &Rect, bytes: &[u8]) -> Result<(), Refusal>
     ensures { let refusal = first_refusal (update_refusals (texels_seen texels.now) (rect_seen rect.now) bytes.now) in
-        MatchResult result (λ _. refusal ≡ None) (λ r. refusal_seen r ≡ refusal) }
+        MatchResult result (λ _. refusal ≡ None) (λ r. IsFirstRefusal refusal r) }
 {
     if rect.x as u32 + rect.w as u32 > texels.width as u32 {
         return Err(Refusal::BadRange);

@@ -8,9 +8,9 @@ use Rattle.gfx_model.specs.Words.{Format, rgba8, d24s8, is_format}
 use Rattle.gfx_model.specs.Raster.{Texels}
 use Rattle.gfx_model.specs.Resources.{same_sides}
 use Rattle.store_model.specs.Slots.{at, no_slots, filled_at, emptied_at, changed_at}
-use Rattle.store_model.specs.Textures.{Held, here, taken, sides_of, TextureSlot, TargetSlot, slot_sides, sides_at, can_attach_at, texels_in, slot_texels, texels_in_row, out_sides, out_at, changed_held, with_texels_here, held_out, slot_out, slot_with, holds, is_index, unless_held, unless_holding}
+use Rattle.store_model.specs.Textures.{AllAttached, Held, here, taken, sides_of, TextureSlot, TargetSlot, slot_sides, sides_at, can_attach_at, texels_in, slot_texels, texels_in_row, out_sides, out_at, changed_held, with_texels_here, held_out, slot_out, slot_with, holds, is_index, unless_held, unless_holding}
 use Rattle.store_model.proofs.SlotLaws.{at_same, at_other}
-use Rattle.texture_store.specs.Inside.{AllAttached}
+
 
 -- ---- a slot that is set
 
@@ -166,7 +166,7 @@ has_format f (Some s) e = (s, refl, by_test (is_format f s.format) e)
     by_test true k = refl
     by_test false k = cc
 
-first_side : (a b : Option (ℕ × ℕ)) → same_sides a b ≡ true → (is_some a ≡ true) × (is_some b ≡ true)
+pub first_side : (a b : Option (ℕ × ℕ)) → same_sides a b ≡ true → (is_some a ≡ true) × (is_some b ≡ true)
 first_side None b e = absurd (false-true e)
   where
     false-true : false ≡ true → ⊥
