@@ -13,7 +13,7 @@ use Rattle.scene_text.proofs.Wider.{text_wider}
 
 -- a text that spells a scene of this crate's lines is read alike by both
 spelled_alike : (s : Scene) (bytes : List ℕ) → Spells bytes (scene_seen s) → scene_of spoken bytes ≡ scene_of whole_language bytes
-spelled_alike s bytes k = text_alike bytes (subst AreAlike (sym k.1.spelled) (scene_alike k.1.with_room k.1.besides s))
+spelled_alike s bytes k = text_alike bytes (subst AreAlike (sym k.1.spelled) (scene_alike k.1.with_room k.1.with_latency k.1.besides s))
 
 pub read_by_both : (s : Scene) → IsReadable (scene_seen s) → (scene_of spoken (written (scene_seen s)) ≡ Ok (scene_seen s)) × (scene_of whole_language (written (scene_seen s)) ≡ Ok (scene_seen s))
 read_by_both s r =

@@ -5,7 +5,7 @@ use Rattle.std.specs.List.{list_all}
 use Rattle.scene_model.specs.Field.{Read, ◌>>=◌, bad_byte, split_at, find_word, word_in}
 use Rattle.scene_model.specs.Grammar.{Field, field, Reading, nothing_read, words, whole_language, unless, is_text_byte, is_skipped, after_resource, after_encoder_line, after_word, after_fields, after_line, line_read, read_pieces, scene_of}
 use Rattle.gfx_model.specs.Recorder.{Room}
-use Rattle.spelling_model.specs.LineSpelling.{resource_fields, encoder_fields, block_lines, beside_lines, frame_lines, frames_lines, room_lines, head_lines, spelled_lines}
+use Rattle.spelling_model.specs.LineSpelling.{resource_fields, encoder_fields, block_lines, beside_lines, frame_lines, frames_lines, room_lines, latency_lines, head_lines, spelled_lines}
 use Rattle.spelling_model.specs.Spelling.{kept_fields}
 use Rattle.scene_text.specs.declared.scene.ResLine.{ResLine}
 use Rattle.scene_text.specs.declared.scene.ResLine.TheVariants as resources
@@ -90,14 +90,21 @@ done_alike : AreAlike ((codes "done" ∷ []) ∷ [])
 unfolding after_word
 done_alike = ((λ r. refl), tt)
 
-head_alike : (with_room : Bool) (s : own.Scene) → AreAlike (head_lines with_room (scene_seen s))
+latency_alike : (with_latency : Bool) (latency : ℕ) → AreAlike (latency_lines with_latency latency)
 unfolding after_word
-head_alike with_room s = ((λ r. refl), ((λ r. refl), ((λ r. refl), room_alike with_room (scene_seen s).room)))
+latency_alike false latency = tt
+latency_alike true latency = ((λ r. refl), tt)
+
+head_alike : (with_room with_latency : Bool) (s : own.Scene) → AreAlike (head_lines with_room with_latency (scene_seen s))
+unfolding after_word
+head_alike with_room with_latency s =
+    let end = alike_joined (room_lines with_room (scene_seen s).room) (latency_lines with_latency s.latency) (room_alike with_room (scene_seen s).room) (latency_alike with_latency s.latency) in
+    ((λ r. refl), ((λ r. refl), ((λ r. refl), end)))
 
 -- each line of a scene that this crate's types can hold
-pub scene_alike : (with_room : Bool) (besides : List Bool) (s : own.Scene) → AreAlike (spelled_lines with_room besides (scene_seen s))
-scene_alike with_room besides s =
-    alike_joined (head_lines with_room (scene_seen s)) (frames_lines (scene_seen s).names besides (map frame_seen s.frames) ++ (codes "done" ∷ []) ∷ []) (head_alike with_room s)
+pub scene_alike : (with_room with_latency : Bool) (besides : List Bool) (s : own.Scene) → AreAlike (spelled_lines with_room with_latency besides (scene_seen s))
+scene_alike with_room with_latency besides s =
+    alike_joined (head_lines with_room with_latency (scene_seen s)) (frames_lines (scene_seen s).names besides (map frame_seen s.frames) ++ (codes "done" ∷ []) ∷ []) (head_alike with_room with_latency s)
     (alike_joined (frames_lines (scene_seen s).names besides (map frame_seen s.frames)) ((codes "done" ∷ []) ∷ []) (frames_alike (scene_seen s).names besides s.frames) done_alike)
 
 -- ---- whole texts

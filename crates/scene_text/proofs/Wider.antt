@@ -3,8 +3,8 @@ use Rattle.std.proofs.Common.{◌≡◌, ℕ, ◌+◌, Bool, true, false, not, c
 use Rattle.std.specs.List.{list_all}
 use Rattle.scene_model.specs.Scene.{Scene}
 use Rattle.scene_model.specs.Field.{Read, ◌>>=◌, bad_byte, misplaced_word, unknown_version, BoundName, split_at, find_word, word_in, or_misspelt, u16_number}
-use Rattle.scene_model.specs.Scene.{ResourceLine}
-use Rattle.scene_model.specs.Grammar.{Field, field, Word, scene_word, size_word, encoders_word, room_word, frame_word, encoder_word, beside_word, done_word, journal_word, layout_word, vertex_buffer_word, index_buffer_word, texture_word, frame_buffer_word, program_word, uniform_word, update_word, texel_update_word, destroy_word, view_word, order_word, state_word, stencil_word, scissor_word, transform_word, vertices_word, indices_word, transient_vertices_word, transient_indices_word, bind_word, set_word, submit_word, touch_word, blit_word, Setting, words, settings, whole_language, Named, Reading, nothing_read, with_names, with_resource_line, unless, has_field, are_filled, setting_form, view_form, resource_form, is_text_byte, is_skipped, is_other_version, is_in_place, are_filled_before, after_resource, after_word, after_fields, after_line, line_read, read_pieces, scene_of}
+use Rattle.scene_model.specs.Scene.{ResourceLine, views_in}
+use Rattle.scene_model.specs.Grammar.{Field, field, Word, scene_word, size_word, encoders_word, room_word, latency_word, frame_word, encoder_word, beside_word, done_word, journal_word, layout_word, vertex_buffer_word, index_buffer_word, texture_word, frame_buffer_word, program_word, uniform_word, update_word, texel_update_word, destroy_word, view_word, order_word, state_word, stencil_word, scissor_word, transform_word, vertices_word, indices_word, transient_vertices_word, transient_indices_word, bind_word, set_word, submit_word, touch_word, blit_word, Setting, words, settings, whole_language, Named, Reading, nothing_read, with_names, with_resource_line, unless, has_field, are_filled, setting_form, view_form, resource_form, is_text_byte, is_skipped, is_other_version, is_in_place, are_filled_before, after_resource, after_word, after_fields, after_line, line_read, read_pieces, scene_of}
 use Rattle.scene_text.specs.Spoken.{spoken}
 use Rattle.scene_text.proofs.WordTables.{AreRows, found_in}
 
@@ -22,7 +22,7 @@ follows (Err c) n f y h e = absurd (cc e)
 -- ---- words
 
 word_rows : AreRows spoken.words words
-word_rows = (refl, (refl, (refl, (refl, (refl, (refl, (refl, (refl, (refl, (refl, (refl, (refl, (refl, (refl, (refl, (refl, (refl, tt)))))))))))))))))
+word_rows = (refl, (refl, (refl, (refl, (refl, (refl, (refl, (refl, (refl, (refl, (refl, (refl, (refl, (refl, (refl, (refl, (refl, (refl, tt))))))))))))))))))
 
 setting_rows : AreRows spoken.settings settings
 setting_rows = (refl, tt)
@@ -42,9 +42,9 @@ view_wider names fs l e =
     stays (has_field 1 fs) _ _ l (λ a. stays (u16_number (field fs 1)) _ _ l (λ v. stays (has_field 2 fs) _ _ l (λ b.
     follows (word_in spoken.settings (field fs 2)) (word_in settings (field fs 2)) (λ s. are_filled fs >>= λ _. setting_form names fs v s >>= λ k. Ok (k, names)) l (λ s. setting_wider (field fs 2) s)))) e
 
-resource_wider : (r q : Reading) (fs : List Field) (w : Word) → ((l : Named ResourceLine) → resource_form spoken r.names fs w ≡ Ok l → resource_form whole_language r.names fs w ≡ Ok l) → after_resource spoken r fs w ≡ Ok q → after_resource whole_language r fs w ≡ Ok q
+resource_wider : (r q : Reading) (fs : List Field) (w : Word) → ((l : Named ResourceLine) → resource_form spoken (views_in r.version) r.names fs w ≡ Ok l → resource_form whole_language (views_in r.version) r.names fs w ≡ Ok l) → after_resource spoken r fs w ≡ Ok q → after_resource whole_language r fs w ≡ Ok q
 unfolding after_resource
-resource_wider r q fs w h e = follows (resource_form spoken r.names fs w) (resource_form whole_language r.names fs w) (λ l. Ok (with_names l.1 (with_resource_line l.0 r))) q h e
+resource_wider r q fs w h e = follows (resource_form spoken (views_in r.version) r.names fs w) (resource_form whole_language (views_in r.version) r.names fs w) (λ l. Ok (with_names l.1 (with_resource_line l.0 r))) q h e
 
 word_wider : (r q : Reading) (fs : List Field) (w : Word) → after_word spoken r fs w ≡ Ok q → after_word whole_language r fs w ≡ Ok q
 unfolding after_word
@@ -53,6 +53,7 @@ word_wider r q fs scene_word e = e
 word_wider r q fs size_word e = e
 word_wider r q fs encoders_word e = e
 word_wider r q fs room_word e = e
+word_wider r q fs latency_word e = e
 word_wider r q fs frame_word e = e
 word_wider r q fs encoder_word e = e
 word_wider r q fs beside_word e = e

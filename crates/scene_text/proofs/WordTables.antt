@@ -3,7 +3,7 @@ use Rattle.std.proofs.Common.{◌≡◌, ℕ, Bool, true, false, cond, List, [],
 use Rattle.std.proofs.lemmas.Slice.Eq.{bytes_eq-Decides}
 use Rattle.scene_model.specs.Field.{find_word}
 use Rattle.scene_model.specs.Grammar.{Word}
-use Rattle.scene_text.specs.Spoken.{spoken, encoder_words, word_of}
+use Rattle.scene_text.specs.Spoken.{spoken, resource_words, encoder_words, word_of}
 
 -- each word of a table has its meaning of the whole one
 abbrev pub AreRows : {A : Type 0} → List (List ℕ × A) → List (List ℕ × A) → Type 0
@@ -20,6 +20,14 @@ found_in (r ∷ rest) all f w rows e = by (bytes_eq r.0 f) refl e (λ h. found_i
 
 encoder_rows : AreRows encoder_words spoken.words
 encoder_rows = (refl, (refl, (refl, (refl, tt))))
+
+resource_rows : AreRows resource_words spoken.words
+resource_rows = (refl, (refl, (refl, (refl, tt))))
+
+-- a word of a resource or view line is that word
+pub resource_word_of : (f : List ℕ) (w : Word) → find_word resource_words f ≡ Some w → word_of f ≡ Some w
+unfolding word_of
+resource_word_of f w e = found_in resource_words spoken.words f w resource_rows e
 
 -- a word of an encoder line is that word
 pub encoder_word_of : (f : List ℕ) (w : Word) → find_word encoder_words f ≡ Some w → word_of f ≡ Some w

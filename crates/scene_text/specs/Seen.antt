@@ -55,10 +55,12 @@ name_seen n = n.text
 
 abbrev pub scene_seen : Scene → model.Scene
 scene_seen s = record {
+  version = s.version;
   width = s.width;
   height = s.height;
   encoders = s.encoders;
   room = room_seen s.room;
+  latency = s.latency;
   names = map name_seen s.names;
   frames = map frame_seen s.frames;
 }

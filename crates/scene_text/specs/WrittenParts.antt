@@ -1,14 +1,18 @@
 -- The text of each part of a scene.
 use Rattle.std.specs.Prelude.{ℕ, List, [], ◌∷◌, ◌++◌, flat_map, codes}
 use Rattle.std.specs.Fmt.{decimal}
-use Rattle.scene_model.specs.Grammar.{Field}
-use Rattle.spelling_model.specs.LineSpelling.{resource_fields, encoder_fields}
+use Rattle.scene_model.specs.Grammar.{Field, says_latency}
+use Rattle.spelling_model.specs.LineSpelling.{resource_fields, encoder_fields, latency_lines}
 use Rattle.spelling_model.specs.Written.{line_text}
 use Rattle.scene_text.specs.declared.scene.ResLine.{ResLine}
 use Rattle.scene_text.specs.declared.scene.EncLine.{EncLine}
 use Rattle.scene_text.specs.declared.scene.EncBlock.{EncBlock}
 use Rattle.scene_text.specs.declared.scene.SceneFrame.{SceneFrame}
 use Rattle.scene_text.specs.Seen.{resource_line_seen, encoder_line_seen}
+
+-- the `latency` line, which version 1 does not have
+abbrev pub latency_text : (version latency : ℕ) → List ℕ
+latency_text version latency = flat_map line_text (latency_lines (says_latency version) latency)
 
 abbrev pub resource_text : List Field → ResLine → List ℕ
 resource_text names l = line_text (resource_fields names (resource_line_seen l))

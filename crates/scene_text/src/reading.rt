@@ -27,10 +27,12 @@ use std::alloc::{AllocError, Global};
 #[derive(Drop)]
 pub struct Reading {
     pub stage: Stage,
+    pub version: u8,
     pub width: u16,
     pub height: u16,
     pub encoders: u8,
     pub room: Room,
+    pub latency: u8,
     pub names: Names,
     pub frames: Vec<SceneFrame>,
 }
@@ -44,7 +46,7 @@ fn is_other_version(fields: &[&[u8]]) -> bool
             if !is(b"scene", word) {
                 return false;
             }
-            match number(version, 2, 255) {
+            match number(version, 3, 255) {
                 Ok(_) => true,
                 Err(_) => false,
             }
@@ -82,18 +84,20 @@ fn is_next_encoder(encoders: u8, frames: &[SceneFrame], field: &[u8]) -> bool
 
 fn is_in_place(
     stage: Stage,
+    version: u8,
     encoders: u8,
     frames: &[SceneFrame],
     fields: &[&[u8]],
     word: Word,
 ) -> bool
-    ensures { result ≡ model.is_in_place_at (stage_seen stage) encoders (model.last_encoder (model.blocks_of_last (map frame_seen frames.now))) (word_seen word) (texts fields.now) }
+    ensures { result ≡ model.is_in_place_at (stage_seen stage) version encoders (model.last_encoder (model.blocks_of_last (map frame_seen frames.now))) (word_seen word) (texts fields.now) }
 {
     if !can_stand(stage, word) {
         return false;
     }
     match word {
         Word::Encoder => is_next_encoder(encoders, frames, field(fields, 1)),
+        Word::Latency => version != 1,
         _ => true,
     }
 }
@@ -129,6 +133,7 @@ impl Reading {
     {
         Reading {
             stage: Stage::AtFront,
+            version: 1,
             width: 0,
             height: 0,
             encoders: 0,
@@ -137,6 +142,7 @@ impl Reading {
                 bytes: 262_144,
                 uniforms: 4096,
             },
+            latency: 1,
             names: Names::new(alloc),
             frames: Vec::new(alloc),
         }
@@ -147,7 +153,8 @@ impl Reading {
         ensures { Gives (λ _. reading_seen self.new) result (model.after_word spoken (reading_seen self.old) (texts fields.now) model.scene_word) }
     {
         has_count(fields, 2)?;
-        number(field(fields, 1), 1, 1)?;
+        let version = number(field(fields, 1), 1, 2)?;
+        self.version = version as u8;
         self.stage = Stage::AtSize;
         Ok(())
     }
@@ -182,6 +189,17 @@ impl Reading {
     {
         let room = room(fields)?;
         self.room = room;
+        self.stage = Stage::AtLatency;
+        Ok(())
+    }
+
+    #[tactic(auto, unfolding(scene_model::specs::Grammar::after_word))]
+    fn after_latency(&mut self, fields: &[&[u8]]) -> Result<(), Cause>
+        ensures { Gives (λ _. reading_seen self.new) result (model.after_word spoken (reading_seen self.old) (texts fields.now) model.latency_word) }
+    {
+        has_count(fields, 2)?;
+        let latency = number(field(fields, 1), 1, 3)?;
+        self.latency = latency as u8;
         self.stage = Stage::AtFirstFrame;
         Ok(())
     }
@@ -276,6 +294,7 @@ impl Reading {
             Word::Size => self.after_size(fields)?,
             Word::Encoders => self.after_encoders(fields)?,
             Word::Room => self.after_room(fields)?,
+            Word::Latency => self.after_latency(fields)?,
             Word::Frame => self.after_frame(alloc, fields)?,
             Word::Encoder => self.after_encoder(alloc, fields)?,
             Word::Beside => self.after_beside(fields)?,
@@ -305,7 +324,14 @@ impl Reading {
         if is_other_version(fields) {
             return Err(LineFault::Bad(Cause::UnknownVersion));
         }
-        if !is_in_place(self.stage, self.encoders, &self.frames, fields, word) {
+        if !is_in_place(
+            self.stage,
+            self.version,
+            self.encoders,
+            &self.frames,
+            fields,
+            word,
+        ) {
             return Err(LineFault::Bad(Cause::MisplacedWord));
         }
         are_filled_before(fields, word)?;

@@ -1,4 +1,5 @@
 // Resource and view lines.
+ghost use Rattle.std.specs.Prelude.{ℕ};
 ghost use Rattle.scene_model.specs.Grammar.{resource_form};
 ghost use Rattle.scene_text.specs.Fields.{texts};
 ghost use Rattle.scene_text.specs.Gives.{MayGive};
@@ -21,7 +22,7 @@ pub fn resource_line(
     fields: &[&[u8]],
     word: Word,
 ) -> Result<ResLine, LineFault>
-    ensures { MayGive (λ l. (resource_line_seen l, names.new)) result (resource_form spoken names.old (texts fields.now) (word_seen word)) }
+    ensures { (views : ℕ) → MayGive (λ l. (resource_line_seen l, names.new)) result (resource_form spoken views names.old (texts fields.now) (word_seen word)) }
 {
     let line = match word {
         Word::Layout => layout(alloc, names, fields)?,

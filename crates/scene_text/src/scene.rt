@@ -108,13 +108,16 @@ pub struct SceneName {
     pub text: Sequence<u8>,
 }
 
-/// A scene. The sides are in pixels, 1 to 2,048; there are 1 to 8 encoders and 1 to 1,024 frames.
+/// A scene of version 1 or 2. The sides are in pixels, 1 to 2,048; there are 1 to 8 encoders and 1 to 1,024 frames.
 #[derive(Debug, Drop)]
 pub struct Scene {
+    pub version: u8,
     pub width: u16,
     pub height: u16,
     pub encoders: u8,
     pub room: Room,
+    /// How many frames may be out: 1 to 3, and 1 in version 1.
+    pub latency: u8,
     /// The names in the order in which lines first bind them; a line holds a name as its place here.
     pub names: Sequence<SceneName>,
     pub frames: Sequence<SceneFrame>,

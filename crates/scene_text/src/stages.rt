@@ -13,6 +13,7 @@ pub enum Stage {
     AtSize,
     AtEncoders,
     AtRoom,
+    AtLatency,
     AtFirstFrame,
     InBefore,
     InBlock,
@@ -36,6 +37,15 @@ fn is_encoder_word(word: Word) -> bool
 {
     match word {
         Word::TransientVertices | Word::Set | Word::Submit | Word::Touch => true,
+        _ => false,
+    }
+}
+
+fn stands_at_room(word: Word) -> bool
+    ensures { result ≡ model.can_stand model.at_room (word_seen word) }
+{
+    match word {
+        Word::Room | Word::Latency | Word::Frame => true,
         _ => false,
     }
 }
@@ -75,7 +85,8 @@ pub fn can_stand(stage: Stage, word: Word) -> bool
         Stage::AtFront => word == Word::Scene,
         Stage::AtSize => word == Word::Size,
         Stage::AtEncoders => word == Word::Encoders,
-        Stage::AtRoom => word == Word::Room || word == Word::Frame,
+        Stage::AtRoom => stands_at_room(word),
+        Stage::AtLatency => word == Word::Latency || word == Word::Frame,
         Stage::AtFirstFrame => word == Word::Frame,
         Stage::InBefore => stands_before(word),
         Stage::InBlock => stands_in_block(word),

@@ -35,10 +35,12 @@ fn scene(alloc: Global, reading: Reading) -> Result<Scene, AllocError>
 {
     let names = reading.names.into_names(alloc)?;
     Ok(Scene {
+        version: reading.version,
         width: reading.width,
         height: reading.height,
         encoders: reading.encoders,
         room: reading.room,
+        latency: reading.latency,
         names: Sequence::from_vec(names),
         frames: Sequence::from_vec(reading.frames),
     })
