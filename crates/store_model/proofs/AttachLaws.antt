@@ -1,6 +1,6 @@
 -- The textures of each frame buffer stay there, with their formats and sides.
-use Rattle.std.proofs.Common.{◌≡◌, ◌≢◌, ℕ, zero, suc, get_or, ◌<◌, ◌≤◌, ◌⊎◌, inl, inr, Bool, true, false, cond, List, length, map, set, replicate, Option, Some, None, refl, sym, ap, subst, ◌∙◌, arith, eqb}
-use Rattle.std.specs.Prelude.{option_map, option_and_then, is_some, ◌&&◌, ◌||◌, ◌==◌, slice_set}
+use Rattle.std.proofs.Common.{◌≡◌, ◌≢◌, ℕ, zero, suc, get_or, ◌<◌, ◌≤◌, ◌⊎◌, inl, inr, Bool, true, false, cond, List, length, map, set, replicate, Option, Some, None, refl, sym, ap, ◌∙◌, arith, eqb}
+use Rattle.std.specs.Prelude.{option_map, option_and_then, is_some, ◌&&◌, ◌||◌, ◌==◌}
 use Rattle.std.proofs.lemmas.Bool.{cases_lt, eqb-true}
 use Rattle.std.proofs.lemmas.List.{set_past, get_or-map, get_or_past, length-map}
 use Rattle.std.proofs.lemmas.Option.{none-some, same_Some, unwrap_or-slice_get}
@@ -10,7 +10,6 @@ use Rattle.gfx_model.specs.Resources.{same_sides}
 use Rattle.store_model.specs.Slots.{at, no_slots, filled_at, emptied_at, changed_at}
 use Rattle.store_model.specs.Textures.{AllAttached, Held, here, taken, sides_of, TextureSlot, TargetSlot, slot_sides, sides_at, can_attach_at, texels_in, slot_texels, texels_in_row, out_sides, out_at, changed_held, with_texels_here, held_out, slot_out, slot_with, holds, is_index, unless_held, unless_holding}
 use Rattle.store_model.proofs.SlotLaws.{at_same, at_other}
-
 
 -- ---- a slot that is set
 

@@ -1,7 +1,7 @@
 -- The uniform of a name and a kind with the greatest serial, as a search over the slots finds it.
-use Rattle.std.proofs.Common.{◌≡◌, ℕ, zero, suc, ◌+◌, ◌<◌, ◌≤◌, Bool, true, false, cond, List, [], ◌∷◌, Option, Some, None, refl, sym, ap, subst, ◌∙◌, arith}
+use Rattle.std.proofs.Common.{◌≡◌, ℕ, zero, suc, ◌<◌, ◌≤◌, Bool, true, false, cond, List, [], ◌∷◌, Option, Some, None, refl, sym, ap, subst, ◌∙◌, arith}
 use Rattle.std.specs.Prelude.{fold, nat_le, IfSome}
-use Rattle.std.proofs.lemmas.Bool.{le-leb, leb-true, leb-false, both_ways}
+use Rattle.std.proofs.lemmas.Bool.{le-leb, leb-true}
 use Rattle.std.proofs.lemmas.Option.{none-some, same_Some}
 use Rattle.gfx_model.specs.Words.{UniformKind}
 use Rattle.store_model.specs.Slots.{at}

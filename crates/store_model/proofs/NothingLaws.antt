@@ -2,9 +2,10 @@
 use Rattle.std.proofs.Common.{◌≡◌, ℕ, suc, Bool, true, false, List, [], ◌∷◌, map, Option, Some, None, refl, sym, ap, ◌∙◌}
 use Rattle.std.specs.Prelude.{option_and_then, is_some, ◌||◌, ◌==◌}
 use Rattle.std.proofs.lemmas.Bool.{eqb-true}
-use Rattle.gfx_model.specs.Words.{Format, rgba8, d24s8}
-use Rattle.store_model.specs.Slots.{at, emptied_at}
-use Rattle.store_model.specs.Textures.{TextureSlot, TargetSlot, Textures, slot_sides, sides_at, can_attach_at, is_index, holds, unless_held, unless_holding, destroyed, AllAttached, IsTextures}
+use Rattle.gfx_model.specs.Words.{Kind, layout_kind, vertex_buffer_kind, index_buffer_kind, texture_kind, frame_buffer_kind, program_kind, uniform_kind, Format, rgba8, d24s8}
+use Rattle.store_model.specs.Slots.{at}
+use Rattle.store_model.specs.Buffers as buffers
+use Rattle.store_model.specs.Textures.{TextureSlot, TargetSlot, Textures, slot_sides, sides_at, can_attach_at, is_index, holds, unless_held, unless_holding, destroyed, IsTextures}
 use Rattle.store_model.proofs.SlotLaws.{emptied_nothing}
 use Rattle.store_model.proofs.AttachLaws.{first_side}
 
@@ -42,3 +43,17 @@ pub destroyed_nothing : (h : Textures) (i : ℕ) → IsTextures h → at h.textu
 destroyed_nothing h i all none =
     ap (λ x. record { textures = x; targets = map (unless_holding i) h.targets }) (emptied_nothing h.textures i none)
     ∙ ap (λ x. record { textures = h.textures; targets = x }) (none_held i h.targets (λ j t e. not_holding h.textures i t.color t.depth none (all.attached j t e)))
+
+no_thing : {X : Type 0} (o : Option X) → is_some o ≡ false → o ≡ None
+no_thing None e = refl
+no_thing (Some x) e = cc
+
+-- taking out a layout, a buffer or a uniform that is not there changes nothing
+pub taken_nothing : (h : buffers.Buffers) (kind : Kind) (i : ℕ) → buffers.has_thing kind i h ≡ false → buffers.destroyed kind i h ≡ h
+taken_nothing h layout_kind i e = ap (λ x. record h { layouts = x }) (emptied_nothing h.layouts i (no_thing (at h.layouts i) e))
+taken_nothing h vertex_buffer_kind i e = ap (λ x. record h { vertices = x }) (emptied_nothing h.vertices i (no_thing (at h.vertices i) e))
+taken_nothing h index_buffer_kind i e = ap (λ x. record h { indices = x }) (emptied_nothing h.indices i (no_thing (at h.indices i) e))
+taken_nothing h uniform_kind i e = ap (λ x. record h { uniforms = x }) (emptied_nothing h.uniforms i (no_thing (at h.uniforms i) e))
+taken_nothing h texture_kind i e = refl
+taken_nothing h frame_buffer_kind i e = refl
+taken_nothing h program_kind i e = refl

@@ -1,9 +1,8 @@
 -- Rows of slots: what stands at an index after a change, and a thing that is taken out, changed and put back.
-use Rattle.std.proofs.Common.{◌≡◌, ◌≢◌, ℕ, ◌+◌, ◌<◌, ◌≤◌, ◌⊎◌, inl, inr, List, length, take, set, Option, Some, None, refl, sym, ap, ◌∙◌}
-use Rattle.std.specs.Prelude.{option_map, fold, slice_set}
+use Rattle.std.proofs.Common.{◌≡◌, ◌≢◌, ℕ, ◌<◌, ◌≤◌, ◌⊎◌, inl, inr, List, length, set, Option, Some, None, refl, sym, ap, ◌∙◌}
+use Rattle.std.specs.Prelude.{option_map, slice_set}
 use Rattle.std.proofs.lemmas.Bool.{cases_lt}
 use Rattle.std.proofs.lemmas.List.{set-set, set_comm, set_past, set-get_or, length-set, get_or-set_same, get_or-set_other}
-use Rattle.std.proofs.lemmas.List.Sums.{fold_more}
 use Rattle.std.proofs.lemmas.Option.{unwrap_or-slice_get}
 use Rattle.gfx_model.specs.Raster.{Texels}
 use Rattle.gfx_model.specs.World.{Blit, blitted}
@@ -14,11 +13,6 @@ use Rattle.store_model.specs.Slots.{at, filled_at, emptied_at, changed_at}
 pub changed_again : {X : Type 0} (change : X → X) (slots : List (Option X)) (i : ℕ) (old new : X) → Some old ≡ at slots i → new ≡ change old → filled_at i new (emptied_at i slots) ≡ changed_at change i slots
 changed_again change slots i old new there is =
     set-set slots i None (Some new) ∙ ap (λ o. slice_set slots i o) (ap Some is ∙ ap (option_map change) there)
-
--- one slot more of a fold over the first slots
-pub fold_slot : {X B : Type 0} (f : B → Option X → B) (first best next : B) (slots : List (Option X)) (i : ℕ) → best ≡ fold f first (take i slots) → next ≡ f best (at slots i) → i < length slots → next ≡ fold f first (take (i + 1) slots)
-fold_slot f first best next slots i inv step lt =
-    step ∙ ap (λ b. f b (at slots i)) inv ∙ ap (f (fold f first (take i slots))) (unwrap_or-slice_get slots i None) ∙ sym (fold_more f first slots i None lt)
 
 -- a blit copies its region
 pub blit_same : (b : Blit) (source d : Texels) → blitted b source d ≡ copied_region (region_of b) source d
@@ -75,3 +69,7 @@ changed_apart f g slots i j ne =
 -- nothing to take out
 pub emptied_nothing : {X : Type 0} (slots : List (Option X)) (i : ℕ) → at slots i ≡ None → emptied_at i slots ≡ slots
 emptied_nothing slots i none = ap (set slots i) (sym none) ∙ same_slot slots i
+
+-- nothing to change
+pub changed_none : {X : Type 0} (f : X → X) (slots : List (Option X)) (i : ℕ) → at slots i ≡ None → changed_at f i slots ≡ slots
+changed_none f slots i none = ap (λ o. set slots i (option_map f o)) none ∙ emptied_nothing slots i none

@@ -1,10 +1,10 @@
 -- The texels of a frame buffer's textures, taken out and put back, as they were or changed.
-use Rattle.std.proofs.Common.{◌≡◌, ◌≢◌, ℕ, Bool, true, false, List, length, set, Option, Some, None, refl, sym, ap, ◌∙◌}
-use Rattle.std.specs.Prelude.{option_map, option_and_then, IfSome}
+use Rattle.std.proofs.Common.{◌≡◌, ◌≢◌, ℕ, Bool, true, false, List, Option, Some, None, refl, sym, ap, ◌∙◌, arith}
+use Rattle.std.specs.Prelude.{option_map, option_and_then, ◌||◌, ◌==◌}
 use Rattle.std.proofs.lemmas.Option.{none-some, same_Some}
 use Rattle.gfx_model.specs.Raster.{Texels}
 use Rattle.store_model.specs.Slots.{at, changed_at}
-use Rattle.store_model.specs.Textures.{Held, here, taken, texels_in, TextureSlot, TargetSlot, Textures, slot_texels, texels_in_row, texels_at, changed_held, with_texels_here, changed_texels, can_attach_at, with_depth, attached_texels, target_texels, slot_out, slot_with, depth_back, attached_out, attached_back, out_for, target_out, back_for, target_back, changed_depth, changed_for, changed_target, AllAttached, IsTextures}
+use Rattle.store_model.specs.Textures.{Held, here, taken, texels_in, TextureSlot, TargetSlot, Textures, slot_texels, texels_in_row, texels_at, changed_held, with_texels_here, changed_texels, can_attach_at, with_depth, attached_texels, target_texels, slot_out, slot_with, slot_holds, is_index, depth_out, depth_back, attached_out, attached_back, out_for, target_out, back_for, target_back, changed_depth, changed_for, changed_target, IsTextures}
 use Rattle.store_model.proofs.SlotLaws.{changed_twice, changed_apart, changed_as, changed_nothing}
 use Rattle.store_model.proofs.AttachLaws.{apart_of, at_beside}
 
@@ -115,3 +115,29 @@ put_back h i c o all found = ap (λ p. target_back i c p (target_out i h)) (sym 
 -- the two textures of a frame buffer differ by their formats
 pub two_textures : (h : Textures) (i : ℕ) (t : TargetSlot) (depth : ℕ) → IsTextures h → at h.targets i ≡ Some t → t.depth ≡ Some depth → depth ≢ t.color
 two_textures h i t depth all there is = apart_of h.textures t.color depth (ap (can_attach_at h.textures t.color) (sym is) ∙ all.attached i t there)
+
+-- the texels of other textures stay while those of a frame buffer are taken out
+pub others_stay : (h : Textures) (i j : ℕ) → slot_holds j (at h.targets i) ≡ false → texels_at (target_out i h) j ≡ texels_at h j
+others_stay h i j free = by_target (at h.targets i) (target_texels h i) free
+  where
+    apart : (a b : ℕ) → (a == b) ≡ false → a ≢ b
+    apart a b e = grind (arith, e)
+
+    neither : (a b : Bool) → (a || b) ≡ false → (a ≡ false) × (b ≡ false)
+    neither true b e = cc
+    neither false b e = (refl, e)
+
+    beside : (slots : List (Option TextureSlot)) (place : ℕ) → (j == place) ≡ false → texels_in_row (changed_at slot_out place slots) j ≡ texels_in_row slots j
+    beside slots place e = ap (option_and_then slot_texels) (at_beside slots place j slot_out (apart j place e))
+
+    beside_depth : (slots : List (Option TextureSlot)) (place : Option ℕ) → is_index j place ≡ false → texels_in_row (depth_out place slots) j ≡ texels_in_row slots j
+    beside_depth slots None e = refl
+    beside_depth slots (Some depth) e = beside slots depth e
+
+    by_target : (o : Option TargetSlot) (p : Option (Texels × Option Texels)) → slot_holds j o ≡ false → texels_at (out_for p o h) j ≡ texels_at h j
+    by_target None None e = refl
+    by_target None (Some p) e = refl
+    by_target (Some t) None e = refl
+    by_target (Some t) (Some p) e =
+        let both : ((j == t.color) ≡ false) × (is_index j t.depth ≡ false) = neither (j == t.color) (is_index j t.depth) e in
+        beside_depth (changed_at slot_out t.color h.textures) t.depth both.1 ∙ beside h.textures t.color both.0

@@ -4,7 +4,7 @@ use Rattle.gfx_model.specs.Words.{Kind, layout_kind, vertex_buffer_kind, index_b
 use Rattle.gfx_model.specs.Vertex.{Layout}
 use Rattle.gfx_model.specs.Resources.{zero_value}
 use Rattle.gfx_model.specs.World.{with_bytes_at}
-use Rattle.store_model.specs.Slots.{at, no_slots, filled_at, emptied_at, changed_at}
+use Rattle.store_model.specs.Slots.{at, no_slots, emptied_at, changed_at}
 
 -- a vertex buffer: its bytes, and a copy of the layout that it was made for
 pub record VertexSlot : Type 0 where

@@ -1,11 +1,11 @@
 -- The laws of rows, frame buffers and named uniforms.
-use Rattle.std.specs.Prelude.{◌≡◌, ◌≢◌, ℕ, List, Option, Some, None, option_map}
+use Rattle.std.specs.Prelude.{◌≡◌, ◌≢◌, ℕ, List, false, Option, Some, None, option_map}
 use Rattle.gfx_model.specs.Words.{UniformKind}
 use Rattle.gfx_model.specs.Raster.{Texels}
 use Rattle.gfx_model.specs.World.{Blit, blitted}
 use Rattle.store_model.specs.Slots.{at}
 use Rattle.store_model.specs.Buffers.{UniformSlot, newest_slot, IsNewest, HasNoneNamed}
-use Rattle.store_model.specs.Textures.{Textures, TargetSlot, IsTextures, target_texels, target_out, target_back, changed_target, copied_region, region_of}
+use Rattle.store_model.specs.Textures.{Textures, TargetSlot, IsTextures, slot_holds, texels_at, target_texels, target_out, target_back, changed_target, copied_region, region_of}
 
 -- texels that are taken out of a frame buffer's textures and put back leave the textures as they were
 abbrev pub PutBackLaw : Type 0
@@ -16,6 +16,10 @@ PutBackLaw = (h : Textures) (i : ℕ) (color : Texels) (depth : Option Texels) �
 abbrev pub PutChangedLaw : Type 0
 PutChangedLaw = (h : Textures) (i : ℕ) (color : Texels) (depth : Option Texels) (f g : Texels → Texels) → IsTextures h → target_texels h i ≡ Some (color, depth)
     → target_back i (f color) (option_map g depth) (target_out i h) ≡ changed_target i f g h
+
+-- the texels of other textures stay while those of a frame buffer are taken out
+abbrev pub OthersStayLaw : Type 0
+OthersStayLaw = (h : Textures) (i j : ℕ) → slot_holds j (at h.targets i) ≡ false → texels_at (target_out i h) j ≡ texels_at h j
 
 -- the colour texture and the depth texture of a frame buffer are two textures
 abbrev pub TwoTexturesLaw : Type 0

@@ -5,7 +5,7 @@ use Rattle.gfx_model.specs.Words.{texture_kind, frame_buffer_kind, greatest, For
 use Rattle.gfx_model.specs.Raster.{Rect, contains, Texels, texel_at}
 use Rattle.gfx_model.specs.Resources.{TexelSource, Refusal, bad_range, bad_size, is_size, source_fits, same_sides}
 use Rattle.gfx_model.specs.World.{Blit}
-use Rattle.store_model.specs.Slots.{at, no_slots, filled_at, emptied_at, changed_at}
+use Rattle.store_model.specs.Slots.{at, no_slots, emptied_at, changed_at}
 
 -- the texels of a texture, or only its sides while they are taken out
 pub data Held : Type 0 where

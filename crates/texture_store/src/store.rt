@@ -10,9 +10,10 @@ ghost use Rattle.fix_math.specs.Seen.{rect_seen, texels_seen};
 ghost use Rattle.store_model.specs.Slots.{at, filled_at, emptied_at, changed_at};
 ghost use Rattle.store_model.specs.Textures.{no_textures, texels_at as texels_in_store, new_texture, create_refusals, update_refusals, changed_texels, copied_region, can_attach_at, destroyed, attached_texels, target_texels, target_out, target_back, IsTextures, IsOutAt};
 ghost use Rattle.texture_store.specs.Seen.{source_seen, region_seen, target_seen, sides_seen};
+ghost use Rattle.texture_store.specs.Cut.{writes_nothing};
 
 use crate::pictures::made;
-use crate::source::{BlitBox, TexSource};
+use crate::source::{BlitBox, TexelSource};
 use crate::targets::{Target, detach_holders};
 use crate::texture::Texture;
 use crate::textures::{
@@ -75,13 +76,13 @@ impl TextureStore {
         width: u16,
         height: u16,
         format: Format,
-        source: TexSource,
+        source: TexelSource<'_>,
     ) -> Result<(), Refusal>
         requires below { index < greatest texture_kind }
         requires free { at self.old.textures index ≡ None }
-        ensures { let refusal = first_refusal (create_refusals width height (source_seen source)) in
+        ensures { let refusal = first_refusal (create_refusals width height (source_seen source.entry)) in
             MatchResult result
-            (λ _. (refusal ≡ None) × (self.new ≡ record self.old { textures = filled_at index (new_texture (format_seen format) (texels_from width height (source_seen source))) self.old.textures }))
+            (λ _. (refusal ≡ None) × (self.new ≡ record self.old { textures = filled_at index (new_texture (format_seen format) (texels_from width height (source_seen source.entry))) self.old.textures }))
             (λ r. (refusal_seen r ≡ refusal) × (self.new ≡ self.old)) }
     {
         let texels = made(self.alloc, width, height, source)?;
@@ -223,12 +224,13 @@ impl TextureStore {
     }
 
     /// Copies a region between two textures, cut to both. Within one texture the texels are read as they were; that
-    /// alone takes memory. Where the source is not there or is taken out, nothing changes and it succeeds.
+    /// alone takes memory, for the cut region, and none where nothing is left of it. Where the source is not there or
+    /// is taken out, nothing changes and it succeeds.
     pub fn blit(&mut self, copy: BlitBox) -> Result<(), AllocError>
         ensures copied { MatchOption (texels_in_store self.old copy.src) (self.new ≡ self.old) (λ source.
             MatchResult result (λ _. self.new ≡ changed_texels (copied_region (region_seen copy) source) copy.dst self.old) (λ _. self.new ≡ self.old)) }
         ensures apart { copy.src ≢ copy.dst → IsOk result }
-        ensures away { texels_in_store self.old copy.src ≡ None → IsOk result }
+        ensures nothing { writes_nothing (region_seen copy) (texels_in_store self.old copy.src) ≡ true → IsOk result }
     {
         if copy.src == copy.dst {
             copy_over(&mut self.textures, self.alloc, &copy)
