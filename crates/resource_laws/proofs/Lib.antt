@@ -1,5 +1,4 @@
 pub mod KindLaws
-pub mod PlaceLaws
 pub mod AttachLaws
 pub mod BareCalls
 pub mod BareEffects
@@ -9,3 +8,4 @@ pub mod LiveLaws
 pub mod StartLaws
 pub mod CallLaws
 pub mod RunLaws
+pub mod DestroyOrder
