@@ -1,5 +1,5 @@
 -- Rows of the calls that begin encoders, end frames and shut down.
-use Rattle.std.proofs.Common.{◌≡◌, ℕ, List, Option, Some, None, refl}
+use Rattle.std.proofs.Common.{◌≡◌, ℕ, Option, Some, None, refl}
 use Rattle.gfx_model.specs.Resources.{Refusal, bad_size, no_encoder, frames_spent, opening}
 use Rattle.gfx_model.specs.Recorder.{Room}
 use Rattle.gfx_model.specs.FrameCalls.{Session, opened, begin_encoder, end_frame, shut_down, frame_refusal, frame_effect}
