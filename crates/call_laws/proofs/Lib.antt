@@ -7,6 +7,5 @@ pub mod ShapeLaws
 pub mod NextLaws
 pub mod NamesLaws
 pub mod ContextLaws
-pub mod Apart
 pub mod FreeLaws
 mod Example

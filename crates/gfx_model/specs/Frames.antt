@@ -1,9 +1,10 @@
 -- Frames as they are handed over: recordings of encoders, the journal of their items, and the order in which they are drawn.
-use Rattle.std.specs.Prelude.{ℕ, Bool, false, ◌&&◌, ◌==◌, nat_lt, if◌then◌else◌, List, [], ◌∷◌, map, filter, filter_map, flat_map, Option, Some, None, option_map, option_and_then, slice_get}
+use Rattle.std.specs.Prelude.{◌≢◌, ◌||◌, true, is_some, ℕ, Bool, false, ◌&&◌, ◌==◌, nat_lt, if◌then◌else◌, List, [], ◌∷◌, map, filter, filter_map, flat_map, Option, Some, None, option_map, option_and_then, slice_get, unwrap_or, ⊤, length, ◌≤◌, ◌≡◌}
+use Rattle.std.specs.List.{AllByRecursion, range_with_len}
 use Rattle.gfx_model.specs.Number.{map_from}
 use Rattle.gfx_model.specs.Words.{program_kind, is_kind}
 use Rattle.gfx_model.specs.Views.{Views, view_count}
-use Rattle.gfx_model.specs.World.{Item, draw_item, touch_item, blit_item, Numbered, key_of_item, sorted_by_key}
+use Rattle.gfx_model.specs.World.{Item, draw_item, touch_item, blit_item, is_blit, ordered, Numbered, key_of_item, sorted_by_key}
 
 -- ---- journals
 
@@ -58,6 +59,10 @@ with_key vs place x i = if is_ordered vs i then Some (key_of_item vs place i, x)
 abbrev pub keyed_entry : Views → List Recorded → ℕ → Entry → Option (ℕ × Entry)
 keyed_entry vs rs place n = option_and_then (with_key vs place n) (item_of_entry rs n)
 
+-- whether an entry has an item that is drawn in an order by key
+abbrev pub has_key : Views → List Recorded → Entry → Bool
+has_key vs rs n = unwrap_or (option_map (is_ordered vs) (item_of_entry rs n)) false
+
 -- the entries of a journal that have a key, each with it
 abbrev pub keyed_entries : Views → List Recorded → List Entry → List (ℕ × Entry)
 keyed_entries vs rs journal = filter_map (λ o. o) (map_from (keyed_entry vs rs) 0 journal)
@@ -65,3 +70,31 @@ keyed_entries vs rs journal = filter_map (λ o. o) (map_from (keyed_entry vs rs)
 -- the entries of a journal's draws and touches, ascending by key, and at equal keys by their places in the journal
 abbrev pub draw_order : Views → List Recorded → List Entry → List Entry
 draw_order vs rs journal = map (λ x. x.1) (sorted_by_key (keyed_entries vs rs journal))
+
+-- ---- laws of both
+
+-- no two recordings are of one encoder
+abbrev pub AreOfOwnEncoders : List Recorded → Type 0
+AreOfOwnEncoders [] = ⊤
+AreOfOwnEncoders (r ∷ rs) = AllByRecursion (λ x. x.encoder ≢ r.encoder) rs × AreOfOwnEncoders rs
+
+-- numbers ascend, from one on
+abbrev pub NumbersAscend : ℕ → List Numbered → Type 0
+NumbersAscend low [] = ⊤
+NumbersAscend low (i ∷ rest) = (low ≤ i.number) × NumbersAscend i.number rest
+
+-- the journal has each item of each encoder once, in the encoder's order
+abbrev pub CollectedLaw : Type 0
+CollectedLaw = (rs : List Recorded) (e : ℕ) → AreOfOwnEncoders rs → AllByRecursion (λ r. NumbersAscend 0 r.items) rs
+    → ordinals_of e (collected rs) ≡ range_with_len 0 (length (items_by rs e))
+
+-- the draw order has each entry of the journal that has a key as often as the journal, and no other
+abbrev pub DrawOrderLaw : Type 0
+DrawOrderLaw = (vs : Views) (rs : List Recorded) (journal : List Entry) (p : Entry → Bool)
+    → length (filter p (draw_order vs rs journal)) ≡ length (filter p (filter (has_key vs rs) journal))
+
+-- where each entry has an item, and each item is a blit or has a key, the items of the draw order are those of the journal in the order of the frame step
+abbrev pub OrderedItemsLaw : Type 0
+OrderedItemsLaw = (vs : Views) (rs : List Recorded) (journal : List Entry) → AllByRecursion (λ n. is_some (item_of_entry rs n) ≡ true) journal
+    → AllByRecursion (λ i. (is_blit i || is_ordered vs i) ≡ true) (filter_map (item_of_entry rs) journal)
+    → filter_map (item_of_entry rs) (draw_order vs rs journal) ≡ ordered vs (filter_map (item_of_entry rs) journal)
