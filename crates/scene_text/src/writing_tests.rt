@@ -100,6 +100,26 @@ fn the_plain_room_is_written(rt: HostRuntime) -> Result<(), Fail> {
     Ok(())
 }
 
+// A scene of the second version with what its text leaves out.
+static SECOND: &[u8] = b"\
+scene 2\n\
+size 1 1\n\
+encoders 1\n\
+room 8191 262144 4096\n\
+latency 1\n\
+frame\n\
+done\n";
+
+#[test]
+fn the_latency_is_written_in_the_second_version(rt: HostRuntime) -> Result<(), Fail> {
+    let alloc = rt.alloc();
+    let scene = read_small(alloc, b"scene 2\nsize 1 1\nencoders 1\nframe\ndone\n")?;
+    assert_eq!(rt; (scene.version, scene.latency), (2, 1));
+    let written = write(alloc, &scene)?;
+    assert_eq!(rt; written.as_slice(), SECOND);
+    Ok(())
+}
+
 /// The head of a scene: its sides, encoders, room, and how many names and frames it has.
 fn head(scene: &Scene) -> ((u16, u16, u8), (u32, u32, u32), (usize, usize)) {
     let room = &scene.room;
