@@ -2,6 +2,7 @@
 ghost use Rattle.std.specs.Prelude.{◌≡◌, ◌≤◌, ◌*◌, length};
 
 use crate::columns::{drawn_columns, drawn_rows};
+use crate::rows::Rows;
 use crate::spans::Span;
 use crate::tests::{blank, setups, state, stencil, vertex};
 use crate::{DrawList, Paint, Prepared, Surface, deep_spans, draw_view, flat};
@@ -12,15 +13,15 @@ use std::test::Fail;
 use tri_cover::Setup;
 use vertex_layout::Vertex;
 
-fn flat_exactly(colors: &mut [[u8; 4]], width: u16, height: u16, setup: &Setup, draw: &Prepared)
-    requires wide { 1 ≤ width }
-    requires whole { length colors.old ≡ width * height }
+fn flat_exactly(colors: &mut [[u8; 4]], rows: &Rows, setup: &Setup, draw: &Prepared)
+    requires whole { length colors.old ≡ rows.now.width * rows.now.count }
 {
-    let (top, bottom) = drawn_rows(setup, &draw.cut, height);
-    for y in top..bottom {
-        let (first, after) = drawn_columns(setup, &setup.sides(y), &draw.cut, y, width);
+    let (top, bottom) = drawn_rows(setup, &draw.cut, rows);
+    for row in top..bottom {
+        let y = rows.top + row;
+        let (first, after) = drawn_columns(setup, &setup.sides(y), &draw.cut, y, rows.width);
         let span = Span {
-            width,
+            start: row as usize * rows.width as usize,
             y,
             first,
             after,
@@ -32,20 +33,19 @@ fn flat_exactly(colors: &mut [[u8; 4]], width: u16, height: u16, setup: &Setup, 
 fn deep_exactly(
     colors: &mut [[u8; 4]],
     depths: &mut [[u8; 4]],
-    width: u16,
-    height: u16,
+    rows: &Rows,
     setup: &Setup,
     draw: &Prepared,
 )
-    requires wide { 1 ≤ width }
-    requires whole { length colors.old ≡ width * height }
+    requires whole { length colors.old ≡ rows.now.width * rows.now.count }
     requires same { length depths.old ≡ length colors.old }
 {
-    let (top, bottom) = drawn_rows(setup, &draw.cut, height);
-    for y in top..bottom {
-        let (first, after) = drawn_columns(setup, &setup.sides(y), &draw.cut, y, width);
+    let (top, bottom) = drawn_rows(setup, &draw.cut, rows);
+    for row in top..bottom {
+        let y = rows.top + row;
+        let (first, after) = drawn_columns(setup, &setup.sides(y), &draw.cut, y, rows.width);
         let span = Span {
-            width,
+            start: row as usize * rows.width as usize,
             y,
             first,
             after,
@@ -56,19 +56,22 @@ fn deep_exactly(
 
 /// A draw by the exact means alone.
 fn draw_exactly(surface: &mut Surface, draw: &Prepared) {
-    let width = surface.color.width;
-    let height = surface.color.height;
+    let rows = Rows {
+        width: surface.color.width,
+        top: 0,
+        count: surface.color.height,
+    };
     let colors = surface.color.texels.as_mut_slice();
     match &mut surface.depth {
         None => {
             for setup in draw.triangles.as_slice() {
-                flat_exactly(colors, width, height, setup, draw);
+                flat_exactly(colors, &rows, setup, draw);
             }
         }
         Some(depth) => {
             let depths = depth.texels.as_mut_slice();
             for setup in draw.triangles.as_slice() {
-                deep_exactly(colors, depths, width, height, setup, draw);
+                deep_exactly(colors, depths, &rows, setup, draw);
             }
         }
     }

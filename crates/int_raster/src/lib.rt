@@ -1,6 +1,7 @@
 //! Draws on a surface.
 #![tactic(auto)]
 
+mod bands;
 mod columns;
 mod deep;
 mod deep_spans;
@@ -13,11 +14,12 @@ mod over_spans;
 mod overs;
 mod painters;
 mod painting;
+mod rows;
 mod sampling;
 mod spans;
 mod surfaces;
 
-pub use drawing::draw_view;
+pub use drawing::{draw_bands, draw_view};
 pub use lists::{DrawList, Paint, Prepared, Triangles};
 pub use surfaces::Surface;
 
