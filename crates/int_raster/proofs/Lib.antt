@@ -6,3 +6,4 @@ pub mod Stacks
 pub mod Samples
 pub mod Ramped
 pub mod Tested
+pub mod Grown

@@ -173,12 +173,12 @@ triangles_in_turn d w top ps =
     (λ i p b. fold_where d (i % w) (top + i / w) (contains d.cut (i % w) (top + i / w)) p d.facings)
 
 -- the same, the triangles as they are in memory
-pub setups_in_turn : (d : Prepared) (w top : ℕ) (ps : List Pixel) (ss : List Setup) → map setup_seen ss ≡ d.triangles →
-    fold (λ qs s. map_from (by_place w (below top (change_seen d s))) 0 qs) ps ss ≡ map_from (by_place w (below top (prepared_step (prepared_seen d)))) 0 ps
-setups_in_turn d w top ps ss e =
-    sym (fold-map (λ qs f. map_from (by_place w (below top (facing_change (prepared_seen d) f))) 0 qs) (facing_seen d) ps ss)
-    ∙ ap (fold (λ qs f. map_from (by_place w (below top (facing_change (prepared_seen d) f))) 0 qs) ps) (same ss ∙ ap (map (facing_shown d.front d.back)) e)
-    ∙ triangles_in_turn (prepared_seen d) w top ps
+pub setups_in_turn : (d : Prepared) (w top : ℕ) (ps : List Pixel) (ss : List Setup) →
+    fold (λ qs s. map_from (by_place w (below top (change_seen d s))) 0 qs) ps ss ≡ map_from (by_place w (below top (prepared_step (prepared_seen d (map setup_seen ss))))) 0 ps
+setups_in_turn d w top ps ss =
+    sym (fold-map (λ qs f. map_from (by_place w (below top (facing_change (prepared_seen d []) f))) 0 qs) (facing_seen d) ps ss)
+    ∙ ap (fold (λ qs f. map_from (by_place w (below top (facing_change (prepared_seen d []) f))) 0 qs) ps) (same ss)
+    ∙ triangles_in_turn (prepared_seen d (map setup_seen ss)) w top ps
   where
     same : (ts : List Setup) → map (facing_seen d) ts ≡ map (facing_shown d.front d.back) (map setup_seen ts)
     same [] = refl

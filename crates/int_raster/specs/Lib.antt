@@ -4,3 +4,4 @@ pub mod Places
 pub mod Painted
 pub mod Rules
 pub mod Bands
+pub mod Listing

@@ -15,8 +15,9 @@ pub(crate) fn draw_flat_list(rows: &Rows, list: &DrawList<'_>, colors: &mut [[u8
     requires { length colors.old ≡ rows.now.width * rows.now.count }
     ensures { colors.new ≡ flat_drawn rows.now.width rows.now.top colors.old list.now }
 {
-    for draw in list.as_slice() {
-        draw_flat(colors, rows, draw);
+    for index in 0..list.len() {
+        let (draw, triangles) = list.draw(index);
+        draw_flat(colors, rows, &draw, triangles);
     }
 }
 
@@ -31,8 +32,9 @@ pub(crate) fn draw_deep_list(
     requires same { length depths.old ≡ length colors.old }
     ensures { deep colors.new depths.new ≡ deep_drawn rows.now.width rows.now.top (deep colors.old depths.old) list.now }
 {
-    for draw in list.as_slice() {
-        draw_deep(colors, depths, rows, draw);
+    for index in 0..list.len() {
+        let (draw, triangles) = list.draw(index);
+        draw_deep(colors, depths, rows, &draw, triangles);
         tell_texels(depths);
     }
 }

@@ -1,5 +1,5 @@
 // Draws on a surface with depth.
-ghost use Rattle.std.specs.Prelude.{◌≡◌, ◌≤◌, ◌<◌, ◌+◌, ◌*◌, ℕ, true, length, IfSome, IsTrue};
+ghost use Rattle.std.specs.Prelude.{◌≡◌, ◌≤◌, ◌<◌, ◌+◌, ◌*◌, ℕ, true, length, map, IfSome, IsTrue};
 ghost use Rattle.gfx_model.specs.Number.{map_from};
 ghost use Rattle.gfx_model.specs.Raster.{covers};
 ghost use Rattle.tri_cover.specs.Shown.{setup_seen};
@@ -381,12 +381,13 @@ pub(crate) fn draw_deep(
     depths: &mut [[u8; 4]],
     rows: &Rows,
     draw: &Prepared,
+    triangles: &[Setup],
 )
     requires whole { length colors.old ≡ rows.now.width * rows.now.count }
     requires same { length depths.old ≡ length colors.old }
-    ensures { deep_pixels colors.new depths.new ≡ map_from (by_place rows.now.width (below rows.now.top (prepared_step (prepared_seen draw.now)))) 0 (deep_pixels colors.old depths.old) }
+    ensures { deep_pixels colors.new depths.new ≡ map_from (by_place rows.now.width (below rows.now.top (prepared_step (prepared_seen draw.now (map setup_seen triangles.now))))) 0 (deep_pixels colors.old depths.old) }
 {
-    for setup in draw.triangles.as_slice() {
+    for setup in triangles {
         triangle_in_rows(colors, depths, rows, setup, draw);
     }
 }

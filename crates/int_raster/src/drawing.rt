@@ -1,5 +1,5 @@
 // Lists of draws on a surface.
-ghost use Rattle.std.specs.Prelude.{◌≡◌, ◌≤◌, fold, OnOk};
+ghost use Rattle.std.specs.Prelude.{◌≡◌, ◌≤◌, fold};
 ghost use Rattle.int_raster.specs.Drawing.{drawn_prepared};
 ghost use Rattle.int_raster.specs.Seen.{surface_seen};
 
@@ -7,7 +7,6 @@ use crate::bands::{deep_bands, draw_deep_list, draw_flat_list, flat_bands};
 use crate::lists::DrawList;
 use crate::rows::Rows;
 use crate::surfaces::Surface;
-use std::alloc::AllocError;
 use std::thread::Threads;
 
 /// Makes the draws of a list in their order.
@@ -33,9 +32,9 @@ pub fn draw_bands<R: Threads + Sync>(
     surface: &mut Surface,
     list: &DrawList<'_>,
     bands: u32,
-) -> Result<(), AllocError>
+)
     requires { 1 ≤ bands }
-    ensures { OnOk result (surface_seen surface.new ≡ fold drawn_prepared (surface_seen surface.old) list.now) }
+    ensures { surface_seen surface.new ≡ fold drawn_prepared (surface_seen surface.old) list.now }
 {
     let rows = Rows {
         width: surface.color.width,
@@ -48,5 +47,4 @@ pub fn draw_bands<R: Threads + Sync>(
         None => flat_bands(rt, &rows, list, bands, colors),
         Some(depth) => deep_bands(rt, &rows, list, bands, colors, depth.texels.as_mut_slice()),
     }
-    Ok(())
 }

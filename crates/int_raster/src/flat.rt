@@ -1,5 +1,5 @@
 // Draws on a surface without depth.
-ghost use Rattle.std.specs.Prelude.{◌≡◌, ◌≤◌, ◌<◌, ◌+◌, ◌*◌, ℕ, true, length, IfSome};
+ghost use Rattle.std.specs.Prelude.{◌≡◌, ◌≤◌, ◌<◌, ◌+◌, ◌*◌, ℕ, true, length, map, IfSome};
 ghost use Rattle.gfx_model.specs.Number.{map_from};
 ghost use Rattle.gfx_model.specs.Raster.{covers, fragment_at};
 ghost use Rattle.gfx_model.specs.World.{painted};
@@ -176,11 +176,16 @@ fn triangle_in_rows(colors: &mut [[u8; 4]], rows: &Rows, setup: &Setup, draw: &P
 }
 
 /// Draws all triangles of a draw.
-pub(crate) fn draw_flat(colors: &mut [[u8; 4]], rows: &Rows, draw: &Prepared)
+pub(crate) fn draw_flat(
+    colors: &mut [[u8; 4]],
+    rows: &Rows,
+    draw: &Prepared,
+    triangles: &[Setup],
+)
     requires whole { length colors.old ≡ rows.now.width * rows.now.count }
-    ensures { flat_pixels colors.new ≡ map_from (by_place rows.now.width (below rows.now.top (prepared_step (prepared_seen draw.now)))) 0 (flat_pixels colors.old) }
+    ensures { flat_pixels colors.new ≡ map_from (by_place rows.now.width (below rows.now.top (prepared_step (prepared_seen draw.now (map setup_seen triangles.now))))) 0 (flat_pixels colors.old) }
 {
-    for setup in draw.triangles.as_slice() {
+    for setup in triangles {
         triangle_in_rows(colors, rows, setup, draw);
     }
 }

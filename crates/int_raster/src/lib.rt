@@ -7,6 +7,7 @@ mod deep;
 mod deep_spans;
 mod drawing;
 mod flat;
+mod listed;
 mod lists;
 mod opaque;
 mod over;
@@ -20,7 +21,7 @@ mod spans;
 mod surfaces;
 
 pub use drawing::{draw_bands, draw_view};
-pub use lists::{DrawList, Paint, Prepared, Triangles};
+pub use lists::{DrawList, Paint, Prepared};
 pub use surfaces::Surface;
 
 #[cfg(test)]

@@ -7,4 +7,4 @@ use Rattle.int_raster.proofs.deep.draw_deep.Given as goal
 -- the triangles before the index are drawn
 abbrev pub invariant-loop-setup : goal.invariant-loop-setup
 invariant-loop-setup l =
-    deep_pixels l.colors l.depths ≡ fold (λ qs s. map_from (by_place l.fn.rows.width (below l.fn.rows.top (change_seen l.fn.draw s))) 0 qs) (deep_pixels l.fn.colors l.fn.depths) (take l.setup-index l.setup-items)
+    deep_pixels l.colors l.depths ≡ fold (λ qs s. map_from (by_place l.fn.rows.width (below l.fn.rows.top (change_seen l.fn.draw s))) 0 qs) (deep_pixels l.fn.colors l.fn.depths) (take l.setup-index l.fn.triangles)

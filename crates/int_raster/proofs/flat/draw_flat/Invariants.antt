@@ -7,4 +7,4 @@ use Rattle.int_raster.proofs.flat.draw_flat.Given as goal
 -- the triangles before the index are drawn
 abbrev pub invariant-loop-setup : goal.invariant-loop-setup
 invariant-loop-setup l =
-    flat_pixels l.colors ≡ fold (λ qs s. map_from (by_place l.fn.rows.width (below l.fn.rows.top (change_seen l.fn.draw s))) 0 qs) (flat_pixels l.fn.colors) (take l.setup-index l.setup-items)
+    flat_pixels l.colors ≡ fold (λ qs s. map_from (by_place l.fn.rows.width (below l.fn.rows.top (change_seen l.fn.draw s))) 0 qs) (flat_pixels l.fn.colors) (take l.setup-index l.fn.triangles)
