@@ -2,21 +2,21 @@
 use Rattle.std.proofs.Common.{◌≡◌, ℕ, Option, Some, None, refl}
 use Rattle.gfx_model.specs.Resources.{Refusal, bad_size, no_encoder, frames_spent, opening}
 use Rattle.gfx_model.specs.Recorder.{Room}
-use Rattle.gfx_model.specs.FrameCalls.{Session, opened, begin_encoder, end_frame, shut_down, frame_refusal, frame_effect}
+use Rattle.gfx_model.specs.FrameCalls.{CallState, opened, begin_encoder, end_frame, shut_down, frame_refusal, frame_effect}
 
 abbrev room : ℕ → ℕ → ℕ → Room
 room items bytes uniforms = record { items = items; bytes = bytes; uniforms = uniforms }
 
-abbrev start : ℕ → Session
+abbrev start : ℕ → CallState
 start latency = opened (opening 1 latency 0 1)
 
-abbrev begun_already : ℕ → Session
+abbrev begun_already : ℕ → CallState
 begun_already n = record (start 1) { encoders = n }
 
-abbrev at_frame : ℕ → Session
+abbrev at_frame : ℕ → CallState
 at_frame n = opened (opening 1 1 n 1)
 
-abbrev refused : Session → Room → Option Refusal
+abbrev refused : CallState → Room → Option Refusal
 refused s r = frame_refusal s (begin_encoder r)
 
 -- the least and the greatest room, and one past each limit
@@ -34,7 +34,7 @@ frames : (frame_refusal (at_frame 1073741822) end_frame ≡ None) × (frame_refu
 frames = (refl, refl, refl)
 
 -- the next frame has the next number and no encoders, and a refused end begins none
-abbrev ended : Session → Session
+abbrev ended : CallState → CallState
 ended s = (frame_effect s end_frame).after
 
 next : ((ended (begun_already 3)).encoders ≡ 0) × ((ended (begun_already 3)).resources.frame ≡ 1)

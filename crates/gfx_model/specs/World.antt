@@ -532,7 +532,7 @@ abbrev pub insert_by_key : {A : Type 0} → (ℕ × A) → List (ℕ × A) → L
 insert_by_key x [] = x ∷ []
 insert_by_key x (y ∷ ys) = if nat_le x.0 y.0 then x ∷ y ∷ ys else y ∷ insert_by_key x ys
 
--- ascending by key, and at equal keys as they stood
+-- ascending by key, and at equal keys in their order
 abbrev pub sorted_by_key : {A : Type 0} → List (ℕ × A) → List (ℕ × A)
 sorted_by_key [] = []
 sorted_by_key (x ∷ xs) = insert_by_key x (sorted_by_key xs)

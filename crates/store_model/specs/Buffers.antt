@@ -1,10 +1,10 @@
 -- Layouts, vertex buffers, index buffers and uniforms by index.
-use Rattle.std.specs.Prelude.{◌≡◌, ℕ, ◌≤◌, true, false, Bool, ◌&&◌, nat_le, if◌then◌else◌, List, fold, Option, Some, None, option_map, bytes_eq}
+use Rattle.std.specs.Prelude.{◌≡◌, ℕ, ◌≤◌, true, false, Bool, ◌&&◌, nat_le, if◌then◌else◌, List, length, fold, Option, Some, None, option_map, is_some, bytes_eq}
 use Rattle.gfx_model.specs.Words.{Kind, layout_kind, vertex_buffer_kind, index_buffer_kind, uniform_kind, greatest, UniformKind, UniformValue, value_kind, is_uniform_kind}
 use Rattle.gfx_model.specs.Vertex.{Layout}
 use Rattle.gfx_model.specs.Resources.{zero_value}
 use Rattle.gfx_model.specs.World.{with_bytes_at}
-use Rattle.store_model.specs.Slots.{at, no_slots, filled_at, emptied_at, changed_at}
+use Rattle.store_model.specs.Slots.{at, no_slots, emptied_at, changed_at}
 
 -- a vertex buffer: its bytes, and a copy of the layout that it was made for
 pub record VertexSlot : Type 0 where
@@ -32,6 +32,21 @@ no_buffers = record {
   indices = no_slots (greatest index_buffer_kind);
   uniforms = no_slots (greatest uniform_kind);
 }
+
+-- what holds of each store: a slot for each index that a kind can have
+pub record IsBuffers (h : Buffers) : Type 0 where
+  pub layouts : length h.layouts ≡ greatest layout_kind
+  pub vertices : length h.vertices ≡ greatest vertex_buffer_kind
+  pub indices : length h.indices ≡ greatest index_buffer_kind
+  pub uniforms : length h.uniforms ≡ greatest uniform_kind
+
+-- whether a thing is there; programs, textures and frame buffers never are
+abbrev pub has_thing : Kind → ℕ → Buffers → Bool
+has_thing layout_kind i h = is_some (at h.layouts i)
+has_thing vertex_buffer_kind i h = is_some (at h.vertices i)
+has_thing index_buffer_kind i h = is_some (at h.indices i)
+has_thing uniform_kind i h = is_some (at h.uniforms i)
+has_thing _ i h = false
 
 -- a new uniform, whose value is zeros of its kind
 abbrev pub new_uniform : ℕ → UniformKind → List ℕ → UniformSlot

@@ -5,7 +5,7 @@ use Rattle.gfx_model.specs.Words.{texture_kind, frame_buffer_kind, greatest, For
 use Rattle.gfx_model.specs.Raster.{Rect, contains, Texels, texel_at}
 use Rattle.gfx_model.specs.Resources.{TexelSource, Refusal, bad_range, bad_size, is_size, source_fits, same_sides}
 use Rattle.gfx_model.specs.World.{Blit}
-use Rattle.store_model.specs.Slots.{at, no_slots, filled_at, emptied_at, changed_at}
+use Rattle.store_model.specs.Slots.{at, no_slots, emptied_at, changed_at}
 
 -- the texels of a texture, or only its sides while they are taken out
 pub data Held : Type 0 where
@@ -97,6 +97,16 @@ abbrev pub can_attach_at : List (Option TextureSlot) → ℕ → Option ℕ → 
 can_attach_at textures color None = is_some (sides_at rgba8 textures color)
 can_attach_at textures color (Some depth) = same_sides (sides_at rgba8 textures color) (sides_at d24s8 textures depth)
 
+-- each frame buffer's textures are there, with their formats and one size
+abbrev pub AllAttached : List (Option TextureSlot) → List (Option TargetSlot) → Type 0
+AllAttached textures targets = (i : ℕ) (t : TargetSlot) → at targets i ≡ Some t → can_attach_at textures t.color t.depth ≡ true
+
+-- what holds of each store: a slot for each index, and each frame buffer's textures are there
+pub record IsTextures (h : Textures) : Type 0 where
+  pub textures : length h.textures ≡ greatest texture_kind
+  pub targets : length h.targets ≡ greatest frame_buffer_kind
+  pub attached : AllAttached h.textures h.targets
+
 -- whether a depth texture, if there is one, has that index
 abbrev pub is_index : ℕ → Option ℕ → Bool
 is_index i None = false
@@ -179,6 +189,29 @@ target_out i h = out_for (target_texels h i) (at h.targets i) h
 -- the textures with the texels of a frame buffer's put back
 abbrev pub attached_back : TargetSlot → Texels → Option Texels → List (Option TextureSlot) → List (Option TextureSlot)
 attached_back t color depth textures = depth_back t.depth depth (changed_at (slot_with color) t.color textures)
+
+-- the textures with the texels put back of a frame buffer, if there is one
+abbrev pub back_for : Option TargetSlot → Texels → Option Texels → Textures → Textures
+back_for None color depth h = h
+back_for (Some t) color depth h = record h { textures = attached_back t color depth h.textures }
+
+-- the textures with the texels of the frame buffer of an index put back
+abbrev pub target_back : ℕ → Texels → Option Texels → Textures → Textures
+target_back i color depth h = back_for (at h.targets i) color depth h
+
+-- the textures with the texels of a depth texture changed, where one is given
+abbrev pub changed_depth : Option ℕ → (Texels → Texels) → Textures → Textures
+changed_depth None change h = h
+changed_depth (Some depth) change h = changed_texels change depth h
+
+-- the textures with the texels changed of a frame buffer's textures, if there is one
+abbrev pub changed_for : Option TargetSlot → (color depth : Texels → Texels) → Textures → Textures
+changed_for None color depth h = h
+changed_for (Some t) color depth h = changed_depth t.depth depth (changed_texels color t.color h)
+
+-- the textures with the texels changed of the textures of an index's frame buffer
+abbrev pub changed_target : ℕ → (color depth : Texels → Texels) → Textures → Textures
+changed_target i color depth h = changed_for (at h.targets i) color depth h
 
 -- the sides of a texture that is taken out
 abbrev pub out_sides : Held → Option (ℕ × ℕ)
