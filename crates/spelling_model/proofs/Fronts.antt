@@ -1,13 +1,13 @@
 -- What is written of a scene ends with its own last line, and so it is a front of each text that begins with it.
-use Rattle.std.proofs.Common.{◌≡◌, ℕ, true, List, [], ◌∷◌, ◌++◌, map, length, Ok, Result, ap, sym, subst, ◌∙◌, append_assoc}
+use Rattle.std.proofs.Common.{◌≡◌, ℕ, true, List, [], ◌∷◌, ◌++◌, map, length, Ok, ap, sym, subst, ◌∙◌, append_assoc}
 use Rattle.std.specs.Prelude.{codes, flat_map}
 use Rattle.std.specs.Fmt.{decimal}
 use Rattle.std.proofs.lemmas.List.{append-nil}
 use Rattle.std.proofs.lemmas.Grind.{flat_map-append}
 use Rattle.scene_model.specs.Scene.{Scene}
-use Rattle.scene_model.specs.Grammar.{Field, Fault, says_latency, scene_of, front_of, whole_language}
+use Rattle.scene_model.specs.Grammar.{Field, says_latency, scene_of, front_of, whole_language}
 use Rattle.scene_model.proofs.FrontLaws.{front-law}
-use Rattle.spelling_model.specs.LineSpelling.{room_lines, latency_lines, head_lines, frames_lines, spelled_lines}
+use Rattle.spelling_model.specs.LineSpelling.{room_lines, latency_lines, head_lines, frames_lines}
 use Rattle.spelling_model.specs.Written.{line_text, has_beside, written, WrittenFrontLaw}
 use Rattle.spelling_model.proofs.Joins.{joined_by}
 use Rattle.spelling_model.proofs.LineTexts.{line_joined}
