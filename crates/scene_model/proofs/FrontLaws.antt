@@ -77,7 +77,7 @@ ended known r q line end e =
     by None e = cc e
     by (Some w) e =
         let fs = split_at 32 line in
-        let version = behind_test (not (is_other_version fs)) unknown_version _ q e in
+        let version = behind_test (not (is_other_version known.newest fs)) unknown_version _ q e in
         let place = behind_test (is_in_place r w fs) misplaced_word _ q version.1 in
         none_at_end r.stage w end (stands r.stage r.version r.encoders (last_encoder (blocks_of_last r.frames)) w fs place.0)
 
