@@ -5,9 +5,8 @@
 //! `one_reading` and `written_front` are corollaries: the first follows from the law of reading, the second from those of fronts and of writing.
 #![tactic(auto)]
 
-ghost use Rattle.scene_model.specs.Grammar.{FrontLaw};
 ghost use Rattle.scene_model.specs.Journal.{FaultLaw, OrderLaw};
-ghost use Rattle.scene_model.specs.JournalText.{JournalTextLaw};
+ghost use Rattle.scene_model.specs.TextLaws.{FrontLaw, JournalTextLaw};
 ghost use Rattle.schedule_model.specs.Held.{EveryRunHolds};
 ghost use Rattle.spelling_model.specs.Spelling.{OneReading, ReadingLaw};
 ghost use Rattle.spelling_model.specs.Written.{WritingLaw, WrittenFrontLaw};

@@ -4,7 +4,8 @@ use Rattle.std.specs.Prelude.{codes}
 use Rattle.std.specs.List.{list_all}
 use Rattle.scene_model.specs.Scene.{Scene}
 use Rattle.scene_model.specs.Field.{Read, ◌>>=◌, bad_byte, ends_early, misplaced_word, unknown_version, split_at, with_head, find_word}
-use Rattle.scene_model.specs.Grammar.{Field, field, Language, Word, scene_word, size_word, encoders_word, room_word, latency_word, frame_word, encoder_word, beside_word, done_word, journal_word, layout_word, vertex_buffer_word, index_buffer_word, texture_word, frame_buffer_word, program_word, uniform_word, update_word, texel_update_word, destroy_word, view_word, order_word, state_word, stencil_word, scissor_word, transform_word, vertices_word, indices_word, transient_vertices_word, transient_indices_word, bind_word, set_word, submit_word, touch_word, blit_word, Stage, at_front, at_size, at_encoders, at_room, at_latency, at_first_frame, in_before, in_block, in_beside, at_end, can_stand, is_next_of, says_latency, Reading, nothing_read, unless, is_text_byte, is_other_version, is_in_place, is_in_place_at, last_encoder, blocks_of_last, after_fields, after_line, is_skipped, is_at_end, scene_read, Fault, at_last_piece, line_read, read_pieces, with_place, front_pieces, FrontLaw}
+use Rattle.scene_model.specs.Grammar.{Field, field, Language, Word, scene_word, size_word, encoders_word, room_word, latency_word, frame_word, encoder_word, beside_word, done_word, journal_word, layout_word, vertex_buffer_word, index_buffer_word, texture_word, frame_buffer_word, program_word, uniform_word, update_word, texel_update_word, destroy_word, view_word, order_word, state_word, stencil_word, scissor_word, transform_word, vertices_word, indices_word, transient_vertices_word, transient_indices_word, bind_word, set_word, submit_word, touch_word, blit_word, Stage, at_front, at_size, at_encoders, at_room, at_latency, at_first_frame, in_before, in_block, in_beside, at_end, can_stand, is_next_of, says_latency, Reading, nothing_read, unless, is_text_byte, is_other_version, is_in_place, is_in_place_at, last_encoder, blocks_of_last, after_fields, after_line, is_skipped, is_at_end, scene_read, Fault, at_last_piece, line_read, read_pieces, with_place, front_pieces}
+use Rattle.scene_model.specs.TextLaws.{FrontLaw}
 use Rattle.scene_model.proofs.SplitLaws.{split-found, split-has}
 
 -- ---- nothing stands behind the end

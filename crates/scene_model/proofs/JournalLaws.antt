@@ -7,7 +7,8 @@ use Rattle.std.proofs.lemmas.Bool.Decides.{nat_tests}
 use Rattle.scene_model.specs.Field.{split_at}
 use Rattle.scene_model.specs.Journal.{Entry}
 use Rattle.scene_model.specs.Output.{entry_text, journal_line, journal_text}
-use Rattle.scene_model.specs.JournalText.{number_within, greatest_encoder, greatest_ordinal, entry_from, entry_of_pieces, entry_field, EntriesRead, entries_onto, entries_in, entries_behind, entries_of_line, after_line, journal_pieces, IsSpellable, JournalTextLaw}
+use Rattle.scene_model.specs.JournalText.{number_within, greatest_encoder, greatest_ordinal, entry_from, entry_of_pieces, entry_field, EntriesRead, entries_onto, entries_in, entries_behind, entries_of_line, after_line, journal_pieces}
+use Rattle.scene_model.specs.TextLaws.{IsSpellable, JournalTextLaw}
 use Rattle.scene_model.proofs.SplitLaws.{is_free_of, split-found, split-none, split-has}
 use Rattle.scene_model.proofs.NumberTexts.{decimal-value, decimal-numeral, decimal-free}
 
