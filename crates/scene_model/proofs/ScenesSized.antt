@@ -1,7 +1,7 @@
 -- Every scene that is read has sides of 1 to 2,048 pixels, at most 1,024 frames and a version of its language, in whatever language it is read.
 use Rattle.std.proofs.Common.{◌≡◌, ℕ, ◌+◌, ◌≤◌, ◌<◌, nat_lt, leb, leb-true, ltb-true, Bool, true, false, not, ◌&&◌, cond, List, [], ◌∷◌, length, ◌++◌, length-append, Option, Some, None, Result, Ok, Err, refl, ap, subst, sym, ◌∙◌, suc, arith}
 use Rattle.std.specs.List.{list_all}
-use Rattle.scene_model.specs.Scene.{SceneFrame, Scene, HasSides, newest_version, IsVersion, greatest_latency, views_in}
+use Rattle.scene_model.specs.Scene.{SceneFrame, Scene, HasSides, greatest_latency, views_in}
 use Rattle.scene_model.specs.Field.{Read, ◌>>=◌, bad_byte, ends_early, misplaced_word, unknown_version, out_of_range, natural, in_range, number_in, u8_number, split_at, find_word}
 use Rattle.scene_model.specs.Grammar.{Field, field, Language, Word, scene_word, size_word, encoders_word, room_word, latency_word, frame_word, encoder_word, beside_word, done_word, journal_word, layout_word, vertex_buffer_word, index_buffer_word, texture_word, frame_buffer_word, program_word, uniform_word, update_word, texel_update_word, destroy_word, view_word, order_word, state_word, stencil_word, scissor_word, transform_word, vertices_word, indices_word, transient_vertices_word, transient_indices_word, bind_word, set_word, submit_word, touch_word, blit_word, Stage, at_front, at_size, at_encoders, at_room, at_latency, at_first_frame, in_before, in_block, in_beside, at_end, is_front_word, is_size_word, can_stand, Reading, nothing_read, on_last, empty_frame, at_stage, with_version, with_size, with_encoders, with_room, with_latency, with_new_frame, with_block, on_last_frame, with_names, with_resource_line, with_encoder_line, last_encoder, blocks_of_last, unless, has_count, is_text_byte, is_other_version, is_next_of, says_latency, is_in_place, are_filled_before, room_form, resource_form, encoder_form, after_resource, after_encoder_line, after_word, after_fields, after_line, is_skipped, is_at_end, scene_read, Fault, at_last_piece, line_read, read_pieces, scene_of}
 
