@@ -41,7 +41,7 @@ deep_colored d s w top n (c ∷ cs) (z ∷ zs) free e =
     let x = n % w in
     let y = top + n / w in
     (λ i. deep_if (is_drawn (rect_seen d.cut) (facing_seen d s) x y) (color_seen d s x y c) c z (step_seen d s x y (deep_pixel c z)) (free x y c z) i
-        ∷ deep_colored d s w top (n + 1) cs zs free (omega (arith, e)) i)
+    ∷ deep_colored d s w top (n + 1) cs zs free (omega (arith, e)) i)
 
 -- where every depth passes and none is stored
 pub free_where : (r : Rule) (d : Prepared) (s : Setup) → IsRule r d.state → IsOver r → (facing_seen d s).stencil ≡ 0 → IsFree d s

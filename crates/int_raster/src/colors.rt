@@ -72,13 +72,7 @@ fn store_shade(colors: &mut [[u8; 4]], span: &Span, shade: &Shade, setup: &Setup
 }
 
 /// Stores painted colours in a piece.
-fn store(
-    colors: &mut [[u8; 4]],
-    span: &Span,
-    paints: &[[u8; 4]],
-    setup: &Setup,
-    draw: &Prepared,
-)
+fn store(colors: &mut [[u8; 4]], span: &Span, paints: &[[u8; 4]], setup: &Setup, draw: &Prepared)
     requires inside { span.now.start + span.now.after ≤ length colors.old }
     requires room { span.now.after ≤ span.now.first + length paints.now }
     requires opaque { IsOpaque draw.now.state }

@@ -47,9 +47,7 @@ fn store_piece(
     match rule {
         Some(rule) => store(colors, depths, span, paints, depth, rule, setup, draw),
         None => match mixing {
-            Some(mixing) => mix(
-                colors, depths, span, paints, depth, mixing, setup, draw,
-            ),
+            Some(mixing) => mix(colors, depths, span, paints, depth, mixing, setup, draw),
             None => step(colors, depths, span, paints, depth, setup, draw),
         },
     }
@@ -118,9 +116,7 @@ fn paint_plain(
     ensures { deep_pixels colors.new depths.new ≡ map_from (spanned (in_row span.now.start span.now.y (step_seen draw.now setup.now)) (span.now.start + span.now.first) (span.now.start + span.now.after)) 0 (deep_pixels colors.old depths.old) }
 {
     match &brush.painter {
-        Painter::Solid(color) => {
-            fill(colors, depths, span, *color, depth, plain, setup, draw)
-        }
+        Painter::Solid(color) => { fill(colors, depths, span, *color, depth, plain, setup, draw) }
         Painter::Vertex(shade) => {
             store_shade(colors, depths, span, shade, depth, plain, setup, draw)
         }
@@ -236,9 +232,7 @@ fn triangle_tested(
             first,
             after,
         };
-        draw_span(
-            colors, depths, &span, &brush, &rule, &mixing, setup, draw,
-        );
+        draw_span(colors, depths, &span, &brush, &rule, &mixing, setup, draw);
         sides = setup.next_sides(sides, y);
     }
 }

@@ -302,4 +302,3 @@ pub(crate) fn store(
         new = new.wrapping_add(depth.right);
     }
 }
-

@@ -9,8 +9,8 @@ use crate::{DrawList, Paint, Prepared, Surface, colors, deep_spans, draw_bands, 
 use fix_math::{Rect, Texels};
 use std::alloc::Global;
 use std::process::Abort;
-use std::thread::Threads;
 use std::test::Fail;
+use std::thread::Threads;
 use tri_cover::Setup;
 use vertex_layout::Vertex;
 

@@ -25,12 +25,7 @@ fn triangle_flat(colors: &mut [[u8; 4]], rows: &Rows, setup: &Setup, draw: &Prep
 }
 
 /// Draws all triangles of a draw.
-pub(crate) fn draw_flat(
-    colors: &mut [[u8; 4]],
-    rows: &Rows,
-    draw: &Prepared,
-    triangles: &[Setup],
-)
+pub(crate) fn draw_flat(colors: &mut [[u8; 4]], rows: &Rows, draw: &Prepared, triangles: &[Setup])
     requires whole { length colors.old ≡ rows.now.width * rows.now.count }
     ensures { flat_pixels colors.new ≡ map_from (by_place rows.now.width (below rows.now.top (prepared_step (prepared_seen draw.now (map setup_seen triangles.now))))) 0 (flat_pixels colors.old) }
 {

@@ -208,12 +208,7 @@ fn wide_for(setup: &Setup, short: &Option<Ramp>, width: u16, height: u16) -> Wid
 }
 
 /// What draws a triangle of one colour and one depth.
-fn level_brush<'x>(
-    setup: &Setup,
-    draw: &Prepared<'x>,
-    width: u16,
-    height: u16,
-) -> Option<Brush<'x>>
+fn level_brush<'x>(setup: &Setup, draw: &Prepared<'x>, width: u16, height: u16) -> Option<Brush<'x>>
     ensures paints { IfSome result (λ b. Paints b.painter draw.now setup.now width height) }
     ensures depths { IfSome result (λ b. HasWideDepths b.depth setup.now width height) }
     ensures short { IfSome result (λ b. IfSome b.short (λ r. HasDepths r setup.now width height)) }

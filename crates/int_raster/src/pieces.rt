@@ -60,13 +60,7 @@ fn texture_piece(texels: &Texels, at: &Place, piece: &Span, colors: &mut [[u8; 4
 }
 
 /// The products of the texels at the texture positions and of the vertices' colours.
-fn product_piece(
-    texels: &Texels,
-    at: &Place,
-    shade: &Shade,
-    piece: &Span,
-    colors: &mut [[u8; 4]],
-)
+fn product_piece(texels: &Texels, at: &Place, shade: &Shade, piece: &Span, colors: &mut [[u8; 4]])
     requires room { piece.now.after ≤ piece.now.first + length colors.old }
     requires short { piece.now.after ≤ piece.now.first + 32 }
     ensures { HoldsPiece colors.new (λ x. zip_with byte_product (sample (texels_seen texels.now) (pos (place_at at.now.u x piece.now.y)) (pos (place_at at.now.v x piece.now.y))) (shade_at shade.now x piece.now.y)) piece.now.first piece.now.after }

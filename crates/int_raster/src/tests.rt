@@ -120,7 +120,11 @@ fn drawn_once<R: Threads + Sync + Abort>(
     for bands in [1u32, 3, 1000] {
         let mut surface = blank(alloc, FOUR, [0, 0, 0, 0])?;
         draw_bands(rt, &mut surface, &list, bands);
-        assert_eq!(rt; reds(alloc, &surface)?.as_slice(), reds_in_one.as_slice(), "{bands} bands");
+        assert_eq!(rt;
+            reds(alloc, &surface)?.as_slice(),
+            reds_in_one.as_slice(),
+            "{bands} bands"
+        );
     }
     Ok(reds_in_one)
 }
@@ -258,7 +262,11 @@ fn a_blended_vertex_colour(rt: HostRuntime) -> Result<(), Fail> {
 fn a_cleared_list_draws_nothing(rt: HostRuntime) -> Result<(), Fail> {
     let alloc = rt.alloc();
     let mut list = DrawList::new(alloc);
-    let triangles = solid(alloc, &[(-65536, 65536), (65536, 65536), (65536, -65536)], FOUR)?;
+    let triangles = solid(
+        alloc,
+        &[(-65536, 65536), (65536, 65536), (65536, -65536)],
+        FOUR,
+    )?;
     let draw = Prepared {
         cut: FOUR,
         state: state(&rt, 15),

@@ -21,7 +21,7 @@ loop-first-preserved c =
     let some : c.loop-first.first < p.after = e.some c.loop-first-test.true in
     let g = color_seen c.args.draw.now c.args.setup.now in
     let done : c.store_piece.new.colors ≡ map_from (spanned (in_row s.start s.y g) (s.start + c.loop-first.first) (s.start + p.after)) 0 c.loop-first.colors =
-        c.store_piece.ensures ∙ (λ j. map_from (spanned (in_row (e.row.0 j) (e.row.1 j) g) (e.row.0 j + e.row.2 j) (e.row.0 j + p.after)) 0 c.loop-first.colors) in
+    c.store_piece.ensures ∙ (λ j. map_from (spanned (in_row (e.row.0 j) (e.row.1 j) g) (e.row.0 j + e.row.2 j) (e.row.0 j + p.after)) 0 c.loop-first.colors) in
     record {
       order = omega (arith, i.order, some);
       within = e.within;
