@@ -5,6 +5,8 @@ use Rattle.std.specs.List.{range_with_len}
 use Rattle.std.proofs.lemmas.List.{map-append, length-map, length-take-le}
 use Rattle.std.proofs.lemmas.List.FromFn.{map-range_with_len_more}
 use Rattle.gfx_model.specs.Recorder.{begun}
+use Rattle.scene_model.specs.Scene.{views_of, views_in}
+use Rattle.scene_player.specs.Lines.{IsFirst}
 use Rattle.scene_model.specs.Scene as scenes
 use Rattle.scene_model.specs.Fold.{Accepted, Progress, Recording, after_encoder_line, accepted_of, recording_of, lines_of}
 use Rattle.scene_model.specs.Journal.{Entry, entries_of, serial_from}
@@ -53,18 +55,21 @@ abbrev accepted_in : Scene → SceneFrame → ℕ → Progress → ℕ → Accep
 accepted_in s f number p e = accepted_of (recording_of (scene_seen s) number p (frame_seen f) e)
 
 -- one recording more
-pub recorded-more : (s : Scene) (f : SceneFrame) (number : ℕ) (p : Progress) (e : ℕ) (bundles new : List Recording) (r : Recording) (own : List EncLine) → new ≡ bundles ++ r ∷ []
+pub recorded-more : (s : Scene) → IsFirst (scene_seen s) → (f : SceneFrame) (number : ℕ) (p : Progress) (e : ℕ) (bundles new : List Recording) (r : Recording) (own : List EncLine) → new ≡ bundles ++ r ∷ []
     → map encoder_line_seen own ≡ lines_of e (map block_seen f.blocks)
     → r ≡ fold (after_encoder_line p) (record { recorder = begun number 256 (room_seen s.room); dropped = 0 }) (map encoder_line_seen own)
     → map (accepted_in s f number p) (range_with_len 0 e) ≡ map accepted_of bundles
     → map (accepted_in s f number p) (range_with_len 0 (e + 1)) ≡ map accepted_of new
-recorded-more s f number p e bundles new r own push same recorded h =
+recorded-more s one f number p e bundles new r own push same recorded h =
     let from : 0 + e ≡ e = omega arith in
-    let first : Recording = record { recorder = begun number 256 (room_seen s.room); dropped = 0 } in
-    let one : accepted_in s f number p e ≡ accepted_of r =
-    ap (λ (ls : List scenes.EncoderLine). accepted_of (fold (after_encoder_line p) first ls)) (sym same) ∙ ap accepted_of (sym recorded) in
+    let first : Recording = record { recorder = begun number (views_of (scene_seen s)) (room_seen s.room); dropped = 0 } in
+    let views : views_of (scene_seen s) ≡ 256 = ap views_in one.0 in
+    let added : accepted_in s f number p e ≡ accepted_of r =
+    ap (λ (ls : List scenes.EncoderLine). accepted_of (fold (after_encoder_line p) first ls)) (sym same)
+    ∙ ap (λ (n : ℕ). accepted_of (fold (after_encoder_line p) (record { recorder = begun number n (room_seen s.room); dropped = 0 }) (map encoder_line_seen own))) views
+    ∙ ap accepted_of (sym recorded) in
     map-range_with_len_more (accepted_in s f number p) 0 e e from
     ∙ ap (λ (xs : List Accepted). xs ++ accepted_in s f number p e ∷ []) h
-    ∙ ap (λ (a : Accepted). map accepted_of bundles ++ a ∷ []) one
+    ∙ ap (λ (a : Accepted). map accepted_of bundles ++ a ∷ []) added
     ∙ sym (map-append accepted_of bundles (r ∷ []))
     ∙ ap (map accepted_of) (sym push)

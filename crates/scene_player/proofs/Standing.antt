@@ -6,8 +6,11 @@ use Rattle.gfx_model.specs.Raster.{Texels}
 use Rattle.gfx_model.specs.World.{World, frame_step, first_world}
 use Rattle.io_edge.specs.Edge.{with_back}
 use Rattle.gfx_model.specs.Resources.{deaths_in}
+use Rattle.gfx_model.specs.Resources.{opening}
+use Rattle.scene_model.specs.Scene as scenes
+use Rattle.scene_model.specs.Scene.{views_in}
 use Rattle.scene_model.specs.Fold as model
-use Rattle.scene_model.specs.Fold.{FramePlan, plans, plans_from, accepted_of}
+use Rattle.scene_model.specs.Fold.{first_progress, FramePlan, plans, plans_from, accepted_of}
 use Rattle.scene_model.specs.Journal.{Journal, IsLawful, IsLawfulFront, IsLawfulFrame, AreLawful, frame_content, pictures, pictures_from}
 use Rattle.scene_model.specs.Output.{picture_text, pictures_text, frame_note, report, report_from}
 use Rattle.triangle_text.specs.declared.scene.Scene.{Scene}
@@ -16,7 +19,7 @@ use Rattle.triangle_text.specs.declared.journal.JournalEntry.{JournalEntry}
 use Rattle.triangle_text.specs.Seen.{entry_seen, frame_seen, scene_seen}
 use Rattle.scene_player.specs.declared.frame.Frame.{Frame}
 use Rattle.scene_player.specs.declared.progress.Progress.{Progress}
-use Rattle.scene_player.specs.Lines.{started, progress_seen}
+use Rattle.scene_player.specs.Lines.{IsFirst, started, progress_seen}
 use Rattle.scene_player.specs.Frame.{plan_seen, IsComposed, after_all}
 use Rattle.scene_player.specs.Rendered.{content_seen}
 use Rattle.scene_player.specs.Io.{HasFront}
@@ -40,11 +43,18 @@ pub record StandsAt (s : Scene) (number : ℕ) (progress : Progress) (world : Wo
   pub held : new ≡ with_back old (flat_map picture_text (pictures_from (first_world s.width s.height) done journal))
   pub report : notes ≡ report_from 0 done
 
-pub start : (s : Scene) (progress : Progress) (world : World) (old : Option (List ℕ)) → progress_seen progress ≡ started → world ≡ first_world s.width s.height
+abbrev begun_with : (views latency : ℕ) → model.Progress
+begun_with views latency = record { resources = opening views latency 0 1; bindings = []; changes = []; dropped = 0 }
+
+-- what stands before the first frame is what the scene's definition begins with
+started_of : (s : scenes.Scene) → IsFirst s → first_progress s ≡ started
+started_of s one = (λ i. begun_with (views_in (one.0 i)) (one.1 i))
+
+pub start : (s : Scene) → IsFirst (scene_seen s) → (progress : Progress) (world : World) (old : Option (List ℕ)) → progress_seen progress ≡ started → world ≡ first_world s.width s.height
     → old ≡ with_back old [] → StandsAt s 0 progress world [] old old []
-start s progress world old begun first nothing = record {
+start s one progress world old begun first nothing = record {
   done = [];
-  plans = ap (λ (p : model.Progress). plans_from (scene_seen s) 0 [] p (map frame_seen s.frames)) (sym begun);
+  plans = ap (λ (p : model.Progress). plans_from (scene_seen s) 0 [] p (map frame_seen s.frames)) (started_of (scene_seen s) one ∙ sym begun);
   same = ap (λ (p : model.Progress). length p.resources.things) begun ∙ sym (ap (λ (w : World). length w.things) first);
   reached = first;
   lawful = tt;

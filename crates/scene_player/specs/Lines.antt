@@ -4,13 +4,19 @@ use Rattle.gfx_model.specs.Words.{Handle}
 use Rattle.gfx_model.specs.Resources.{opening, Refusal}
 use Rattle.gfx_words.specs.declared.refusals.Refusal as code
 use Rattle.gfx_words.specs.Seen.{refusal_seen}
+use Rattle.gfx_model.specs.Views.{fewest_views}
+use Rattle.scene_model.specs.Scene.{Scene}
 use Rattle.scene_model.specs.Fold as model
 use Rattle.scene_calls.specs.Made.{changes_since}
 use Rattle.scene_player.specs.declared.progress.Progress.{Progress}
 
--- nothing is done yet, with 256 views
+-- a scene of the first version
+abbrev pub IsFirst : Scene → Type 0
+IsFirst s = (s.version ≡ 1) × (s.latency ≡ 1)
+
+-- nothing is done yet, with as many views as scenes of the first version have
 abbrev pub started : model.Progress
-started = record { resources = opening 256 1 0 1; bindings = []; changes = []; dropped = 0 }
+started = record { resources = opening fewest_views 1 0 1; bindings = []; changes = []; dropped = 0 }
 
 abbrev pub progress_seen : Progress → model.Progress
 progress_seen p = record { resources = p.resources; bindings = p.names; changes = changes_since p.first p.resources.things; dropped = p.dropped }

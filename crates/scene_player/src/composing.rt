@@ -6,7 +6,7 @@ ghost use Rattle.scene_model.specs.Journal.{serial_from, entries_of, item_of};
 ghost use Rattle.triangle_text.specs.Seen.{entry_seen, frame_seen, scene_seen};
 ghost use Rattle.scene_world.specs.Items.{item_seen};
 ghost use Rattle.scene_player.specs.Frame.{IsComposed};
-ghost use Rattle.scene_player.specs.Lines.{progress_seen};
+ghost use Rattle.scene_player.specs.Lines.{IsFirst, progress_seen};
 
 use crate::frame::Frame;
 use crate::progress::Progress;
@@ -23,6 +23,7 @@ fn record_all(
     progress: &Progress,
     frame: &SceneFrame,
 ) -> Result<Vec<Recording>, AllocError>
+    requires first { IsFirst (scene_seen scene.now) }
     ensures many { IfOk result (λ bundles. length bundles.items ≤ 255) }
     ensures recorded { IfOk result (λ bundles. map (λ e. accepted_of (recording_of (scene_seen scene.now) number (progress_seen progress.now) (frame_seen frame.now) e))
         (range_with_len 0 scene.now.encoders) ≡ map accepted_of bundles.items) }
@@ -73,6 +74,7 @@ pub(crate) fn compose(
     frame: &SceneFrame,
     progress: &mut Progress,
 ) -> Result<Frame, AllocError>
+    requires first { IsFirst (scene_seen scene.now) }
     // The frame is the one that the scene's definition composes, and the state is the one after its lines.
     ensures { IfOk result (λ f. IsComposed scene.now frame.now number progress.old progress.new f) }
 {

@@ -5,7 +5,7 @@ ghost use Rattle.scene_model.specs.Scene.{HasSides};
 ghost use Rattle.scene_model.specs.Output.{frame_note};
 ghost use Rattle.io_edge.specs.Edge.{Rose};
 ghost use Rattle.triangle_text.specs.Seen.{scene_seen, journal_seen};
-ghost use Rattle.scene_player.specs.Lines.{started, progress_seen};
+ghost use Rattle.scene_player.specs.Lines.{IsFirst, started, progress_seen};
 ghost use Rattle.scene_player.specs.Frame.{plan_seen, IsComposed};
 ghost use Rattle.scene_player.specs.Rendered.{Fits};
 ghost use Rattle.scene_player.specs.Shown.{IsShown};
@@ -37,6 +37,7 @@ fn next_frame(
     journal: &mut Vec<Sequence<JournalEntry>>,
     report: &mut Vec<u8>,
 ) -> Result<Frame, AllocError>
+    requires first { IsFirst (scene_seen scene.now) }
     ensures kept { OnErr result (journal.new.items ≡ journal.old.items) }
     ensures pushed { IfOk result (λ f. journal.new.items ≡ journal.old.items ++ f.journal.items ∷ []) }
     ensures note { IfOk result (λ f. report.new.items ≡ report.old.items ++ frame_note number (plan_seen f)) }
@@ -65,6 +66,7 @@ fn start(alloc: Global, scene: &Scene) -> Result<(Progress, Canvas), AllocError>
 pub(crate) fn play_frames<P: Sink>(alloc: Global, scene: &Scene, pictures: &mut P) -> FramesPlayed
     requires sides { HasSides (scene_seen scene.now) }
     requires few { length (scene_seen scene.now).frames ≤ 1024 }
+    requires first { IsFirst (scene_seen scene.now) }
     ensures shown { IsShown result.outcome (scene_seen scene.now) (P.held pictures.old) (P.held pictures.new)
         (journal_seen result.journal) result.report.items
         (Rose (P.faults pictures.old) (P.faults pictures.new)) }

@@ -6,6 +6,7 @@ ghost use Rattle.scene_model.specs.Grammar.{Fault, scene_of};
 ghost use Rattle.scene_model.specs.Journal as journals;
 ghost use Rattle.triangle_text.specs.Seen.{scene_seen, journal_seen};
 ghost use Rattle.triangle_text.specs.Spoken.{spoken};
+ghost use Rattle.scene_player.specs.Lines.{IsFirst};
 ghost use Rattle.scene_player.specs.Ended.{SceneEnded, BytesEnded, SourceEnded, Ended, HasLine, IsPlay, IsUsage, IsDone, IsDoneOrOutOfMemory, IsRefusedOrOutOfMemory, IsTooLongOrOutOfMemory};
 
 use crate::input::{InputError, read_all};
@@ -55,6 +56,7 @@ fn play_scene<P: Sink, N: Sink>(
 ) -> (Status, Journal)
     requires sides { model.HasSides (scene_seen scene.now) }
     requires few { length (scene_seen scene.now).frames ≤ 1024 }
+    requires first { IsFirst (scene_seen scene.now) }
     ensures ended { SceneEnded result.0 (scene_seen scene.now)
         (P.held pictures.old) (P.held pictures.new) (journal_seen result.1)
         (N.held notes.old) (N.held notes.new)

@@ -13,7 +13,7 @@ loop-encoder-preserved c =
     record {
       many = omega (arith, ap length c.in_ok-push.ensures.items, length-append c.loop-encoder.bundles.items (c.in_ok-record.field-0 ∷ []), c.loop-encoder.invariant.many);
       recorded =
-          recorded-more c.args.scene.now c.args.frame.now c.args.number (progress_seen c.args.progress.now) c.loop-encoder.encoder c.loop-encoder.bundles.items c.push.new.self.items c.in_ok-record.field-0 c.lines_of-lines.result.now
+          recorded-more c.args.scene.now c.requires.first c.args.frame.now c.args.number (progress_seen c.args.progress.now) c.loop-encoder.encoder c.loop-encoder.bundles.items c.push.new.self.items c.in_ok-record.field-0 c.lines_of-lines.result.now
           c.in_ok-push.ensures.items own c.in_ok-record.ensures c.loop-encoder.invariant.recorded;
     }
 

@@ -5,7 +5,7 @@ use Rattle.scene_player.proofs.playing.play_frames.Goals as goal
 
 pub loop-number-init : goal.loop-number-init
 loop-number-init g c = record {
-  stands = rw (c.new-lists.ensures.items, c.new-report.ensures.items) (start c.args.scene.now c.in-Ok.first.0 c.in-Ok.first.1.world (g.P.Sink.held c.args.pictures.now) c.in-Ok.ensures.progress c.in-Ok.ensures.world (with_back-nothing (g.P.Sink.held c.args.pictures.now)));
+  stands = rw (c.new-lists.ensures.items, c.new-report.ensures.items) (start c.args.scene.now c.requires.first c.in-Ok.first.0 c.in-Ok.first.1.world (g.P.Sink.held c.args.pictures.now) c.in-Ok.ensures.progress c.in-Ok.ensures.world (with_back-nothing (g.P.Sink.held c.args.pictures.now)));
   fits = c.in-Ok.ensures.fits;
   sure = refl;
   faults = omega arith;
