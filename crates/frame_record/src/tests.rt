@@ -1,11 +1,12 @@
 // Journals and draw orders from outside.
-ghost use Rattle.std.specs.Prelude.{◌≡◌, ◌<◌, ◌∷◌, [], IfOk};
-ghost use Rattle.draw_encoder.specs.Seen.{numbers_of};
+ghost use Rattle.std.specs.Prelude.{◌≡◌, ◌<◌, ◌∷◌, ◌++◌, [], IfOk};
+ghost use Rattle.draw_encoder.specs.Seen.{number_of, numbers_of};
 
 use crate::ordering::ordered;
 use crate::{JournalEntry, OrderedItem, collect, end_of_run};
 use draw_encoder::{
-    Bytes, DrawItem, IndexSet, Item, Items, Recording, TouchItem, UniformSets, VertexSet,
+    BlitCall, BlitItem, Bytes, DrawItem, IndexSet, Item, Items, Recording, TouchItem, UniformSets,
+    VertexSet,
 };
 use fix_math::{Affine, Rect};
 use gfx_words::{Handle, Info, Kind, StateWord, StencilWord, ViewMode};
@@ -13,7 +14,29 @@ use std::alloc::{AllocError, Global};
 use std::test::Fail;
 use view_table::ViewTable;
 
-fn touch(view: u16, number: u64) -> Item {
+// The types that an item is made of.
+type Parts = (
+    DrawItem,
+    VertexSet,
+    IndexSet,
+    Option<Handle>,
+    TouchItem,
+    BlitItem,
+    BlitCall,
+);
+
+fn put(items: &mut Vec<Item>, item: Item) -> Result<(), AllocError>
+    ensures { IfOk result (λ _. items.new.items ≡ items.old.items ++ item ∷ []) }
+{
+    // The check asks that the types of an item's parts are seen where it is stored.
+    let _parts: Option<Parts> = None;
+    items.push(item)?;
+    Ok(())
+}
+
+fn touch(view: u16, number: u64) -> Item
+    ensures { number_of result ≡ number }
+{
     Item::Touch(TouchItem {
         view,
         number,
@@ -22,7 +45,9 @@ fn touch(view: u16, number: u64) -> Item {
     })
 }
 
-fn recorded(alloc: Global, encoder: u8, items: Vec<Item>) -> Recording {
+fn recorded(alloc: Global, encoder: u8, items: Vec<Item>) -> Recording
+    ensures { result.items ≡ items.items }
+{
     Recording {
         encoder,
         frame: 0,
@@ -58,6 +83,17 @@ fn draw(view: u16, program: Handle, depth: u32) -> Option<Item> {
     }))
 }
 
+// Draws by their views, programs and depths.
+fn draws(alloc: Global, settings: &[(u16, Handle, u32)]) -> Result<Vec<Item>, AllocError> {
+    let mut items = Vec::new(alloc);
+    for (view, program, depth) in settings {
+        if let Some(item) = draw(*view, *program, *depth) {
+            put(&mut items, item)?;
+        }
+    }
+    Ok(items)
+}
+
 fn entry(encoder: u8, ordinal: u32) -> JournalEntry {
     JournalEntry { encoder, ordinal }
 }
@@ -78,28 +114,24 @@ fn items_by_view_depth_and_journal(rt: HostRuntime) -> Result<(), Fail> {
     assert_eq!(rt; views.set_mode(5, ViewMode::Sequential), Ok(()));
     let program = Handle::of(Kind::Program, 3, 1, Info::Plain);
     let stray = Handle::of(Kind::Uniform, 3, 2, Info::Plain);
-    let mut first = Vec::new(rt.alloc());
-    let mut second = Vec::new(rt.alloc());
-    for (view, handle, depth) in [
-        (1u16, program, 1u32),
-        (5, program, 9),
-        (0, program, 7),
-        (5, stray, 1),
-    ] {
-        if let Some(item) = draw(view, handle, depth) {
-            first.push(item)?;
-        }
-    }
-    for (view, handle, depth) in [
-        (1u16, program, 2u32),
-        (5, program, 3),
-        (0, program, 7),
-        (256, program, 1),
-    ] {
-        if let Some(item) = draw(view, handle, depth) {
-            second.push(item)?;
-        }
-    }
+    let first = draws(
+        rt.alloc(),
+        &[
+            (1, program, 1),
+            (5, program, 9),
+            (0, program, 7),
+            (5, stray, 1),
+        ],
+    )?;
+    let second = draws(
+        rt.alloc(),
+        &[
+            (1, program, 2),
+            (5, program, 3),
+            (0, program, 7),
+            (256, program, 1),
+        ],
+    )?;
     let mut recordings = Vec::new(rt.alloc());
     recordings.push(recorded(rt.alloc(), 4, first))?;
     recordings.push(recorded(rt.alloc(), 2, second))?;
@@ -136,8 +168,8 @@ fn two(alloc: Global, encoder: u8, first: u64, second: u64) -> Result<Recording,
     ensures { IfOk result (λ r. numbers_of r.items ≡ first ∷ second ∷ []) }
 {
     let mut items = Vec::new(alloc);
-    items.push(touch(0, first))?;
-    items.push(touch(0, second))?;
+    put(&mut items, touch(0, first))?;
+    put(&mut items, touch(0, second))?;
     Ok(recorded(alloc, encoder, items))
 }
 
