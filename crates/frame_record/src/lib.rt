@@ -13,3 +13,6 @@ pub use entry::JournalEntry;
 pub use frame::{Frame, MOST_ITEMS, Outcome, RenderedFrame};
 pub use link::FrameLink;
 pub use ordering::{OrderedItem, end_of_run};
+
+#[cfg(test)]
+mod tests;

@@ -159,6 +159,21 @@ fn sort(all: &mut Vec<OrderedItem>) -> Result<(), AllocError>
     all.sort_by_key(|o| o.key)
 }
 
+// the entries of the journal that have a key, in the order of the keys
+pub(crate) fn ordered(
+    alloc: Global,
+    views: &ViewTable,
+    recordings: &[Recording],
+    journal: &[JournalEntry],
+) -> Result<Vec<OrderedItem>, AllocError>
+    requires { length journal.now ≤ 65528 }
+    ensures { IfOk result (λ all. map keyed_of all.items ≡ sorted_by_key (keyed_entries views.now (recordings_seen recordings.now) (map entry_seen journal.now))) }
+{
+    let mut all = with_keys(alloc, views, recordings, journal)?;
+    sort(&mut all)?;
+    Ok(all)
+}
+
 impl Frame {
     /// The draws and touches in the order in which they are drawn: by the position of the view, then by the sort key, and at equal
     /// keys as they stand in the journal. Entries without an item, items of views that are not there and draws whose program is no
@@ -169,8 +184,7 @@ impl Frame {
         ensures keyed { IfOk result (λ all. map keyed_of all.items ≡ sorted_by_key (keyed_entries self.now.views (recordings_seen self.now.recordings.items) (map entry_seen self.now.journal.items))) }
         ensures order { IfOk result (λ all. map (λ o. entry_seen o.entry) all.items ≡ draw_order self.now.views (recordings_seen self.now.recordings.items) (map entry_seen self.now.journal.items)) }
     {
-        let mut all = with_keys(alloc, &self.views, &self.recordings, &self.journal)?;
-        sort(&mut all)?;
+        let all = ordered(alloc, &self.views, &self.recordings, &self.journal)?;
         Ok(all)
     }
 }
