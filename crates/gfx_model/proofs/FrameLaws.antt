@@ -148,7 +148,7 @@ pub sorted_map : {A B : Type 0} (f : A → B) (xs : List (ℕ × A)) → sorted_
 sorted_map f [] = refl
 sorted_map f (x ∷ xs) = ap (insert_by_key (second f x)) (sorted_map f xs) ∙ insert_map f x (sorted_by_key xs)
 
-insert_all : {A : Type 0} (P : ℕ × A → Type 0) (x : ℕ × A) (xs : List (ℕ × A)) → P x → AllByRecursion P xs → AllByRecursion P (insert_by_key x xs)
+pub insert_all : {A : Type 0} (P : ℕ × A → Type 0) (x : ℕ × A) (xs : List (ℕ × A)) → P x → AllByRecursion P xs → AllByRecursion P (insert_by_key x xs)
 insert_all P x [] h a = (h, tt)
 insert_all P x (y ∷ ys) h a = step (nat_le x.0 y.0) (insert_all P x ys h a.1)
   where
@@ -156,7 +156,7 @@ insert_all P x (y ∷ ys) h a = step (nat_le x.0 y.0) (insert_all P x ys h a.1)
     step true g = (h, a)
     step false g = (a.0, g)
 
-sorted_all : {A : Type 0} (P : ℕ × A → Type 0) (xs : List (ℕ × A)) → AllByRecursion P xs → AllByRecursion P (sorted_by_key xs)
+pub sorted_all : {A : Type 0} (P : ℕ × A → Type 0) (xs : List (ℕ × A)) → AllByRecursion P xs → AllByRecursion P (sorted_by_key xs)
 sorted_all P [] a = tt
 sorted_all P (x ∷ xs) a = insert_all P x (sorted_by_key xs) a.0 (sorted_all P xs a.1)
 

@@ -1,17 +1,15 @@
 -- Pixels of a row that are stepped one after the other.
 use Rattle.std.proofs.Common.{◌≡◌, ℕ, zero, suc, Bool, true, false, if◌then◌else◌, Option, Some, not, ◌^◌, ◌∷◌, refl, ◌+◌, ◌-◌, ◌*◌, ◌/◌, ◌%◌, ◌<◌, ◌≤◌, List, [], length, slice_index_or, slice_set, sym, ap, ◌∙◌, arith}
-use Rattle.std.proofs.lemmas.List.{map-set, length-map}
-use Rattle.std.proofs.Math.ListN.{get_or-map}
 use Rattle.gfx_model.specs.Number.{map_from, u32_at}
 use Rattle.gfx_model.specs.Vertex.{Color}
 use Rattle.gfx_model.specs.Words.{is_blended, depth_test_of, writes_depth, on_stencil_fail, on_depth_fail, on_pass}
 use Rattle.gfx_model.specs.Pixel.{Pixel, Shaded, blend, stored_channels, passes_stencil, passes_depth, stencil_by, stored_color, step_with_depth, pixel_step}
-use Rattle.int_raster.specs.Places.{flat_pixel, flat_pixels, deep_pixel, deep_pixels, spanned, in_row}
+use Rattle.int_raster.specs.Places.{deep_pixel, deep_pixels, spanned, in_row}
 use Rattle.gfx_model.specs.Raster.{fragment_at}
 use Rattle.gfx_model.specs.World.{painted}
 use Rattle.tri_cover.specs.declared.triangles.Setup.{Setup}
 use Rattle.int_raster.specs.declared.lists.Prepared.{Prepared}
-use Rattle.int_raster.specs.Seen.{paint_seen, facing_seen, step_seen}
+use Rattle.int_raster.specs.Seen.{paint_seen, facing_seen, step_seen, color_seen}
 use Rattle.tri_cover.specs.Shown.{setup_seen}
 use Rattle.int_raster.specs.Painted.{IsOpaque, bytes_of}
 use Rattle.int_raster.proofs.Changes.{span_more}
@@ -22,19 +20,16 @@ at_place f start y x p =
     let column : x ≡ start + x - start = omega arith in
     (λ i. f (column i) y p)
 
--- one pixel more of a surface without depth
-pub flat_more : (f : ℕ → ℕ → Pixel → Pixel) (start y first x : ℕ) (old now : List Color) (c : Color) →
-    flat_pixels now ≡ map_from (spanned (in_row start y f) (start + first) (start + x)) 0 (flat_pixels old) →
+-- one colour more
+pub color_more : (f : ℕ → ℕ → Color → Color) (start y first x : ℕ) (old now : List Color) (c : Color) →
+    now ≡ map_from (spanned (in_row start y f) (start + first) (start + x)) 0 old →
     first ≤ x → start + x < length old →
-    flat_pixel c ≡ f x y (flat_pixel (slice_index_or now (start + x) [])) →
-    flat_pixels (slice_set now (start + x) c) ≡ map_from (spanned (in_row start y f) (start + first) (start + (x + 1))) 0 (flat_pixels old)
-flat_more f start y first x old now c e a b h =
+    c ≡ f x y (slice_index_or now (start + x) []) →
+    slice_set now (start + x) c ≡ map_from (spanned (in_row start y f) (start + first) (start + (x + 1))) 0 old
+color_more f start y first x old now c e a b h =
     let next : start + x + 1 ≡ start + (x + 1) = omega arith in
-    let inside : start + x < length (flat_pixels old) = rw (length-map old flat_pixel) b in
-    map-set flat_pixel now (start + x) c
-    ∙ span_more (in_row start y f) (start + first) (start + x) (flat_pixels old) (flat_pixels now) (flat_pixel c) (flat_pixel []) e (omega arith) inside
-    (h ∙ at_place f start y x (flat_pixel (slice_index_or now (start + x) [])) ∙ ap (in_row start y f (start + x)) (sym (get_or-map flat_pixel now (start + x) [])))
-    ∙ ap (λ n. map_from (spanned (in_row start y f) (start + first) n) 0 (flat_pixels old)) next
+    span_more (in_row start y f) (start + first) (start + x) old now c [] e (omega arith) b (h ∙ at_place f start y x (slice_index_or now (start + x) []))
+    ∙ ap (λ n. map_from (spanned (in_row start y f) (start + first) n) 0 old) next
 
 -- ---- surfaces with depth
 
@@ -123,7 +118,6 @@ stored_opaque state color old h =
     let same : blend state color old ≡ color = if_false (is_blended state) _ color h.plain in
     sym (λ i. stored_channels (h.channels i) (same i) old)
 
-pub opaque_flat : (d : Prepared) (t : Setup) (x y : ℕ) (color old : Color) → IsOpaque d.state → color ≡ painted (paint_seen d.paint) (fragment_at (setup_seen t).triangle x y) →
-    flat_pixel (bytes_of color) ≡ step_seen d t x y (flat_pixel old)
-opaque_flat d t x y color old h e =
-    ap flat_pixel (stored_opaque d.state color old h) ∙ ap (λ c. flat_pixel (stored_color d.state c old)) e
+pub opaque_color : (d : Prepared) (t : Setup) (x y : ℕ) (color old : Color) → IsOpaque d.state → color ≡ painted (paint_seen d.paint) (fragment_at (setup_seen t).triangle x y) →
+    bytes_of color ≡ color_seen d t x y old
+opaque_color d t x y color old h e = stored_opaque d.state color old h ∙ ap (λ c. stored_color d.state c old) e

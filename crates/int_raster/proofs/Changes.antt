@@ -3,6 +3,7 @@ use Rattle.std.proofs.Common.{◌≡◌, ℕ, zero, suc, ◌+◌, ◌<◌, ◌�
 use Rattle.std.proofs.Math.ListN.{set}
 use Rattle.std.proofs.lemmas.Bool.Decides.{nat_tests}
 use Rattle.gfx_model.specs.Number.{map_from}
+use Rattle.gfx_model.proofs.PixelLaws.{map_from-map_from}
 use Rattle.int_raster.specs.Places.{spanned}
 
 pub length-map_from : {A B : Type 0} (f : ℕ → A → B) (n : ℕ) (xs : List A) → length (map_from f n xs) ≡ length xs
@@ -103,3 +104,14 @@ span_more g first x xs ys v d e a h here =
     ∙ set-map_from (spanned g first x) (spanned g first (x + 1)) 0 x xs v d h
     (λ k u ne. spanned_else g first x (0 + k) u (omega (arith, ne)))
     (here ∙ ap (g x) (span_next g first x xs ys d e h) ∙ spanned_here g first x (get_or xs x d) a ∙ ap (λ k. spanned g first (x + 1) k (get_or xs x d)) zx)
+
+spanned_joined : {A : Type 0} (g : ℕ → A → A) (first x after k : ℕ) (u : A) → first ≤ x → x ≤ after → spanned g x after k (spanned g first x k u) ≡ spanned g first after k u
+spanned_joined g first x after k u a b = grind (arith, nat_tests)
+
+-- a span in two parts
+pub spans_joined : {A : Type 0} (g : ℕ → A → A) (first x after : ℕ) (xs ys zs : List A) → first ≤ x → x ≤ after →
+    ys ≡ map_from (spanned g first x) 0 xs → zs ≡ map_from (spanned g x after) 0 ys → zs ≡ map_from (spanned g first after) 0 xs
+spans_joined g first x after xs ys zs a b e d =
+    d ∙ ap (map_from (spanned g x after) 0) e
+    ∙ map_from-map_from (spanned g first x) (spanned g x after) 0 xs
+    ∙ map_from-same (λ i p. spanned g x after i (spanned g first x i p)) (spanned g first after) xs (λ k u h. spanned_joined g first x after k u a b)

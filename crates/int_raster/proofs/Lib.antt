@@ -7,3 +7,6 @@ pub mod Samples
 pub mod Ramped
 pub mod Tested
 pub mod Grown
+pub mod Held
+pub mod Colored
+pub mod Level

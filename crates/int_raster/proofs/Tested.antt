@@ -63,23 +63,13 @@ pub plain_deep : (r : Rule) (d : Prepared) (t : Setup) (x y word kept depth : �
 plain_deep r d t x y word kept depth color old painted before z h = deep_after d t x y word kept depth color old painted before z h.plain
 
 -- the same where every depth passes and none is stored
-over_passes : (r : Rule) (a b : ℕ) → IsOver r → true ≡ by_order r a b
+pub over_passes : (r : Rule) (a b : ℕ) → IsOver r → true ≡ by_order r a b
 over_passes r a b h = rw (h.less, h.equal, h.greater) (choice (nat_lt a b) (a == b))
   where
     choice : (p q : Bool) → true ≡ (if p then true else (if q then true else true))
     choice true q = refl
     choice false true = refl
     choice false false = refl
-
-pub over_deep : (r : Rule) (d : Prepared) (t : Setup) (x y : ℕ) (color old painted z : Color) → IsPlain r d t → IsOver r →
-    color ≡ world.painted (paint_seen d.paint) (fragment_at (setup_seen t).triangle x y) → painted ≡ bytes_of color →
-    deep_pixel painted z ≡ step_seen d t x y (deep_pixel old z)
-over_deep r d t x y color old painted z h over hc hp =
-    let word = u32_at z 0 in
-    let depth = (fragment_at (setup_seen t).triangle x y).depth in
-    let kept : word ≡ word % 2 ^ 24 + 2 ^ 24 * (word / 2 ^ 24) = omega arith in
-    plain_deep r d t x y word word depth color old painted z z h refl refl hc refl
-    (stored_is r d.state word depth word old color painted true false h.opaque h.rule (over_passes r depth (word % 2 ^ 24) over) (sym over.writes) hp kept)
 
 -- the same where any step is made
 pub shaded_step : (d : Prepared) (t : Setup) (x y depth : ℕ) (color : Color) (p q : Pixel) →

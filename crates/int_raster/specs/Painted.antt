@@ -1,5 +1,5 @@
 -- The colours and depths that ramps give to a triangle's pixels.
-use Rattle.std.specs.Prelude.{◌≡◌, ℕ, ◌/◌, ◌%◌, ◌^◌, ◌<◌, ◌≤◌, ℤ, pos, true, false, List, [], ◌∷◌, slice_index}
+use Rattle.std.specs.Prelude.{◌≡◌, ℕ, ◌-◌, ◌/◌, ◌%◌, ◌^◌, ◌<◌, ◌≤◌, ℤ, pos, true, false, List, [], ◌∷◌, slice_index, slice_index_or}
 use Rattle.gfx_model.specs.Number.{zip_with, byte_product, int_at}
 use Rattle.gfx_model.specs.Vertex.{Color}
 use Rattle.gfx_model.specs.Raster.{covers, fragment_at, sample}
@@ -72,3 +72,7 @@ pub record IsOpaque (state : ℕ) : Type 0 where
 -- the four bytes of a colour
 abbrev pub bytes_of : Color → Color
 bytes_of c = slice_index c 0 ∷ slice_index c 1 ∷ slice_index c 2 ∷ slice_index c 3 ∷ []
+
+-- a list has the colours of the columns from one up to another
+abbrev pub HoldsPiece : List Color → (ℕ → Color) → (first after : ℕ) → Type 0
+HoldsPiece colors f first after = (x : ℕ) → first ≤ x → x < after → slice_index_or colors (x - first) [] ≡ f x

@@ -4,7 +4,9 @@ use Rattle.gfx_model.specs.Words.{depth_test_of, writes_depth}
 use Rattle.gfx_model.specs.Pixel.{passes_depth}
 use Rattle.tri_cover.specs.declared.triangles.Setup.{Setup}
 use Rattle.int_raster.specs.declared.lists.Prepared.{Prepared}
-use Rattle.int_raster.specs.Seen.{facing_seen}
+use Rattle.int_raster.specs.Seen.{facing_seen, step_seen, color_seen}
+use Rattle.gfx_model.specs.Vertex.{Color}
+use Rattle.int_raster.specs.Places.{deep_pixel}
 use Rattle.int_raster.specs.Painted.{IsOpaque}
 use Rattle.pixel_ops.specs.Blended.{IsBlending}
 use Rattle.int_raster.specs.declared.opaque.Rule.{Rule}
@@ -35,3 +37,7 @@ pub record IsMix (m : Mix) (d : Prepared) (s : Setup) : Type 0 where
   pub rule : IsRule m.rule d.state
   pub blending : IsBlending m.blending d.state
   pub plain : (facing_seen d s).stencil ≡ 0
+
+-- a triangle changes colours alone, whatever the depths are
+abbrev pub IsFree : Prepared → Setup → Type 0
+IsFree d s = (x y : ℕ) (c z : Color) → deep_pixel (color_seen d s x y c) z ≡ step_seen d s x y (deep_pixel c z)

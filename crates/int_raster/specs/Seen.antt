@@ -2,11 +2,13 @@
 use Rattle.std.specs.Prelude.{ℕ, List, [], Some, None, map, option_map}
 use Rattle.gfx_model.specs.World as world
 use Rattle.fix_math.specs.Seen.{rect_seen, texels_seen}
-use Rattle.gfx_model.specs.Pixel.{Pixel}
+use Rattle.gfx_model.specs.Vertex.{Color}
+use Rattle.gfx_model.specs.Raster.{fragment_at}
+use Rattle.gfx_model.specs.Pixel.{Pixel, stored_color}
 use Rattle.tri_cover.specs.Shown.{Shown, setup_seen}
 use Rattle.tri_cover.specs.declared.triangles.Setup.{Setup}
 use Rattle.int_raster.specs.Drawing.{PreparedDraw, facing_shown, covered_step}
-use Rattle.int_raster.specs.Places.{facing_change}
+use Rattle.int_raster.specs.Places.{facing_change, where_test, is_drawn}
 use Rattle.int_raster.specs.declared.surfaces.Surface.{Surface}
 use Rattle.int_raster.specs.declared.lists.Paint.{Paint}
 use Rattle.int_raster.specs.declared.lists.Paint.TheVariants as paints
@@ -42,3 +44,11 @@ step_seen d s = covered_step d.state (paint_seen d.paint) (facing_seen d s)
 -- what it does to the pixels of a surface
 abbrev pub change_seen : Prepared → Setup → ℕ → ℕ → Pixel → Pixel
 change_seen d s = facing_change (prepared_seen d []) (facing_seen d s)
+
+-- what it does to the colour of a pixel that it covers, where the tests pass
+abbrev pub color_seen : Prepared → Setup → ℕ → ℕ → Color → Color
+color_seen d s x y c = stored_color d.state (world.painted (paint_seen d.paint) (fragment_at (setup_seen s).triangle x y)) c
+
+-- what it does to the colours of a surface
+abbrev pub color_change : Prepared → Setup → ℕ → ℕ → Color → Color
+color_change d s = where_test (is_drawn (rect_seen d.cut) (facing_seen d s)) (color_seen d s)

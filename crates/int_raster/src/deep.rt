@@ -1,96 +1,126 @@
 // Draws on a surface with depth.
 ghost use Rattle.std.specs.Prelude.{◌≡◌, ◌≤◌, ◌<◌, ◌+◌, ◌*◌, ℕ, true, length, map, IfSome, IsTrue};
 ghost use Rattle.gfx_model.specs.Number.{map_from};
-ghost use Rattle.gfx_model.specs.Raster.{covers};
+ghost use Rattle.gfx_model.specs.Raster.{covers, fragment_at};
+ghost use Rattle.gfx_model.specs.World.{painted};
 ghost use Rattle.tri_cover.specs.Shown.{setup_seen};
 ghost use Rattle.int_raster.specs.Drawing.{prepared_step};
 ghost use Rattle.int_raster.specs.Places.{deep_pixels, spanned, by_place, below, in_row};
-ghost use Rattle.int_raster.specs.Painted.{PaintsSpan, HasSpanDepths, HasWideSpanDepths, Paints, HasDepths, HasWideDepths};
-ghost use Rattle.int_raster.specs.Rules.{IsPlain, IsMix};
-ghost use Rattle.int_raster.specs.Seen.{prepared_seen, step_seen, change_seen};
+ghost use Rattle.int_raster.specs.Painted.{PaintsSpan, HoldsPiece, HasSpanDepths, HasWideSpanDepths};
+ghost use Rattle.int_raster.specs.Rules.{IsPlain, IsMix, IsOver, IsFree};
+ghost use Rattle.int_raster.specs.Seen.{paint_seen, prepared_seen, step_seen, change_seen};
 
+use crate::colors::triangle_colors;
 use crate::columns::{drawn_columns, drawn_rows, meets};
-use crate::deep_spans::{
-    fill, fill_wide, mix_painted, step_exactly, step_painted, store, store_shade, store_shade_wide,
-    store_wide,
-};
+use crate::deep_spans::{fill, mix, step, step_exactly, store, store_shade};
 use crate::lists::Prepared;
 use crate::opaque::{Mix, Rule, rule_of};
-use crate::over::triangle_over;
-use crate::over_spans::is_over;
-use crate::overs::Over;
-use crate::painters::{Painter, depth_for, is_opaque, painter_for, painter_of};
+use crate::painters::{Brush, Painter, brush_of, is_opaque, painter_of};
 use crate::painting::stencil_of;
+use crate::pieces::paint_piece;
 use crate::rows::Rows;
 use crate::spans::Span;
 use pixel_ops::Blending;
 use tri_cover::{Ramp, Setup, WideRamp};
 
-/// What draws a triangle's pixels.
-#[derive(Clone, Copy)]
-pub(crate) struct Brush<'x> {
-    pub painter: Painter<'x>,
-    pub depth: Ramp,
-}
-
-/// What draws the pixels of a triangle for whose depths 64 bits are too few.
-#[derive(Clone, Copy)]
-pub(crate) struct WideBrush<'x> {
-    pub painter: Painter<'x>,
-    pub depth: WideRamp,
-}
-
-/// What draws a triangle's pixels; none where 64 bits are too few.
-fn brush_of<'x>(setup: &Setup, draw: &Prepared<'x>, width: u16, height: u16) -> Option<Brush<'x>>
-    ensures paints { IfSome result (λ b. Paints b.painter draw.now setup.now width height) }
-    ensures depths { IfSome result (λ b. HasDepths b.depth setup.now width height) }
-{
-    let steps = setup.steps(width, height)?;
-    let painter = painter_for(setup, &steps, &draw.paint)?;
-    let depth = depth_for(setup, &steps)?;
-    Some(Brush { painter, depth })
-}
-
-/// What draws a triangle's pixels where there is no brush; none where the colours have no ramps either.
-fn wide_brush_of<'x>(
-    setup: &Setup,
-    draw: &Prepared<'x>,
-    width: u16,
-    height: u16,
-    brush: &Option<Brush>,
-) -> Option<WideBrush<'x>>
-    ensures paints { IfSome result (λ b. Paints b.painter draw.now setup.now width height) }
-    ensures depths { IfSome result (λ b. HasWideDepths b.depth setup.now width height) }
-{
-    if brush.is_some() {
-        return None;
-    }
-    let painter = painter_of(setup, draw, width, height)?;
-    let depth = setup.wide_depth();
-    Some(WideBrush { painter, depth })
-}
-
-/// Draws a span by a painter where fragments are not stored as they are painted.
-fn paint_mixed(
+/// Stores, blends or steps painted colours in a piece, with their depths.
+fn store_piece(
     colors: &mut [[u8; 4]],
     depths: &mut [[u8; 4]],
     span: &Span,
-    painter: &Painter,
+    paints: &[[u8; 4]],
     depth: &WideRamp,
-    mix: &Option<Mix>,
+    rule: &Option<Rule>,
+    mixing: &Option<Mix>,
     setup: &Setup,
     draw: &Prepared,
 )
     requires inside { span.now.start + span.now.after ≤ length colors.old }
     requires same { length depths.old ≡ length colors.old }
-    requires paints { PaintsSpan painter.now draw.now setup.now span.now.y span.now.first span.now.after }
+    requires room { span.now.after ≤ span.now.first + length paints.now }
+    requires paints { HoldsPiece paints.now (λ x. painted (paint_seen draw.now.paint) (fragment_at (setup_seen setup.now).triangle x span.now.y)) span.now.first span.now.after }
     requires depths { HasWideSpanDepths depth.now setup.now span.now.y span.now.first span.now.after }
-    requires mix { IfSome mix.now (λ m. IsMix m draw.now setup.now) }
+    requires rule { IfSome rule.now (λ r. IsPlain r draw.now setup.now) }
+    requires mixing { IfSome mixing.now (λ m. IsMix m draw.now setup.now) }
     ensures { deep_pixels colors.new depths.new ≡ map_from (spanned (in_row span.now.start span.now.y (step_seen draw.now setup.now)) (span.now.start + span.now.first) (span.now.start + span.now.after)) 0 (deep_pixels colors.old depths.old) }
 {
-    match mix {
-        Some(mix) => mix_painted(colors, depths, span, painter, depth, mix, setup, draw),
-        None => step_painted(colors, depths, span, painter, depth, setup, draw),
+    match rule {
+        Some(rule) => store(colors, depths, span, paints, depth, rule, setup, draw),
+        None => match mixing {
+            Some(mixing) => mix(colors, depths, span, paints, depth, mixing, setup, draw),
+            None => step(colors, depths, span, paints, depth, setup, draw),
+        },
+    }
+}
+
+/// Draws a span with a brush, piece by piece.
+fn in_pieces(
+    colors: &mut [[u8; 4]],
+    depths: &mut [[u8; 4]],
+    span: &Span,
+    brush: &Brush,
+    rule: &Option<Rule>,
+    mixing: &Option<Mix>,
+    setup: &Setup,
+    draw: &Prepared,
+)
+    requires inside { span.now.start + span.now.after ≤ length colors.old }
+    requires same { length depths.old ≡ length colors.old }
+    requires paints { PaintsSpan brush.now.painter draw.now setup.now span.now.y span.now.first span.now.after }
+    requires depths { HasWideSpanDepths brush.now.depth setup.now span.now.y span.now.first span.now.after }
+    requires rule { IfSome rule.now (λ r. IsPlain r draw.now setup.now) }
+    requires mixing { IfSome mixing.now (λ m. IsMix m draw.now setup.now) }
+    ensures { deep_pixels colors.new depths.new ≡ map_from (spanned (in_row span.now.start span.now.y (step_seen draw.now setup.now)) (span.now.start + span.now.first) (span.now.start + span.now.after)) 0 (deep_pixels colors.old depths.old) }
+{
+    let mut paints = [[0; 4]; 32];
+    let mut first = span.first;
+    while first < span.after {
+        let piece = span.piece(first);
+        paint_piece(&brush.painter, &piece, &mut paints);
+        store_piece(
+            colors,
+            depths,
+            &piece,
+            &paints,
+            &brush.depth,
+            rule,
+            mixing,
+            setup,
+            draw,
+        );
+        first = piece.after;
+    }
+}
+
+/// Draws a span with a brush whose depths have 64 bits, where fragments are stored as they are painted.
+fn paint_plain(
+    colors: &mut [[u8; 4]],
+    depths: &mut [[u8; 4]],
+    span: &Span,
+    brush: &Brush,
+    depth: &Ramp,
+    plain: &Rule,
+    rule: &Option<Rule>,
+    mixing: &Option<Mix>,
+    setup: &Setup,
+    draw: &Prepared,
+)
+    requires inside { span.now.start + span.now.after ≤ length colors.old }
+    requires same { length depths.old ≡ length colors.old }
+    requires paints { PaintsSpan brush.now.painter draw.now setup.now span.now.y span.now.first span.now.after }
+    requires depths { HasWideSpanDepths brush.now.depth setup.now span.now.y span.now.first span.now.after }
+    requires short { HasSpanDepths depth.now setup.now span.now.y span.now.first span.now.after }
+    requires plain { IsPlain plain.now draw.now setup.now }
+    requires rule { IfSome rule.now (λ r. IsPlain r draw.now setup.now) }
+    requires mixing { IfSome mixing.now (λ m. IsMix m draw.now setup.now) }
+    ensures { deep_pixels colors.new depths.new ≡ map_from (spanned (in_row span.now.start span.now.y (step_seen draw.now setup.now)) (span.now.start + span.now.first) (span.now.start + span.now.after)) 0 (deep_pixels colors.old depths.old) }
+{
+    match &brush.painter {
+        Painter::Solid(color) => { fill(colors, depths, span, *color, depth, plain, setup, draw) }
+        Painter::Vertex(shade) => {
+            store_shade(colors, depths, span, shade, depth, plain, setup, draw)
+        }
+        _ => in_pieces(colors, depths, span, brush, rule, mixing, setup, draw),
     }
 }
 
@@ -101,75 +131,7 @@ fn paint(
     span: &Span,
     brush: &Brush,
     rule: &Option<Rule>,
-    mix: &Option<Mix>,
-    setup: &Setup,
-    draw: &Prepared,
-)
-    requires inside { span.now.start + span.now.after ≤ length colors.old }
-    requires same { length depths.old ≡ length colors.old }
-    requires paints { PaintsSpan brush.now.painter draw.now setup.now span.now.y span.now.first span.now.after }
-    requires depths { HasSpanDepths brush.now.depth setup.now span.now.y span.now.first span.now.after }
-    requires rule { IfSome rule.now (λ r. IsPlain r draw.now setup.now) }
-    requires mix { IfSome mix.now (λ m. IsMix m draw.now setup.now) }
-    ensures { deep_pixels colors.new depths.new ≡ map_from (spanned (in_row span.now.start span.now.y (step_seen draw.now setup.now)) (span.now.start + span.now.first) (span.now.start + span.now.after)) 0 (deep_pixels colors.old depths.old) }
-{
-    match rule {
-        Some(rule) => match &brush.painter {
-            Painter::Solid(color) => fill(
-                colors,
-                depths,
-                span,
-                *color,
-                &brush.depth,
-                rule,
-                setup,
-                draw,
-            ),
-            Painter::Vertex(shade) => store_shade(
-                colors,
-                depths,
-                span,
-                shade,
-                &brush.depth,
-                rule,
-                setup,
-                draw,
-            ),
-            painter => store(
-                colors,
-                depths,
-                span,
-                painter,
-                &brush.depth,
-                rule,
-                setup,
-                draw,
-            ),
-        },
-        None => {
-            let depth = brush.depth.wide_depth();
-            paint_mixed(
-                colors,
-                depths,
-                span,
-                &brush.painter,
-                &depth,
-                mix,
-                setup,
-                draw,
-            )
-        }
-    }
-}
-
-/// Draws a span with a wide brush.
-fn paint_wide(
-    colors: &mut [[u8; 4]],
-    depths: &mut [[u8; 4]],
-    span: &Span,
-    brush: &WideBrush,
-    rule: &Option<Rule>,
-    mix: &Option<Mix>,
+    mixing: &Option<Mix>,
     setup: &Setup,
     draw: &Prepared,
 )
@@ -177,57 +139,19 @@ fn paint_wide(
     requires same { length depths.old ≡ length colors.old }
     requires paints { PaintsSpan brush.now.painter draw.now setup.now span.now.y span.now.first span.now.after }
     requires depths { HasWideSpanDepths brush.now.depth setup.now span.now.y span.now.first span.now.after }
+    requires short { IfSome brush.now.short (λ r. HasSpanDepths r setup.now span.now.y span.now.first span.now.after) }
     requires rule { IfSome rule.now (λ r. IsPlain r draw.now setup.now) }
-    requires mix { IfSome mix.now (λ m. IsMix m draw.now setup.now) }
+    requires mixing { IfSome mixing.now (λ m. IsMix m draw.now setup.now) }
     ensures { deep_pixels colors.new depths.new ≡ map_from (spanned (in_row span.now.start span.now.y (step_seen draw.now setup.now)) (span.now.start + span.now.first) (span.now.start + span.now.after)) 0 (deep_pixels colors.old depths.old) }
 {
-    let depth = &brush.depth;
     match rule {
-        Some(rule) => match &brush.painter {
-            Painter::Solid(color) => fill_wide(
-                colors, depths, span, *color, depth, rule, setup, draw,
+        Some(plain) => match &brush.short {
+            Some(depth) => paint_plain(
+                colors, depths, span, brush, depth, plain, rule, mixing, setup, draw,
             ),
-            Painter::Vertex(shade) => store_shade_wide(
-                colors, depths, span, shade, depth, rule, setup, draw,
-            ),
-            painter => store_wide(colors, depths, span, painter, depth, rule, setup, draw),
+            None => in_pieces(colors, depths, span, brush, rule, mixing, setup, draw),
         },
-        None => paint_mixed(
-            colors,
-            depths,
-            span,
-            &brush.painter,
-            depth,
-            mix,
-            setup,
-            draw,
-        ),
-    }
-}
-
-/// Draws a span that a triangle covers, without a brush of 64 bits.
-fn draw_wide(
-    colors: &mut [[u8; 4]],
-    depths: &mut [[u8; 4]],
-    span: &Span,
-    brush: &Option<WideBrush>,
-    rule: &Option<Rule>,
-    mix: &Option<Mix>,
-    setup: &Setup,
-    draw: &Prepared,
-)
-    requires inside { span.now.start + span.now.after ≤ length colors.old }
-    requires same { length depths.old ≡ length colors.old }
-    requires covered { (x : ℕ) → span.now.first ≤ x → x < span.now.after → covers (setup_seen setup.now).triangle x span.now.y ≡ true }
-    requires paints { IfSome brush.now (λ b. PaintsSpan b.painter draw.now setup.now span.now.y span.now.first span.now.after) }
-    requires depths { IfSome brush.now (λ b. HasWideSpanDepths b.depth setup.now span.now.y span.now.first span.now.after) }
-    requires rule { IfSome rule.now (λ r. IsPlain r draw.now setup.now) }
-    requires mix { IfSome mix.now (λ m. IsMix m draw.now setup.now) }
-    ensures { deep_pixels colors.new depths.new ≡ map_from (spanned (in_row span.now.start span.now.y (step_seen draw.now setup.now)) (span.now.start + span.now.first) (span.now.start + span.now.after)) 0 (deep_pixels colors.old depths.old) }
-{
-    match brush {
-        Some(brush) => paint_wide(colors, depths, span, brush, rule, mix, setup, draw),
-        None => step_exactly(colors, depths, span, setup, draw),
+        None => in_pieces(colors, depths, span, brush, rule, mixing, setup, draw),
     }
 }
 
@@ -237,9 +161,8 @@ fn draw_span(
     depths: &mut [[u8; 4]],
     span: &Span,
     brush: &Option<Brush>,
-    wide: &Option<WideBrush>,
     rule: &Option<Rule>,
-    mix: &Option<Mix>,
+    mixing: &Option<Mix>,
     setup: &Setup,
     draw: &Prepared,
 )
@@ -247,16 +170,15 @@ fn draw_span(
     requires same { length depths.old ≡ length colors.old }
     requires covered { (x : ℕ) → span.now.first ≤ x → x < span.now.after → covers (setup_seen setup.now).triangle x span.now.y ≡ true }
     requires paints { IfSome brush.now (λ b. PaintsSpan b.painter draw.now setup.now span.now.y span.now.first span.now.after) }
-    requires depths { IfSome brush.now (λ b. HasSpanDepths b.depth setup.now span.now.y span.now.first span.now.after) }
-    requires wide_paints { IfSome wide.now (λ b. PaintsSpan b.painter draw.now setup.now span.now.y span.now.first span.now.after) }
-    requires wide_depths { IfSome wide.now (λ b. HasWideSpanDepths b.depth setup.now span.now.y span.now.first span.now.after) }
+    requires depths { IfSome brush.now (λ b. HasWideSpanDepths b.depth setup.now span.now.y span.now.first span.now.after) }
+    requires short { IfSome brush.now (λ b. IfSome b.short (λ r. HasSpanDepths r setup.now span.now.y span.now.first span.now.after)) }
     requires rule { IfSome rule.now (λ r. IsPlain r draw.now setup.now) }
-    requires mix { IfSome mix.now (λ m. IsMix m draw.now setup.now) }
+    requires mixing { IfSome mixing.now (λ m. IsMix m draw.now setup.now) }
     ensures { deep_pixels colors.new depths.new ≡ map_from (spanned (in_row span.now.start span.now.y (step_seen draw.now setup.now)) (span.now.start + span.now.first) (span.now.start + span.now.after)) 0 (deep_pixels colors.old depths.old) }
 {
     match brush {
-        Some(brush) => paint(colors, depths, span, brush, rule, mix, setup, draw),
-        None => draw_wide(colors, depths, span, wide, rule, mix, setup, draw),
+        Some(brush) => paint(colors, depths, span, brush, rule, mixing, setup, draw),
+        None => step_exactly(colors, depths, span, setup, draw),
     }
 }
 
@@ -289,18 +211,16 @@ fn triangle_tested(
     colors: &mut [[u8; 4]],
     depths: &mut [[u8; 4]],
     rows: &Rows,
-    rule: &Option<Rule>,
     setup: &Setup,
     draw: &Prepared,
 )
     requires whole { length colors.old ≡ rows.now.width * rows.now.count }
     requires same { length depths.old ≡ length colors.old }
-    requires rule { IfSome rule.now (λ r. IsPlain r draw.now setup.now) }
     ensures { deep_pixels colors.new depths.new ≡ map_from (by_place rows.now.width (below rows.now.top (change_seen draw.now setup.now))) 0 (deep_pixels colors.old depths.old) }
 {
+    let rule = plain_rule(setup, draw);
+    let mixing = mix_of(&rule, setup, draw);
     let brush = brush_of(setup, draw, rows.width, rows.bottom());
-    let wide = wide_brush_of(setup, draw, rows.width, rows.bottom(), &brush);
-    let mix = mix_of(rule, setup, draw);
     let (top, bottom) = drawn_rows(setup, &draw.cut, rows);
     let mut sides = setup.sides(rows.top + top);
     for row in top..bottom {
@@ -312,34 +232,31 @@ fn triangle_tested(
             first,
             after,
         };
-        draw_span(
-            colors, depths, &span, &brush, &wide, rule, &mix, setup, draw,
-        );
+        draw_span(colors, depths, &span, &brush, &rule, &mixing, setup, draw);
         sides = setup.next_sides(sides, y);
     }
 }
 
-/// What draws a triangle over the depths; none where they are tested or stored, or where 64 bits are too few.
-fn over_of<'x>(
-    rule: &Option<Rule>,
-    setup: &Setup,
-    draw: &Prepared<'x>,
-    width: u16,
-    height: u16,
-) -> Option<Over<'x>>
-    requires { IfSome rule.now (λ r. IsPlain r draw.now setup.now) }
-    ensures paints { IfSome result (λ o. Paints o.painter draw.now setup.now width height) }
-    ensures plain { IfSome result (λ o. IsPlain o.rule draw.now setup.now) }
+/// Whether every depth passes and none is stored.
+fn is_over(rule: &Rule) -> bool
+    ensures { IsTrue result → IsOver rule.now }
 {
-    let rule = (*rule)?;
-    if !is_over(&rule) {
-        return None;
-    }
-    let painter = painter_of(setup, draw, width, height)?;
-    Some(Over { painter, rule })
+    let rule = *rule;
+    rule.less && rule.equal && rule.greater && !rule.writes
 }
 
-/// Draws a triangle.
+/// Whether a triangle neither tests nor stores a depth or a stencil.
+fn is_free(setup: &Setup, draw: &Prepared) -> bool
+    ensures { IsTrue result → IsFree draw.now setup.now }
+{
+    if stencil_of(draw, setup).word() != 0 {
+        return false;
+    }
+    let rule = rule_of(&draw.state);
+    is_over(&rule)
+}
+
+/// Draws a triangle: by its colours alone where it is free.
 fn triangle_deep(
     colors: &mut [[u8; 4]],
     depths: &mut [[u8; 4]],
@@ -351,10 +268,11 @@ fn triangle_deep(
     requires same { length depths.old ≡ length colors.old }
     ensures { deep_pixels colors.new depths.new ≡ map_from (by_place rows.now.width (below rows.now.top (change_seen draw.now setup.now))) 0 (deep_pixels colors.old depths.old) }
 {
-    let rule = plain_rule(setup, draw);
-    match over_of(&rule, setup, draw, rows.width, rows.bottom()) {
-        Some(over) => triangle_over(colors, rows, &over, setup, draw),
-        None => triangle_tested(colors, depths, rows, &rule, setup, draw),
+    if is_free(setup, draw) {
+        let painter = painter_of(setup, draw, rows.width, rows.bottom());
+        triangle_colors(colors, rows, &painter, setup, draw);
+    } else {
+        triangle_tested(colors, depths, rows, setup, draw);
     }
 }
 

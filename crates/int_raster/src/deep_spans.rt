@@ -5,13 +5,13 @@ ghost use Rattle.gfx_model.specs.Raster.{covers, fragment_at};
 ghost use Rattle.gfx_model.specs.World.{painted};
 ghost use Rattle.tri_cover.specs.Shown.{setup_seen};
 ghost use Rattle.int_raster.specs.Places.{deep_pixels, spanned, in_row};
-ghost use Rattle.int_raster.specs.Painted.{shade_at, PaintsSpan, HasSpanDepths, HasWideSpanDepths};
+ghost use Rattle.int_raster.specs.Painted.{shade_at, HoldsPiece, HasSpanDepths, HasWideSpanDepths};
 ghost use Rattle.int_raster.specs.Rules.{IsPlain, IsMix};
 ghost use Rattle.int_raster.specs.Seen.{paint_seen, step_seen};
 
 use crate::lists::Prepared;
 use crate::opaque::{Mix, Rule, mixed_after, stored_after};
-use crate::painters::{Painter, Shade, color_at, value_at, wide_value_at};
+use crate::painters::{Shade, value_at, wide_value_at};
 use crate::painting::{stepped, stepped_by};
 use crate::spans::Span;
 use pixel_ops::Pixel;
@@ -73,19 +73,20 @@ pub(crate) fn step_exactly(
     }
 }
 
-/// Steps the pixels of a span by a painter's colours and a ramp's depths.
-pub(crate) fn step_painted(
+/// Steps the pixels of a piece by painted colours and a ramp's depths.
+pub(crate) fn step(
     colors: &mut [[u8; 4]],
     depths: &mut [[u8; 4]],
     span: &Span,
-    painter: &Painter,
+    paints: &[[u8; 4]],
     depth: &WideRamp,
     setup: &Setup,
     draw: &Prepared,
 )
     requires inside { span.now.start + span.now.after ≤ length colors.old }
     requires same { length depths.old ≡ length colors.old }
-    requires paints { PaintsSpan painter.now draw.now setup.now span.now.y span.now.first span.now.after }
+    requires room { span.now.after ≤ span.now.first + length paints.now }
+    requires paints { HoldsPiece paints.now (λ x. painted (paint_seen draw.now.paint) (fragment_at (setup_seen setup.now).triangle x span.now.y)) span.now.first span.now.after }
     requires depths { HasWideSpanDepths depth.now setup.now span.now.y span.now.first span.now.after }
     ensures { deep_pixels colors.new depths.new ≡ map_from (spanned (in_row span.now.start span.now.y (step_seen draw.now setup.now)) (span.now.start + span.now.first) (span.now.start + span.now.after)) 0 (deep_pixels colors.old depths.old) }
 {
@@ -97,7 +98,7 @@ pub(crate) fn step_painted(
             color,
             depth: Some(word),
         };
-        let shade = color_at(painter, x, span.y);
+        let shade = paints[(x - span.first) as usize];
         let new = (wide_value_at(depth, x, span.y) >> 104) as u32;
         let after = stepped_by(before, shade, new, setup, draw);
         let painted = after.color;
@@ -106,12 +107,12 @@ pub(crate) fn step_painted(
     }
 }
 
-/// Blends or masks a painter's colours in a span where their depths pass.
-pub(crate) fn mix_painted(
+/// Blends or masks painted colours in a piece where their depths pass.
+pub(crate) fn mix(
     colors: &mut [[u8; 4]],
     depths: &mut [[u8; 4]],
     span: &Span,
-    painter: &Painter,
+    paints: &[[u8; 4]],
     depth: &WideRamp,
     mix: &Mix,
     setup: &Setup,
@@ -120,7 +121,8 @@ pub(crate) fn mix_painted(
     requires inside { span.now.start + span.now.after ≤ length colors.old }
     requires same { length depths.old ≡ length colors.old }
     requires mix { IsMix mix.now draw.now setup.now }
-    requires paints { PaintsSpan painter.now draw.now setup.now span.now.y span.now.first span.now.after }
+    requires room { span.now.after ≤ span.now.first + length paints.now }
+    requires paints { HoldsPiece paints.now (λ x. painted (paint_seen draw.now.paint) (fragment_at (setup_seen setup.now).triangle x span.now.y)) span.now.first span.now.after }
     requires depths { HasWideSpanDepths depth.now setup.now span.now.y span.now.first span.now.after }
     ensures { deep_pixels colors.new depths.new ≡ map_from (spanned (in_row span.now.start span.now.y (step_seen draw.now setup.now)) (span.now.start + span.now.first) (span.now.start + span.now.after)) 0 (deep_pixels colors.old depths.old) }
 {
@@ -129,7 +131,7 @@ pub(crate) fn mix_painted(
     for x in span.first..span.after {
         let old = colors[start + x as usize];
         let word = depth_word(depths[start + x as usize]);
-        let color = color_at(painter, x, span.y);
+        let color = paints[(x - span.first) as usize];
         let after = mixed_after(old, word, color, (new >> 104) as u32, mix);
         let painted = after.color;
         colors[start + x as usize] = painted;
@@ -193,37 +195,6 @@ pub(crate) fn fill(
     } else {
         let (depth, rule) = (*depth, *rule);
         fill_by(colors, depths, span, color, &depth, &rule, setup, draw);
-    }
-}
-
-/// Stores a painter's colours in a span where their depths pass.
-pub(crate) fn store(
-    colors: &mut [[u8; 4]],
-    depths: &mut [[u8; 4]],
-    span: &Span,
-    painter: &Painter,
-    depth: &Ramp,
-    rule: &Rule,
-    setup: &Setup,
-    draw: &Prepared,
-)
-    requires inside { span.now.start + span.now.after ≤ length colors.old }
-    requires same { length depths.old ≡ length colors.old }
-    requires plain { IsPlain rule.now draw.now setup.now }
-    requires paints { PaintsSpan painter.now draw.now setup.now span.now.y span.now.first span.now.after }
-    requires depths { HasSpanDepths depth.now setup.now span.now.y span.now.first span.now.after }
-    ensures { deep_pixels colors.new depths.new ≡ map_from (spanned (in_row span.now.start span.now.y (step_seen draw.now setup.now)) (span.now.start + span.now.first) (span.now.start + span.now.after)) 0 (deep_pixels colors.old depths.old) }
-{
-    let start = span.start;
-    for x in span.first..span.after {
-        let old = colors[start + x as usize];
-        let word = depth_word(depths[start + x as usize]);
-        let color = color_at(painter, x, span.y);
-        let new = (value_at(depth, x, span.y) >> 40) as u32;
-        let after = stored_after(old, word, color, new, rule);
-        let painted = after.color;
-        colors[start + x as usize] = painted;
-        depths[start + x as usize] = word_texel(after.word);
     }
 }
 
@@ -299,12 +270,12 @@ pub(crate) fn store_shade(
     }
 }
 
-/// Stores a painter's colours in a span where the depths pass of 128 bits.
-pub(crate) fn store_wide(
+/// Stores painted colours in a piece where their depths pass.
+pub(crate) fn store(
     colors: &mut [[u8; 4]],
     depths: &mut [[u8; 4]],
     span: &Span,
-    painter: &Painter,
+    paints: &[[u8; 4]],
     depth: &WideRamp,
     rule: &Rule,
     setup: &Setup,
@@ -313,7 +284,8 @@ pub(crate) fn store_wide(
     requires inside { span.now.start + span.now.after ≤ length colors.old }
     requires same { length depths.old ≡ length colors.old }
     requires plain { IsPlain rule.now draw.now setup.now }
-    requires paints { PaintsSpan painter.now draw.now setup.now span.now.y span.now.first span.now.after }
+    requires room { span.now.after ≤ span.now.first + length paints.now }
+    requires paints { HoldsPiece paints.now (λ x. painted (paint_seen draw.now.paint) (fragment_at (setup_seen setup.now).triangle x span.now.y)) span.now.first span.now.after }
     requires depths { HasWideSpanDepths depth.now setup.now span.now.y span.now.first span.now.after }
     ensures { deep_pixels colors.new depths.new ≡ map_from (spanned (in_row span.now.start span.now.y (step_seen draw.now setup.now)) (span.now.start + span.now.first) (span.now.start + span.now.after)) 0 (deep_pixels colors.old depths.old) }
 {
@@ -322,87 +294,11 @@ pub(crate) fn store_wide(
     for x in span.first..span.after {
         let old = colors[start + x as usize];
         let word = depth_word(depths[start + x as usize]);
-        let color = color_at(painter, x, span.y);
+        let color = paints[(x - span.first) as usize];
         let after = stored_after(old, word, color, (new >> 104) as u32, rule);
         let painted = after.color;
         colors[start + x as usize] = painted;
         depths[start + x as usize] = word_texel(after.word);
-        new = new.wrapping_add(depth.right);
-    }
-}
-
-/// Stores one colour in a span where the depths pass of 128 bits.
-pub(crate) fn fill_wide(
-    colors: &mut [[u8; 4]],
-    depths: &mut [[u8; 4]],
-    span: &Span,
-    color: [u8; 4],
-    depth: &WideRamp,
-    rule: &Rule,
-    setup: &Setup,
-    draw: &Prepared,
-)
-    requires inside { span.now.start + span.now.after ≤ length colors.old }
-    requires same { length depths.old ≡ length colors.old }
-    requires plain { IsPlain rule.now draw.now setup.now }
-    requires paints { (x : ℕ) → span.now.first ≤ x → x < span.now.after → color ≡ painted (paint_seen draw.now.paint) (fragment_at (setup_seen setup.now).triangle x span.now.y) }
-    requires depths { HasWideSpanDepths depth.now setup.now span.now.y span.now.first span.now.after }
-    ensures { deep_pixels colors.new depths.new ≡ map_from (spanned (in_row span.now.start span.now.y (step_seen draw.now setup.now)) (span.now.start + span.now.first) (span.now.start + span.now.after)) 0 (deep_pixels colors.old depths.old) }
-{
-    let start = span.start;
-    let mut new = wide_value_at(depth, span.first, span.y);
-    for x in span.first..span.after {
-        let old = colors[start + x as usize];
-        let word = depth_word(depths[start + x as usize]);
-        let after = stored_after(old, word, color, (new >> 104) as u32, rule);
-        let painted = after.color;
-        colors[start + x as usize] = painted;
-        depths[start + x as usize] = word_texel(after.word);
-        new = new.wrapping_add(depth.right);
-    }
-}
-
-/// Stores the vertices' colours in a span where the depths pass of 128 bits.
-pub(crate) fn store_shade_wide(
-    colors: &mut [[u8; 4]],
-    depths: &mut [[u8; 4]],
-    span: &Span,
-    shade: &Shade,
-    depth: &WideRamp,
-    rule: &Rule,
-    setup: &Setup,
-    draw: &Prepared,
-)
-    requires inside { span.now.start + span.now.after ≤ length colors.old }
-    requires same { length depths.old ≡ length colors.old }
-    requires plain { IsPlain rule.now draw.now setup.now }
-    requires paints { (x : ℕ) → span.now.first ≤ x → x < span.now.after → shade_at shade.now x span.now.y ≡ painted (paint_seen draw.now.paint) (fragment_at (setup_seen setup.now).triangle x span.now.y) }
-    requires depths { HasWideSpanDepths depth.now setup.now span.now.y span.now.first span.now.after }
-    ensures { deep_pixels colors.new depths.new ≡ map_from (spanned (in_row span.now.start span.now.y (step_seen draw.now setup.now)) (span.now.start + span.now.first) (span.now.start + span.now.after)) 0 (deep_pixels colors.old depths.old) }
-{
-    let start = span.start;
-    let mut red = value_at(&shade.red, span.first, span.y);
-    let mut green = value_at(&shade.green, span.first, span.y);
-    let mut blue = value_at(&shade.blue, span.first, span.y);
-    let mut alpha = value_at(&shade.alpha, span.first, span.y);
-    let mut new = wide_value_at(depth, span.first, span.y);
-    for x in span.first..span.after {
-        let old = colors[start + x as usize];
-        let word = depth_word(depths[start + x as usize]);
-        let color = [
-            (red >> 56) as u8,
-            (green >> 56) as u8,
-            (blue >> 56) as u8,
-            (alpha >> 56) as u8,
-        ];
-        let after = stored_after(old, word, color, (new >> 104) as u32, rule);
-        let painted = after.color;
-        colors[start + x as usize] = painted;
-        depths[start + x as usize] = word_texel(after.word);
-        red = red.wrapping_add(shade.red.right);
-        green = green.wrapping_add(shade.green.right);
-        blue = blue.wrapping_add(shade.blue.right);
-        alpha = alpha.wrapping_add(shade.alpha.right);
         new = new.wrapping_add(depth.right);
     }
 }

@@ -27,12 +27,7 @@ pub fn draw_view(surface: &mut Surface, list: &DrawList<'_>)
 
 /// Makes the draws of a list in their order, in bands of whole rows side by side. More bands than rows count as one for
 /// each row.
-pub fn draw_bands<R: Threads + Sync>(
-    rt: &R,
-    surface: &mut Surface,
-    list: &DrawList<'_>,
-    bands: u32,
-)
+pub fn draw_bands<R: Threads + Sync>(rt: &R, surface: &mut Surface, list: &DrawList<'_>, bands: u32)
     requires { 1 ≤ bands }
     ensures { surface_seen surface.new ≡ fold drawn_prepared (surface_seen surface.old) list.now }
 {

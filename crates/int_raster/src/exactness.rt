@@ -5,12 +5,12 @@ use crate::columns::{drawn_columns, drawn_rows};
 use crate::rows::Rows;
 use crate::spans::Span;
 use crate::tests::{blank, setups, state, stencil, vertex};
-use crate::{DrawList, Paint, Prepared, Surface, deep_spans, draw_bands, draw_view, flat};
+use crate::{DrawList, Paint, Prepared, Surface, colors, deep_spans, draw_bands, draw_view};
 use fix_math::{Rect, Texels};
 use std::alloc::Global;
 use std::process::Abort;
-use std::thread::Threads;
 use std::test::Fail;
+use std::thread::Threads;
 use tri_cover::Setup;
 use vertex_layout::Vertex;
 
@@ -27,7 +27,7 @@ fn flat_exactly(colors: &mut [[u8; 4]], rows: &Rows, setup: &Setup, draw: &Prepa
             first,
             after,
         };
-        flat::step_exactly(colors, &span, setup, draw);
+        colors::step_exactly(colors, &span, setup, draw);
     }
 }
 

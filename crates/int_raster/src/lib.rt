@@ -2,6 +2,7 @@
 #![tactic(auto)]
 
 mod bands;
+mod colors;
 mod columns;
 mod deep;
 mod deep_spans;
@@ -10,11 +11,9 @@ mod flat;
 mod listed;
 mod lists;
 mod opaque;
-mod over;
-mod over_spans;
-mod overs;
 mod painters;
 mod painting;
+mod pieces;
 mod rows;
 mod sampling;
 mod spans;

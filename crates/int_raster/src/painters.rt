@@ -1,5 +1,5 @@
 // Colours and depths of a triangle's pixels, by ramps.
-ghost use Rattle.std.specs.Prelude.{◌≡◌, ◌<◌, ◌≤◌, ◌/◌, ◌^◌, ◌%◌, ◌+◌, ◌*◌, ℕ, pos, true, length, IfSome, IsTrue};
+ghost use Rattle.std.specs.Prelude.{◌≡◌, ◌<◌, ◌≤◌, ◌/◌, ◌^◌, ◌%◌, ◌+◌, ◌*◌, ℕ, pos, true, slice_index, IfSome, IsTrue};
 ghost use Rattle.gfx_model.specs.Raster.{covers, fragment_at, weighted};
 ghost use Rattle.gfx_model.specs.World as world;
 ghost use Rattle.tri_cover.specs.Slope.{ramp_at, IsSamePlace};
@@ -7,11 +7,9 @@ ghost use Rattle.tri_cover.specs.Widened.{wide_at};
 ghost use Rattle.tri_cover.specs.Stepped.{AreSteps, IsNearby};
 ghost use Rattle.tri_cover.specs.Shown.{setup_seen};
 ghost use Rattle.int_raster.specs.Seen.{paint_seen};
-ghost use Rattle.int_raster.specs.Painted.{channel_at, place_at, shade_at, depth_at, painter_color, AreSamePlaces, bytes_of, Paints, IsOpaque};
+ghost use Rattle.int_raster.specs.Painted.{place_at, shade_at, depth_at, painter_color, AreSamePlaces, bytes_of, Paints, HasDepths, HasWideDepths, IsOpaque};
 
 use crate::lists::{Paint, Prepared};
-use crate::painting::product;
-use crate::sampling::texel_at;
 use fix_math::Texels;
 use gfx_words::StateWord;
 use tri_cover::{Ramp, Setup, Steps, WideRamp};
@@ -41,6 +39,14 @@ pub(crate) enum Painter<'x> {
     TexColor(&'x Texels, Place, Shade),
 }
 
+/// What draws a triangle's pixels with their depths: the depths in 128 bits, and in 64 bits where these are enough.
+#[derive(Clone, Copy)]
+pub(crate) struct Brush<'x> {
+    pub painter: Painter<'x>,
+    pub depth: WideRamp,
+    pub short: Option<Ramp>,
+}
+
 /// The value of a ramp at a column and a row.
 pub(crate) fn value_at(ramp: &Ramp, x: u16, y: u16) -> u64
     ensures { result ≡ ramp_at ramp.now x y }
@@ -57,51 +63,6 @@ pub(crate) fn wide_value_at(ramp: &WideRamp, x: u16, y: u16) -> u128
     ramp.start
         .wrapping_add((x as u128).wrapping_mul(ramp.right))
         .wrapping_add((y as u128).wrapping_mul(ramp.down))
-}
-
-fn channel(ramp: &Ramp, x: u16, y: u16) -> u8
-    ensures { result ≡ channel_at ramp.now x y }
-{
-    (value_at(ramp, x, y) >> 56) as u8
-}
-
-fn unit_part(ramp: &WideRamp, x: u16, y: u16) -> u32
-    ensures part { result ≡ place_at ramp.now x y }
-    ensures unit { result < 65536 }
-{
-    (wide_value_at(ramp, x, y) >> 104) as u32 % 65536
-}
-
-impl Shade {
-    fn at(&self, x: u16, y: u16) -> [u8; 4]
-        ensures { result ≡ shade_at self.now x y }
-    {
-        [
-            channel(&self.red, x, y),
-            channel(&self.green, x, y),
-            channel(&self.blue, x, y),
-            channel(&self.alpha, x, y),
-        ]
-    }
-}
-
-/// The colour of a pixel.
-pub(crate) fn color_at(painter: &Painter, x: u16, y: u16) -> [u8; 4]
-    ensures { result ≡ painter_color painter.now x y }
-{
-    match painter {
-        Painter::Solid(color) => *color,
-        Painter::Vertex(shade) => shade.at(x, y),
-        Painter::Texture(texels, at) => texel_at(
-            texels,
-            unit_part(&at.u, x, y),
-            unit_part(&at.v, x, y),
-        ),
-        Painter::TexColor(texels, at, shade) => {
-            let sample = texel_at(texels, unit_part(&at.u, x, y), unit_part(&at.v, x, y));
-            product(sample, shade.at(x, y))
-        }
-    }
 }
 
 fn shade_for(setup: &Setup, steps: &Steps) -> Option<Shade>
@@ -175,6 +136,118 @@ pub(crate) fn painter_for<'x>(
     }
 }
 
+/// Whether all corners have the same colour.
+fn has_one_color(setup: &Setup) -> bool
+    ensures red { IsTrue result → (slice_index setup.now.b.color 0 ≡ slice_index setup.now.a.color 0) × (slice_index setup.now.c.color 0 ≡ slice_index setup.now.a.color 0) }
+    ensures green { IsTrue result → (slice_index setup.now.b.color 1 ≡ slice_index setup.now.a.color 1) × (slice_index setup.now.c.color 1 ≡ slice_index setup.now.a.color 1) }
+    ensures blue { IsTrue result → (slice_index setup.now.b.color 2 ≡ slice_index setup.now.a.color 2) × (slice_index setup.now.c.color 2 ≡ slice_index setup.now.a.color 2) }
+    ensures alpha { IsTrue result → (slice_index setup.now.b.color 3 ≡ slice_index setup.now.a.color 3) × (slice_index setup.now.c.color 3 ≡ slice_index setup.now.a.color 3) }
+{
+    let (a, b, c) = (&setup.a.color, &setup.b.color, &setup.c.color);
+    b[0] == a[0]
+        && c[0] == a[0]
+        && b[1] == a[1]
+        && c[1] == a[1]
+        && b[2] == a[2]
+        && c[2] == a[2]
+        && b[3] == a[3]
+        && c[3] == a[3]
+}
+
+/// The colour of a triangle that is painted in one.
+fn one_color(setup: &Setup, paint: &Paint) -> Option<[u8; 4]>
+    ensures { IfSome result (λ color. (x y : ℕ) → covers (setup_seen setup.now).triangle x y ≡ true → color ≡ world.painted (paint_seen paint.now) (fragment_at (setup_seen setup.now).triangle x y)) }
+{
+    match *paint {
+        Paint::Solid(color) => Some(color),
+        Paint::Vertex => {
+            if has_one_color(setup) {
+                Some(whole(setup.a.color))
+            } else {
+                None
+            }
+        }
+        _ => None,
+    }
+}
+
+/// The depth of a triangle whose corners have the same.
+fn one_depth(setup: &Setup) -> Option<u32>
+    ensures few { IfSome result (λ depth. depth ≤ 16777215) }
+    ensures same { IfSome result (λ depth. (x y : ℕ) → covers (setup_seen setup.now).triangle x y ≡ true → depth ≡ (fragment_at (setup_seen setup.now).triangle x y).depth) }
+{
+    let depth = setup.a.depth;
+    if setup.b.depth == depth && setup.c.depth == depth {
+        Some(depth)
+    } else {
+        None
+    }
+}
+
+/// The ramp of a depth.
+fn level(depth: u32) -> Ramp
+    requires { depth ≤ 16777215 }
+    ensures { (x y : ℕ) → depth_at result x y ≡ depth }
+{
+    Ramp {
+        start: (depth as u64) << 40,
+        right: 0,
+        down: 0,
+    }
+}
+
+/// The depths of a triangle in 128 bits, from its ramp in 64 bits where there is one.
+fn wide_for(setup: &Setup, short: &Option<Ramp>, width: u16, height: u16) -> WideRamp
+    requires { IfSome short.now (λ r. HasDepths r setup.now width height) }
+    ensures { HasWideDepths result setup.now width height }
+{
+    match short {
+        Some(ramp) => ramp.wide_depth(),
+        None => setup.wide_depth(),
+    }
+}
+
+/// What draws a triangle of one colour and one depth.
+fn level_brush<'x>(setup: &Setup, draw: &Prepared<'x>, width: u16, height: u16) -> Option<Brush<'x>>
+    ensures paints { IfSome result (λ b. Paints b.painter draw.now setup.now width height) }
+    ensures depths { IfSome result (λ b. HasWideDepths b.depth setup.now width height) }
+    ensures short { IfSome result (λ b. IfSome b.short (λ r. HasDepths r setup.now width height)) }
+{
+    let color = one_color(setup, &draw.paint)?;
+    let depth = one_depth(setup)?;
+    let ramp = level(depth);
+    Some(Brush {
+        painter: Painter::Solid(color),
+        depth: ramp.wide_depth(),
+        short: Some(ramp),
+    })
+}
+
+/// What draws a triangle's pixels with their depths; none where 64 bits are too few for its colours.
+pub(crate) fn brush_of<'x>(
+    setup: &Setup,
+    draw: &Prepared<'x>,
+    width: u16,
+    height: u16,
+) -> Option<Brush<'x>>
+    ensures paints { IfSome result (λ b. Paints b.painter draw.now setup.now width height) }
+    ensures depths { IfSome result (λ b. HasWideDepths b.depth setup.now width height) }
+    ensures short { IfSome result (λ b. IfSome b.short (λ r. HasDepths r setup.now width height)) }
+{
+    if let Some(brush) = level_brush(setup, draw, width, height) {
+        return Some(brush);
+    }
+    let steps = setup.steps(width, height)?;
+    let painter = painter_for(setup, &steps, &draw.paint)?;
+    let short = depth_for(setup, &steps);
+    let depth = wide_for(setup, &short, width, height);
+    Some(Brush {
+        painter,
+        depth,
+        short,
+    })
+}
+
 /// What paints a triangle's pixels on a surface; none where 64 bits are too few.
 pub(crate) fn painter_of<'x>(
     setup: &Setup,
@@ -184,7 +257,7 @@ pub(crate) fn painter_of<'x>(
 ) -> Option<Painter<'x>>
     ensures { IfSome result (λ p. Paints p draw.now setup.now width height) }
 {
-    if let Paint::Solid(color) = draw.paint {
+    if let Some(color) = one_color(setup, &draw.paint) {
         return Some(Painter::Solid(color));
     }
     let steps = setup.steps(width, height)?;

@@ -1,7 +1,7 @@
 // Parts of the rows of a surface.
-ghost use Rattle.std.specs.Prelude.{◌≤◌};
+ghost use Rattle.std.specs.Prelude.{◌≡◌, ◌≤◌, ◌<◌, ◌+◌};
 
-/// The columns of the surface's row `y` from one up to another. The row begins at the place `start` of the texels at hand.
+/// The columns of a row from one up to another. The row is the surface's row `y`, and begins at a place of the texels.
 #[derive(Clone, Copy)]
 pub(crate) struct Span {
     pub start: usize,
@@ -9,4 +9,27 @@ pub(crate) struct Span {
     pub first: u16,
     pub after: u16,
     pub ghost order: { first ≤ after },
+}
+
+impl Span {
+    /// The piece of at most 32 columns from a column on.
+    pub fn piece(&self, first: u16) -> Span
+        requires { first ≤ self.now.after }
+        ensures row { (result.start ≡ self.now.start) × (result.y ≡ self.now.y) × (result.first ≡ first) }
+        ensures within { result.after ≤ self.now.after }
+        ensures short { result.after ≤ first + 32 }
+        ensures some { first < self.now.after → first < result.after }
+    {
+        let after = if self.after - first < 32 {
+            self.after
+        } else {
+            first + 32
+        };
+        Span {
+            start: self.start,
+            y: self.y,
+            first,
+            after,
+        }
+    }
 }

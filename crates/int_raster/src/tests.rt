@@ -1,13 +1,14 @@
 // Pictures that were worked out by hand, as lists of prepared draws, and the pixels of many triangles one by one.
 ghost use Rattle.std.specs.Prelude.{◌≤◌};
 
-use crate::{DrawList, Paint, Prepared, Surface, draw_view};
+use crate::{DrawList, Paint, Prepared, Surface, draw_bands, draw_view};
 use fix_math::{Affine, Point, Rect, Texels};
 use gfx_words::{StateWord, StencilWord};
 use pixel_ops::{Pixel, Shaded, multiply, pixel_step};
 use std::alloc::Global;
 use std::process::Abort;
 use std::test::Fail;
+use std::thread::Threads;
 use tri_cover::{Setup, place};
 use vertex_layout::Vertex;
 
@@ -96,7 +97,8 @@ const FOUR: Rect = Rect {
 // The factors one and one, added: what is drawn twice is twice as bright.
 const ADDS: u64 = 35790863;
 
-fn drawn_once<R: Abort>(
+// The reds of a picture of four by four, drawn in one go and in bands.
+fn drawn_once<R: Threads + Sync + Abort>(
     rt: &R,
     alloc: Global,
     corners: &[(i32, i32)],
@@ -114,7 +116,17 @@ fn drawn_once<R: Abort>(
     };
     list.push(draw, &triangles)?;
     draw_view(&mut surface, &list);
-    reds(alloc, &surface)
+    let reds_in_one = reds(alloc, &surface)?;
+    for bands in [1u32, 3, 1000] {
+        let mut surface = blank(alloc, FOUR, [0, 0, 0, 0])?;
+        draw_bands(rt, &mut surface, &list, bands);
+        assert_eq!(rt;
+            reds(alloc, &surface)?.as_slice(),
+            reds_in_one.as_slice(),
+            "{bands} bands"
+        );
+    }
+    Ok(reds_in_one)
 }
 
 #[test]
@@ -243,5 +255,31 @@ fn a_blended_vertex_colour(rt: HostRuntime) -> Result<(), Fail> {
     list.push(draw, &triangles)?;
     draw_view(&mut surface, &list);
     assert_eq!(rt; surface.color.texels.as_slice()[0][0], 144);
+    Ok(())
+}
+
+#[test]
+fn a_cleared_list_draws_nothing(rt: HostRuntime) -> Result<(), Fail> {
+    let alloc = rt.alloc();
+    let mut list = DrawList::new(alloc);
+    let triangles = solid(
+        alloc,
+        &[(-65536, 65536), (65536, 65536), (65536, -65536)],
+        FOUR,
+    )?;
+    let draw = Prepared {
+        cut: FOUR,
+        state: state(&rt, 15),
+        front: stencil(&rt, 0),
+        back: stencil(&rt, 0),
+        paint: Paint::Solid([16, 16, 16, 255]),
+    };
+    list.push(draw, &triangles)?;
+    assert_eq!(rt; list.len(), 1);
+    list.clear();
+    assert!(rt; list.is_empty());
+    let mut surface = blank(alloc, FOUR, [0, 0, 0, 0])?;
+    draw_view(&mut surface, &list);
+    assert_eq!(rt; reds(alloc, &surface)?.as_slice(), [0; 16].as_slice());
     Ok(())
 }

@@ -1,11 +1,14 @@
 //! Laws of the definitions, as functions without parameters: each has an empty body, and its contract is the law.
 //!
 //! They speak of definitions alone, so that a reader can rely on a law without reading its proof, and a program's proof can use it by a call.
-//! There are seven laws: of order, of a journal's first fault, of reading, of writing, of fronts, of a journal's text, and of the schedule.
+//! There are nine laws: of order, of a journal's first fault, of recordings, of draw orders, of reading, of writing, of fronts, of a
+//! journal's text, and of the schedule.
 //! `one_reading`, `readable_law` and `written_front` are corollaries: of the law of reading, of that of writing, and of those of fronts and of writing.
 #![tactic(auto)]
 
+ghost use Rattle.gfx_model.specs.Frames.{CollectedLaw, DrawOrderLaw, OrderedItemsLaw};
 ghost use Rattle.scene_model.specs.Journal.{FaultLaw, OrderLaw};
+ghost use Rattle.scene_model.specs.Recordings.{RecordingsLaw, SameItemsLaw};
 ghost use Rattle.scene_model.specs.TextLaws.{FrontLaw, JournalTextLaw};
 ghost use Rattle.schedule_model.specs.Held.{EveryRunHolds};
 ghost use Rattle.spelling_model.specs.Spelling.{OneReading, ReadingLaw};
@@ -60,4 +63,29 @@ pub fn journal_text_law()
 /// The law of the schedule: after every list of allowed events from the opening state, the invariant holds, for every latency.
 pub fn held_law()
     ensures { EveryRunHolds }
+{}
+
+/// The journal of recordings has each item of each encoder once, in the encoder's order.
+pub fn collected_law()
+    ensures { CollectedLaw }
+{}
+
+/// The draw order has each entry of a journal that has a key just as often as the journal, and no other.
+pub fn draw_order_law()
+    ensures { DrawOrderLaw }
+{}
+
+/// The items of a draw order are the journal's in the order of the frame step.
+pub fn ordered_items_law()
+    ensures { OrderedItemsLaw }
+{}
+
+/// The journal of the recordings of a scene's frame is lawful for that frame.
+pub fn recordings_law()
+    ensures { RecordingsLaw }
+{}
+
+/// An entry names the same item by the scene's frame as by its recordings.
+pub fn same_items_law()
+    ensures { SameItemsLaw }
 {}

@@ -8,12 +8,14 @@ ghost use Rattle.gfx_model.specs.Pixel as model;
 use crate::parts::Blending;
 use gfx_words::StateWord;
 
-/// The product of two bytes as shares of 255, rounded to the nearest.
+/// The product of two bytes as shares of 255, rounded to the nearest. It divides by 255 with shifts alone, which vectors
+/// of bytes have.
 #[inline(always)]
 pub fn multiply(a: u8, b: u8) -> u8
     ensures { result ≡ byte_product a b }
 {
-    ((a as u32 * b as u32 + 127) / 255) as u8
+    let sum = a as u16 * b as u16 + 127;
+    ((sum + 1 + (sum >> 8)) >> 8) as u8
 }
 
 /// A factor's value for one channel: s and d are the channel of source and stored colour, sa and da their alphas.

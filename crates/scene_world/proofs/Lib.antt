@@ -2,6 +2,7 @@ mod Numbered
 mod Places
 mod Facings
 mod Plain
+mod WholeSurfaces
 mod WholeClears
 mod Sorting
 mod Draws

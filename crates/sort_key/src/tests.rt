@@ -34,7 +34,7 @@ fn fields_come_back(rt: HostRuntime) {
             number: 0
         }
     );
-    assert_eq!(rt; key.view_position(), 255);
+    assert_eq!(rt; key.view_position(), 511);
     let sequential = SortKey::draw(ViewMode::Sequential, 3, false, 1, 7, 524_287);
     assert_eq!(rt;
         sequential.decode(),

@@ -1,5 +1,5 @@
 -- A region that is cut to its source and its destination.
-use Rattle.std.proofs.Common.{◌≡◌, ◌⊎◌, inl, inr, Result, Ok, Err, zero, suc, [], ◌∷◌, ℕ, ◌+◌, ◌-◌, ◌*◌, ◌/◌, ◌%◌, ◌<◌, ◌≤◌, min, Bool, true, false, cond, List, length, take, drop, ◌++◌, refl, sym, ap, ◌∙◌, arith}
+use Rattle.std.proofs.Common.{◌≡◌, ◌⊎◌, inl, inr, Result, Ok, Err, zero, suc, [], ◌∷◌, ℕ, ◌+◌, ◌-◌, ◌*◌, ◌/◌, ◌%◌, ◌<◌, ◌≤◌, Bool, true, false, cond, List, length, take, drop, ◌++◌, refl, sym, ap, ◌∙◌, arith}
 use Rattle.std.specs.Prelude.{◌&&◌, ◌||◌, ◌==◌, nat_le, nat_lt, MatchResult}
 use Rattle.std.specs.Cmp.{both_ways}
 use Rattle.std.proofs.lemmas.Bool.{lt-ltb, le-leb, ltb-true, leb-true, eqb-true, and_from}
@@ -13,7 +13,7 @@ use Rattle.fix_math.specs.Lending.{refilled}
 use Rattle.store_model.specs.Textures.{Region, region_covers, copied_region}
 use Rattle.texture_store.specs.Block.{in_block, texel_of_row}
 use Rattle.texture_store.specs.Cut.{cut_width, cut_height, cut_of, is_cut_empty, cut_copied}
-use Rattle.texture_store.proofs.BlockLaws.{same_map_from, length-map_from}
+use Rattle.texture_store.proofs.BlockLaws.{same_map_from}
 
 pub refill : (s w : List Color) → length w ≡ length s → refilled s w ≡ w
 refill s w e = ap (λ n. take n (w ++ drop (length w) s)) (sym e) ∙ take_at w (drop (length w) s) (length w) refl

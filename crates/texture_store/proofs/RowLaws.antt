@@ -1,13 +1,9 @@
 -- Rows of texels of a picture.
-use Rattle.std.proofs.Common.{◌≡◌, ℕ, ◌+◌, ◌-◌, ◌*◌, ◌<◌, ◌≤◌, List, [], ◌∷◌, ◌++◌, length, map, take, drop, get_or, set, refl, sym, ap, ◌∙◌, arith, length-append, length-drop, length-take-le, append_assoc}
-use Rattle.std.specs.List.{range_with_len}
-use Rattle.std.proofs.lemmas.List.{get_or-take, get_or-drop, get_or_default, drop_more}
-use Rattle.std.proofs.lemmas.List.FromFn.{get_or-map-range_with_len, length-map-range_with_len, map-range_with_len_more}
-use Rattle.std.proofs.Math.Seq.{set-append_seam}
+use Rattle.std.proofs.Common.{◌≡◌, ℕ, ◌+◌, ◌-◌, ◌*◌, ◌<◌, ◌≤◌, List, [], length, take, drop, get_or, sym, ap, ◌∙◌, arith, length-drop, length-take-le}
+use Rattle.std.proofs.lemmas.List.{get_or-take, get_or-drop, get_or_default}
 use Rattle.std.proofs.Math.Nat.{mul-le-mul_left}
 use Rattle.gfx_model.specs.Vertex.{Color}
 use Rattle.gfx_model.specs.Raster.{no_color}
-use Rattle.gfx_model.specs.World.{texel_in}
 use Rattle.texture_store.specs.Block.{texel_of_row}
 
 -- a row within the width and above the last row lies within the picture

@@ -1,14 +1,13 @@
 -- The textures of a frame buffer taken out and put back, and copies between textures.
-use Rattle.std.proofs.Common.{◌≡◌, ◌≢◌, ℕ, Bool, true, false, List, length, set, Option, Some, None, Result, Ok, Err, refl, sym, ap, subst, ◌∙◌}
+use Rattle.std.proofs.Common.{◌≡◌, ◌≢◌, ℕ, true, false, List, length, Option, Some, None, Result, Ok, Err, refl, sym, ap, subst, ◌∙◌}
 use Rattle.std.specs.Prelude.{option_map, option_and_then, is_some, IfSome, MatchOption, MatchResult}
 use Rattle.std.proofs.lemmas.List.{length-set}
 use Rattle.std.proofs.lemmas.Option.{none-some, same_Some}
-use Rattle.gfx_model.specs.Words.{Format}
 use Rattle.gfx_model.specs.Raster.{Texels}
 use Rattle.fix_math.specs.Seen.{texels_seen}
 use Rattle.fix_math.specs.declared.picture.Texels as picture
 use Rattle.store_model.specs.Slots.{at, changed_at}
-use Rattle.store_model.specs.Textures.{TextureSlot, TargetSlot, sides_at, can_attach_at, texels_in_row, with_depth, attached_texels, slot_out, slot_with, depth_out, depth_back, attached_out, attached_back, Textures, out_at, IsOut, IsOutAt, with_texels_here, slot_texels, out_sides}
+use Rattle.store_model.specs.Textures.{TextureSlot, TargetSlot, can_attach_at, texels_in_row, with_depth, attached_texels, slot_out, slot_with, depth_out, depth_back, attached_out, attached_back, Textures, out_at, IsOut, IsOutAt, with_texels_here, slot_texels, out_sides}
 use Rattle.texture_store.specs.Seen.{target_seen, sides_seen}
 use Rattle.store_model.proofs.AttachLaws.{Keeps, keeps_out, keeps_with, keeps_here, apart_of, one_size, out_taken, at_beside}
 use Rattle.texture_store.proofs.TextureLaws.{over_same}

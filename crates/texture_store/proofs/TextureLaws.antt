@@ -1,12 +1,11 @@
 -- Rows of textures and frame buffers: a texture that is taken out, changed or not, and put back.
-use Rattle.std.proofs.Common.{◌≡◌, ◌≢◌, ℕ, ◌+◌, ◌<◌, Bool, true, false, List, [], ◌∷◌, length, map, set, Option, Some, None, Result, Ok, Err, refl, sym, ap, ◌∙◌}
-use Rattle.std.specs.Prelude.{option_map, option_and_then, MatchOption, MatchResult, slice_set}
-use Rattle.std.proofs.lemmas.List.{set-set, set-get_or}
-use Rattle.std.proofs.lemmas.Option.{unwrap_or-slice_get}
+use Rattle.std.proofs.Common.{◌≡◌, ℕ, ◌+◌, false, List, [], ◌∷◌, map, set, Option, Some, None, Result, Ok, Err, refl, sym, ap, ◌∙◌}
+use Rattle.std.specs.Prelude.{option_map, option_and_then, MatchOption, MatchResult}
+use Rattle.std.proofs.lemmas.List.{set-set}
 use Rattle.gfx_model.specs.Number.{map_from}
 use Rattle.gfx_model.specs.Raster.{Texels}
 use Rattle.store_model.specs.Slots.{at, filled_at, emptied_at, changed_at}
-use Rattle.store_model.specs.Textures.{Held, here, taken, texels_in, slot_texels, texels_in_row, with_texels_here, TextureSlot, TargetSlot, holds, slot_holds, unless_held, unless_holding}
+use Rattle.store_model.specs.Textures.{Held, here, taken, texels_in, slot_texels, texels_in_row, with_texels_here, TextureSlot, TargetSlot, slot_holds, unless_held, unless_holding}
 use Rattle.store_model.proofs.SlotLaws.{changed_again, same_slot}
 
 -- a thing that is taken out and put back as it was

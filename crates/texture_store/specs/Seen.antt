@@ -1,5 +1,5 @@
 -- The crate's types as the definitions see them.
-use Rattle.std.specs.Prelude.{ℕ, List, Option, option_map}
+use Rattle.std.specs.Prelude.{ℕ, Option, option_map}
 use Rattle.fix_math.specs.declared.picture.Texels as texels
 use Rattle.fix_math.specs.Seen.{texels_seen}
 use Rattle.gfx_model.specs.Raster.{Texels}

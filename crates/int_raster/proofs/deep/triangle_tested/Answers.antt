@@ -37,16 +37,6 @@ draw_span-requires-clause-paints c =
     (λ b h x lo hi. h x (c.args.rows.now.top + c.loop-row.row) (omega (arith, hi, within)) (omega (arith, c.loop-row-test.true, c.drawn_rows-top.ensures.within))
     (drawn_column (rect_seen d.cut) f ends.0 ends.1 x (c.args.rows.now.top + c.loop-row.row) (c.drawn_columns-first.ensures.columns x (omega (arith, hi, within))) lo hi))
 
-pub draw_span-requires-clause-wide_paints : goal.draw_span-requires-clause-wide_paints
-draw_span-requires-clause-wide_paints c =
-    let d = c.args.draw.now in
-    let f = facing_seen c.args.draw.now c.args.setup.now in
-    let ends = c.drawn_columns-first.result in
-    let within = c.drawn_columns-first.ensures.within in
-    IfSome_then c.wide_brush_of-wide.result c.wide_brush_of-wide.ensures.paints
-    (λ b h x lo hi. h x (c.args.rows.now.top + c.loop-row.row) (omega (arith, hi, within)) (omega (arith, c.loop-row-test.true, c.drawn_rows-top.ensures.within))
-    (drawn_column (rect_seen d.cut) f ends.0 ends.1 x (c.args.rows.now.top + c.loop-row.row) (c.drawn_columns-first.ensures.columns x (omega (arith, hi, within))) lo hi))
-
 pub draw_span-requires-clause-depths : goal.draw_span-requires-clause-depths
 draw_span-requires-clause-depths c =
     let d = c.args.draw.now in
@@ -57,15 +47,15 @@ draw_span-requires-clause-depths c =
     (λ b h x lo hi. h x (c.args.rows.now.top + c.loop-row.row) (omega (arith, hi, within)) (omega (arith, c.loop-row-test.true, c.drawn_rows-top.ensures.within))
     (drawn_column (rect_seen d.cut) f ends.0 ends.1 x (c.args.rows.now.top + c.loop-row.row) (c.drawn_columns-first.ensures.columns x (omega (arith, hi, within))) lo hi))
 
-pub draw_span-requires-clause-wide_depths : goal.draw_span-requires-clause-wide_depths
-draw_span-requires-clause-wide_depths c =
+pub draw_span-requires-clause-short : goal.draw_span-requires-clause-short
+draw_span-requires-clause-short c =
     let d = c.args.draw.now in
     let f = facing_seen c.args.draw.now c.args.setup.now in
     let ends = c.drawn_columns-first.result in
     let within = c.drawn_columns-first.ensures.within in
-    IfSome_then c.wide_brush_of-wide.result c.wide_brush_of-wide.ensures.depths
-    (λ b h x lo hi. h x (c.args.rows.now.top + c.loop-row.row) (omega (arith, hi, within)) (omega (arith, c.loop-row-test.true, c.drawn_rows-top.ensures.within))
-    (drawn_column (rect_seen d.cut) f ends.0 ends.1 x (c.args.rows.now.top + c.loop-row.row) (c.drawn_columns-first.ensures.columns x (omega (arith, hi, within))) lo hi))
+    IfSome_then c.brush_of-brush.result c.brush_of-brush.ensures.short
+    (λ b g. IfSome_then b.short g (λ r h x lo hi. h x (c.args.rows.now.top + c.loop-row.row) (omega (arith, hi, within)) (omega (arith, c.loop-row-test.true, c.drawn_rows-top.ensures.within))
+    (drawn_column (rect_seen d.cut) f ends.0 ends.1 x (c.args.rows.now.top + c.loop-row.row) (c.drawn_columns-first.ensures.columns x (omega (arith, hi, within))) lo hi)))
 
 pub loop-row-preserved : goal.loop-row-preserved
 loop-row-preserved c =

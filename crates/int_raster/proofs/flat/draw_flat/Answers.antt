@@ -11,7 +11,7 @@ pub loop-setup-preserved : goal.loop-setup-preserved
 loop-setup-preserved c =
     let old = flat_pixels c.args.colors.now in
     let items = c.args.triangles.now in
-    c.triangle_in_rows.ensures
+    c.triangle_flat.ensures
     ∙ (λ i. map_from (by_place c.args.rows.now.width (below c.args.rows.now.top (change_seen c.args.draw.now (c.setup-item.is i)))) 0 (c.loop-setup.invariant i))
     ∙ sym (fold_more (λ qs s. map_from (by_place c.args.rows.now.width (below c.args.rows.now.top (change_seen c.args.draw.now s))) 0 qs) old items c.loop-setup.setup-index c.setup-item.result c.loop-setup-test.true)
 

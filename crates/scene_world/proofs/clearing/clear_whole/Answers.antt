@@ -3,7 +3,8 @@ use Rattle.std.proofs.lemmas.List.{length-map}
 use Rattle.gfx_model.specs.World.{on_each_pixel}
 use Rattle.fix_math.specs.Lending.{refilled}
 use Rattle.fix_math.specs.Seen.{texels_seen}
-use Rattle.int_raster.proofs.Wholes.{whole_flat, whole_deep, refill}
+use Rattle.int_raster.proofs.Wholes.{refill}
+use Rattle.scene_world.proofs.WholeSurfaces.{flat_surface, deep_surface}
 use Rattle.scene_world.specs.Cleared.{clear_seen, cleared_color}
 use Rattle.scene_world.proofs.WholeClears.{clear_step, flat-cleared, deep-cleared}
 use Rattle.scene_world.proofs.clearing.clear_whole.Goals as goal
@@ -24,7 +25,7 @@ returns-in-None c =
     let back : refilled old new ≡ new = refill old new many in
     let le : 0 + length old ≤ w * h = omega (arith, s.color.whole) in
     (λ i. record { color = record { width = w; height = h; texels = back i }; depth = option_map texels_seen (none i) })
-    ∙ whole_flat w h old new g (rw colors (flat-cleared w h 0 k old le))
+    ∙ flat_surface w h old new g (rw colors (flat-cleared w h 0 k old le))
     ∙ sym (λ i. on_each_pixel g (record { color = record { width = w; height = h; texels = old }; depth = option_map texels_seen (none i) }))
 
 pub returns-in-Some : goal.returns-in-Some
@@ -51,5 +52,5 @@ returns-in-Some c =
     let back_deep : refilled before deep ≡ deep = refill before deep (rw lent_too at c.clear_depths.auto.depths) in
     let le : 0 + length old ≤ w * h = omega (arith, s.color.whole) in
     (λ i. record { color = record { width = w; height = h; texels = back i }; depth = Some (record { width = d.width; height = d.height; texels = back_deep i }) })
-    ∙ whole_deep w h d.width d.height old new before deep g (rw colors (deep-cleared w h 0 k old before deep le (rw lent_too at c.clear_depths.ensures))) one_length c.tell_texels.ensures
+    ∙ deep_surface w h d.width d.height old new before deep g (rw colors (deep-cleared w h 0 k old before deep le (rw lent_too at c.clear_depths.ensures))) one_length c.tell_texels.ensures
     ∙ sym (λ i. on_each_pixel g (record { color = record { width = w; height = h; texels = old }; depth = option_map texels_seen (some i) }))

@@ -10,7 +10,7 @@ pub returns-in_ok-push-in-Some : goal.returns-in_ok-push-in-Some
 returns-in_ok-push-in-Some c back clear view values ew eh =
     draw-pushed clear back c.args.things.now c.args.list.now c.push.new.self view c.args.draw.now c.args.bytes.now values c.args.sides.width c.args.sides.height (prepared_seen c.in-Some.prepared (map setup_seen c.in-Some.triangles.items)) ew eh
     (sym (ap (option_map (λ q. prepared_seen q.0 (map setup_seen q.1.items))) c.in-Some.is) ∙ c.in_ok-prepared.ensures (fold drawn_prepared back c.args.list.now) clear view values)
-    c.in_ok-push-in-Some.ensures.ok
+    (rw c.deref.ensures.value at c.in_ok-push-in-Some.ensures.ok)
 
 pub returns-in-None : goal.returns-in-None
 returns-in-None c back clear view values ew eh =

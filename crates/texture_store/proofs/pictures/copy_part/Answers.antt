@@ -1,10 +1,9 @@
-use Rattle.std.proofs.Common.{◌≡◌, ◌+◌, ◌*◌, ◌≤◌, length, ap, ◌∙◌, arith}
+use Rattle.std.proofs.Common.{◌≡◌, ◌*◌, length, ap, ◌∙◌, arith}
 use Rattle.std.proofs.lemmas.List.FromFn.{length-map-range_with_len}
 use Rattle.fix_math.specs.Seen.{texels_seen}
 use Rattle.texture_store.specs.Block.{texel_of_part, part_of}
 use Rattle.texture_store.specs.Seen.{cut_seen}
 use Rattle.texture_store.specs.Cut.{cut_copied}
-use Rattle.texture_store.proofs.CutLaws.{rows_fit}
 use Rattle.texture_store.proofs.PartLaws.{part_same}
 use Rattle.texture_store.proofs.pictures.copy_part.Goals as goal
 

@@ -1,4 +1,4 @@
-use Rattle.std.proofs.Common.{◌≡◌, ◌+◌, length, ap, ◌∙◌}
+use Rattle.std.proofs.Common.{◌+◌, length, ap, ◌∙◌}
 use Rattle.fix_math.specs.Seen.{texels_seen}
 use Rattle.texture_store.specs.Seen.{region_seen, cut_seen}
 use Rattle.texture_store.specs.Cut.{cut_copied}

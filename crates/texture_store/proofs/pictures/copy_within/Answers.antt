@@ -1,6 +1,6 @@
-use Rattle.std.proofs.Common.{◌≡◌, ap, ◌∙◌}
+use Rattle.std.proofs.Common.{ap, ◌∙◌}
 use Rattle.fix_math.specs.Seen.{texels_seen}
-use Rattle.texture_store.specs.Seen.{region_seen, cut_seen}
+use Rattle.texture_store.specs.Seen.{region_seen}
 use Rattle.texture_store.specs.Cut.{cut_copied}
 use Rattle.texture_store.proofs.CutLaws.{over_same_texels, cut_same, empty_cut}
 use Rattle.texture_store.proofs.pictures.copy_within.Goals as goal

@@ -1,4 +1,4 @@
-use Rattle.std.proofs.Common.{◌≡◌, ◌/◌, length, ◌∙◌}
+use Rattle.std.proofs.Common.{◌/◌, length, ◌∙◌}
 use Rattle.texture_store.proofs.PartLaws.{chunks_texels}
 use Rattle.texture_store.proofs.rows.as_texels.Goals as goal
 

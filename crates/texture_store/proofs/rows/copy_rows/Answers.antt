@@ -1,4 +1,4 @@
-use Rattle.std.proofs.Common.{◌≡◌, ◌+◌, ◌≤◌, ◌*◌, [], length, take, drop, get_or, sym, ap, ◌∙◌, arith}
+use Rattle.std.proofs.Common.{◌+◌, ◌≤◌, [], length, get_or, sym, ap, ◌∙◌, arith}
 use Rattle.texture_store.specs.Block.{texel_of_row}
 use Rattle.texture_store.proofs.BlockLaws.{no_rows, row_more}
 use Rattle.texture_store.proofs.RowLaws.{length_row, element_of_row, row_fits}

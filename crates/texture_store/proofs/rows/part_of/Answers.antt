@@ -1,4 +1,4 @@
-use Rattle.std.proofs.Common.{◌≡◌, ◌+◌, ◌≤◌, ◌++◌, length, ap, ◌∙◌, arith}
+use Rattle.std.proofs.Common.{◌+◌, ◌≤◌, ◌++◌, length, ap, ◌∙◌, arith}
 use Rattle.texture_store.proofs.RowLaws.{row_fits}
 use Rattle.texture_store.proofs.PartLaws.{part_more}
 use Rattle.texture_store.proofs.rows.part_of.Goals as goal

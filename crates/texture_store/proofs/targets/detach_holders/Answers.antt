@@ -1,6 +1,6 @@
-use Rattle.std.proofs.Common.{◌≡◌, None, ap, sym, ◌∙◌, arith}
+use Rattle.std.proofs.Common.{None, ap, ◌∙◌, arith}
 use Rattle.std.proofs.lemmas.Option.{unwrap_or-slice_get}
-use Rattle.gfx_model.proofs.PartlyMapped.{partly, partly-set, partly-done, length-partly}
+use Rattle.gfx_model.proofs.PartlyMapped.{partly-set, partly-done}
 use Rattle.store_model.specs.Slots.{at}
 use Rattle.store_model.specs.Textures.{unless_holding}
 use Rattle.texture_store.proofs.TextureLaws.{map_from_map}

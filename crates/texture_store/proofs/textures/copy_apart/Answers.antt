@@ -1,7 +1,7 @@
 use Rattle.std.proofs.Common.{◌≡◌, None, ap, subst, ◌∙◌}
 use Rattle.std.specs.Prelude.{option_and_then, MatchOption, Option}
 use Rattle.gfx_model.specs.Raster.{Texels}
-use Rattle.store_model.specs.Slots.{at, filled_at}
+use Rattle.store_model.specs.Slots.{filled_at}
 use Rattle.store_model.specs.Textures.{slot_texels, texels_in_row, with_texels_here, copied_region}
 use Rattle.store_model.proofs.SlotLaws.{at_other}
 use Rattle.texture_store.specs.Seen.{region_seen}

@@ -1,4 +1,4 @@
-use Rattle.std.proofs.Common.{◌≡◌, ap, ◌∙◌}
+use Rattle.std.proofs.Common.{ap, ◌∙◌}
 use Rattle.store_model.specs.Slots.{filled_at}
 use Rattle.store_model.specs.Textures.{with_texels_here, copied_region}
 use Rattle.texture_store.specs.Seen.{region_seen}

@@ -1,4 +1,4 @@
-use Rattle.std.proofs.Common.{◌≡◌, ap, ◌∙◌}
+use Rattle.std.proofs.Common.{ap, ◌∙◌}
 use Rattle.fix_math.specs.Seen.{texels_seen}
 use Rattle.store_model.specs.Slots.{filled_at}
 use Rattle.store_model.specs.Textures.{slot_with}

@@ -1,4 +1,4 @@
-use Rattle.texture_store.proofs.TakeLaws.{apart_attached, taken_sides, taken_back}
+use Rattle.texture_store.proofs.TakeLaws.{taken_sides, taken_back}
 use Rattle.texture_store.proofs.textures.take_attached.Goals as goal
 
 pub returns-clause-sides : goal.returns-clause-sides

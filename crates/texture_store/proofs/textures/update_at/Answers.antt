@@ -1,4 +1,4 @@
-use Rattle.std.proofs.Common.{◌≡◌, ap, ◌∙◌}
+use Rattle.std.proofs.Common.{ap, ◌∙◌}
 use Rattle.gfx_model.specs.World.{with_texels_in}
 use Rattle.fix_math.specs.Seen.{rect_seen}
 use Rattle.store_model.specs.Slots.{filled_at}

@@ -1,4 +1,4 @@
-use Rattle.std.proofs.Common.{◌≡◌, refl, ◌∙◌}
+use Rattle.std.proofs.Common.{refl, ◌∙◌}
 use Rattle.store_model.specs.Textures.{copied_region, texels_in_row}
 use Rattle.texture_store.specs.Seen.{region_seen}
 use Rattle.store_model.proofs.AttachLaws.{all_kept}

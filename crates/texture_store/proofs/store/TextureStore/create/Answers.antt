@@ -1,7 +1,6 @@
-use Rattle.std.proofs.Common.{◌≡◌, length, None, Some, subst, sym, ap, ◌∙◌}
+use Rattle.std.proofs.Common.{Some, ap, ◌∙◌}
 use Rattle.std.proofs.lemmas.List.{length-set}
 use Rattle.store_model.specs.Slots.{at}
-use Rattle.store_model.specs.Textures.{AllAttached}
 use Rattle.store_model.proofs.AttachLaws.{all_kept, keeps_filled}
 use Rattle.texture_store.proofs.store.TextureStore.create.Goals as goal
 

@@ -1,4 +1,4 @@
-use Rattle.std.proofs.Common.{◌≡◌, length, None, ap, ◌∙◌}
+use Rattle.std.proofs.Common.{None, ap, ◌∙◌}
 use Rattle.std.proofs.lemmas.List.{length-set, length-map}
 use Rattle.store_model.specs.Slots.{at}
 use Rattle.store_model.specs.Textures.{unless_holding}

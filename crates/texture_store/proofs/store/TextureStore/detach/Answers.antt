@@ -1,4 +1,4 @@
-use Rattle.std.proofs.Common.{◌≡◌, ap, sym, ◌∙◌}
+use Rattle.std.proofs.Common.{ap, ◌∙◌}
 use Rattle.store_model.specs.Slots.{at}
 use Rattle.store_model.proofs.SlotLaws.{emptied_nothing}
 use Rattle.texture_store.proofs.store.TextureStore.detach.Goals as goal

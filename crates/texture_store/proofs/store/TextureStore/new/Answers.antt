@@ -1,4 +1,4 @@
-use Rattle.std.proofs.Common.{◌≡◌, ◌∙◌}
+use Rattle.std.proofs.Common.{◌∙◌}
 use Rattle.store_model.proofs.AttachLaws.{none_attached}
 use Rattle.texture_store.proofs.store.TextureStore.new.Goals as goal
 

@@ -1,4 +1,4 @@
-use Rattle.std.proofs.Common.{◌≡◌, Some, Option, sym, ◌∙◌}
+use Rattle.std.proofs.Common.{◌≡◌, Some, sym, ◌∙◌}
 use Rattle.std.specs.Prelude.{option_map}
 use Rattle.fix_math.specs.Seen.{texels_seen}
 use Rattle.store_model.specs.Slots.{at}

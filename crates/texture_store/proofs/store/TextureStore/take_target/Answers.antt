@@ -1,4 +1,4 @@
-use Rattle.std.proofs.Common.{◌≡◌, ap, ◌∙◌}
+use Rattle.std.proofs.Common.{ap, ◌∙◌}
 use Rattle.store_model.specs.Slots.{at}
 use Rattle.store_model.proofs.AttachLaws.{all_kept}
 use Rattle.texture_store.proofs.TakeLaws.{stays_out, stays_equal, stays_keeps, stays_long}

@@ -1,0 +1,5 @@
+pub mod Seen
+pub mod Kept
+pub mod Links
+pub mod Merged
+pub mod Ordered

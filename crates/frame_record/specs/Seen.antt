@@ -1,0 +1,21 @@
+-- Recordings and entries as the definitions see them.
+use Rattle.std.specs.Prelude.{List, map}
+use Rattle.gfx_model.specs.Frames as model
+use Rattle.gfx_model.specs.World.{Numbered}
+use Rattle.draw_encoder.specs.declared.items.Item.{Item}
+use Rattle.draw_encoder.specs.declared.items.Recording.{Recording}
+use Rattle.draw_encoder.specs.Seen.{item_seen, number_of}
+use Rattle.frame_record.specs.declared.entry.JournalEntry.{JournalEntry}
+
+abbrev pub entry_seen : JournalEntry → model.Entry
+entry_seen e = record { encoder = e.encoder; ordinal = e.ordinal }
+
+-- an item of a recording with the number that it drew
+abbrev pub numbered_seen : Recording → Item → Numbered
+numbered_seen r i = record { number = number_of i; item = item_seen r.bytes r.uniforms i }
+
+abbrev pub recorded_seen : Recording → model.Recorded
+recorded_seen r = record { encoder = r.encoder; items = map (numbered_seen r) r.items }
+
+abbrev pub recordings_seen : List Recording → List model.Recorded
+recordings_seen rs = map recorded_seen rs

@@ -1,0 +1,78 @@
+// Frames, and how their renders went.
+ghost use Rattle.std.specs.Prelude.{◌≡◌, length};
+ghost use Rattle.frame_record.specs.Kept.{IsKept};
+
+use crate::entry::JournalEntry;
+use cmd_buffer::CmdBytes;
+use draw_encoder::Recording;
+use view_table::ViewTable;
+
+/// How many items a frame has at most: 8,191 of each of eight encoders.
+pub const MOST_ITEMS: usize = 65_528;
+
+/// What the renderer draws at one go: the commands before and after the drawing with their payloads, the views, what each encoder
+/// recorded, and the journal, which is the order of all items by their numbers. It has at most 65,528 items, of different numbers,
+/// at most as many entries, and each recording is of an encoder of its own.
+#[derive(Drop)]
+pub struct Frame {
+    pub number: u32,
+    pub views: ViewTable,
+    pub pre: CmdBytes,
+    pub post: CmdBytes,
+    pub payloads: Vec<Vec<u8>>,
+    pub recordings: Vec<Recording>,
+    pub journal: Vec<JournalEntry>,
+    ghost kept: { IsKept recordings.items (length journal.items) },
+}
+
+impl Frame {
+    /// A frame of these parts.
+    pub fn new(
+        number: u32,
+        views: ViewTable,
+        pre: CmdBytes,
+        post: CmdBytes,
+        payloads: Vec<Vec<u8>>,
+        recordings: Vec<Recording>,
+        journal: Vec<JournalEntry>,
+    ) -> Frame
+        requires { IsKept recordings.items (length journal.items) }
+        ensures number { result.number ≡ number }
+        ensures views { result.views ≡ views }
+        ensures commands { (result.pre ≡ pre) × (result.post ≡ post) }
+        ensures payloads { result.payloads ≡ payloads }
+        ensures recordings { result.recordings ≡ recordings }
+        ensures journal { result.journal ≡ journal }
+    {
+        Frame {
+            number,
+            views,
+            pre,
+            post,
+            payloads,
+            recordings,
+            journal,
+        }
+    }
+
+    /// What every frame keeps: at most 65,528 items, of different numbers, and each recording of an encoder of its own.
+    pub fn tell_facts(&self)
+        ensures { IsKept self.now.recordings.items (length self.now.journal.items) }
+    {}
+}
+
+/// How the render of a frame went. A frame is skipped exactly where an earlier one of the same renderer was not shown.
+#[derive(Clone, Copy, Drop, PartialEq, Eq, Debug)]
+pub enum Outcome {
+    Shown,
+    PictureFault,
+    OutOfMemory,
+    Skipped,
+}
+
+/// A frame that came back, as it was given, and how its render went.
+#[derive(Drop)]
+pub struct RenderedFrame {
+    pub frame: Frame,
+    pub outcome: Outcome,
+}

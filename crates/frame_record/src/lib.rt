@@ -1,0 +1,15 @@
+//! Frames as they are handed over: what encoders recorded, its journal, the order in which it is drawn, and the link to the renderer.
+#![tactic(auto)]
+
+mod collecting;
+mod entry;
+mod frame;
+mod link;
+mod merging;
+mod ordering;
+
+pub use collecting::collect;
+pub use entry::JournalEntry;
+pub use frame::{Frame, MOST_ITEMS, Outcome, RenderedFrame};
+pub use link::FrameLink;
+pub use ordering::{OrderedItem, end_of_run};

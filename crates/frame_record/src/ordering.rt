@@ -1,0 +1,191 @@
+// The order in which a frame is drawn.
+ghost use Rattle.std.specs.Prelude.{ℕ, ◌≡◌, ◌≢◌, ◌≤◌, ◌<◌, ◌^◌, ◌++◌, List, length, map, slice_index_or, IfOk, OnOk, MatchOption, []};
+ghost use Rattle.std.specs.Option.{option_map};
+ghost use Rattle.gfx_model.specs.Frames.{draw_order, keyed_entry, keyed_entries, items_by};
+ghost use Rattle.gfx_model.specs.World.{sorted_by_key};
+ghost use Rattle.sort_key.specs.Fields.{number_bits};
+ghost use Rattle.draw_encoder.specs.declared.items.UniformSet.{UniformSet};
+ghost use Rattle.draw_encoder.specs.Seen.{item_seen};
+ghost use Rattle.frame_record.specs.Ordered.{keyed_of, position_of, key_or_none, one_or_none};
+ghost use Rattle.frame_record.specs.Seen.{entry_seen, recorded_seen, recordings_seen};
+
+use crate::entry::JournalEntry;
+use crate::frame::Frame;
+use draw_encoder::{DrawItem, Item, Recording, TouchItem};
+use gfx_words::Kind;
+use sort_key::SortKey;
+use std::alloc::{AllocError, Global};
+use view_table::ViewTable;
+
+// how far the position of the view stands up in a key's number
+const POSITION: u32 = 55;
+
+// the program's number of a touch
+const NO_PROGRAM: u16 = 511;
+
+/// A draw or touch with the number of its sort key.
+#[derive(Clone, Copy, Drop, PartialEq, Eq, Debug)]
+pub struct OrderedItem {
+    pub key: u64,
+    pub entry: JournalEntry,
+}
+
+impl OrderedItem {
+    /// The position of the item's view in the order of the views.
+    pub fn position(&self) -> u16
+        ensures { result ≡ position_of self.now }
+    {
+        (self.key >> POSITION) as u16
+    }
+}
+
+// the key of a draw, where its view is there and its program is one
+fn draw_key(views: &ViewTable, draw: &DrawItem, place: u32) -> Option<u64>
+    requires { place < 2 ^ number_bits }
+    ensures { (bytes : List ℕ) (sets : List UniformSet) → result ≡ key_or_none views.now place (item_seen bytes sets (Item.Draw draw.now)) }
+{
+    let view = views.get(draw.view)?;
+    if !draw.program.kind().is(Kind::Program) {
+        return None;
+    }
+    views.tell_facts();
+    let mode = view.mode;
+    let position = views.position(draw.view);
+    let index = draw.program.index();
+    Some(SortKey::draw(
+        mode,
+        position,
+        draw.state.blended(),
+        index,
+        draw.depth,
+        place,
+    )
+    .bits())
+}
+
+// the key of a touch, where its view is there
+fn touch_key(views: &ViewTable, touch: &TouchItem, place: u32) -> Option<u64>
+    requires { place < 2 ^ number_bits }
+    ensures { (bytes : List ℕ) (sets : List UniformSet) → result ≡ key_or_none views.now place (item_seen bytes sets (Item.Touch touch.now)) }
+{
+    let view = views.get(touch.view)?;
+    views.tell_facts();
+    let position = views.position(touch.view);
+    Some(SortKey::draw(view.mode, position, false, NO_PROGRAM, 0, place).bits())
+}
+
+// the key of an item at a place of the journal, where it is drawn in an order by key
+fn key_of(views: &ViewTable, item: &Item, place: u32) -> Option<u64>
+    requires { place < 2 ^ number_bits }
+    ensures { (bytes : List ℕ) (sets : List UniformSet) → result ≡ key_or_none views.now place (item_seen bytes sets item.now) }
+{
+    match item {
+        Item::Draw(draw) => draw_key(views, draw, place),
+        Item::Touch(touch) => touch_key(views, touch, place),
+        Item::Blit(_) => None,
+    }
+}
+
+// the first recording of an encoder
+fn recording_by<'a>(recordings: &'a [Recording], encoder: u8) -> Option<&'a Recording>
+    ensures { MatchOption result
+        (items_by (recordings_seen recordings.now) encoder ≡ [])
+        (λ r. items_by (recordings_seen recordings.now) encoder ≡ (recorded_seen r.now).items) }
+{
+    for recording in recordings {
+        if recording.encoder == encoder {
+            return Some(recording);
+        }
+    }
+    None
+}
+
+// the key of an entry at a place of the journal, where its item is there and has one
+fn key_at(
+    views: &ViewTable,
+    recordings: &[Recording],
+    entry: JournalEntry,
+    place: u32,
+) -> Option<u64>
+    requires { place < 2 ^ number_bits }
+    ensures { option_map (λ k. (k, entry_seen entry)) result ≡ keyed_entry views.now (recordings_seen recordings.now) place (entry_seen entry) }
+{
+    let Some(recording) = recording_by(recordings, entry.encoder) else {
+        return None;
+    };
+    let Some(item) = recording.items.as_slice().get(entry.ordinal as usize) else {
+        return None;
+    };
+    key_of(views, item, place)
+}
+
+// puts an entry behind the others where it has a key
+fn put_keyed(
+    all: &mut Vec<OrderedItem>,
+    key: Option<u64>,
+    entry: JournalEntry,
+) -> Result<(), AllocError>
+    ensures { IfOk result (λ _. map keyed_of all.new.items ≡ map keyed_of all.old.items ++ one_or_none key (entry_seen entry)) }
+{
+    if let Some(key) = key {
+        all.push(OrderedItem { key, entry })?;
+    }
+    Ok(())
+}
+
+// the entries of the journal that have a key, each with it
+fn with_keys(
+    alloc: Global,
+    views: &ViewTable,
+    recordings: &[Recording],
+    journal: &[JournalEntry],
+) -> Result<Vec<OrderedItem>, AllocError>
+    requires { length journal.now ≤ 65528 }
+    ensures { IfOk result (λ all. map keyed_of all.items ≡ keyed_entries views.now (recordings_seen recordings.now) (map entry_seen journal.now)) }
+{
+    let mut all = Vec::new(alloc);
+    for place in 0..journal.len() {
+        let entry = journal[place];
+        let key = key_at(views, recordings, entry, place as u32);
+        put_keyed(&mut all, key, entry)?;
+    }
+    Ok(all)
+}
+
+// sorts by the key; entries of one key keep their order
+fn sort(all: &mut Vec<OrderedItem>) -> Result<(), AllocError>
+    ensures { OnOk result (map keyed_of all.new.items ≡ sorted_by_key (map keyed_of all.old.items)) }
+{
+    all.sort_by_key(|o| o.key)
+}
+
+impl Frame {
+    /// The draws and touches in the order in which they are drawn: by the position of the view, then by the sort key, and at equal
+    /// keys as they stand in the journal. Entries without an item, items of views that are not there and draws whose program is no
+    /// program are left out.
+    ///
+    /// The items of a view stand beside each other; `end_of_run` finds where they end.
+    pub fn ordered(&self, alloc: Global) -> Result<Vec<OrderedItem>, AllocError>
+        ensures keyed { IfOk result (λ all. map keyed_of all.items ≡ sorted_by_key (keyed_entries self.now.views (recordings_seen self.now.recordings.items) (map entry_seen self.now.journal.items))) }
+        ensures order { IfOk result (λ all. map (λ o. entry_seen o.entry) all.items ≡ draw_order self.now.views (recordings_seen self.now.recordings.items) (map entry_seen self.now.journal.items)) }
+    {
+        let mut all = with_keys(alloc, &self.views, &self.recordings, &self.journal)?;
+        sort(&mut all)?;
+        Ok(all)
+    }
+}
+
+/// Where the run of items whose view has a position ends that begins at a place; it is that place where there is no such item.
+pub fn end_of_run(ordered: &[OrderedItem], from: usize, position: u16) -> usize
+    requires { from ≤ length ordered.now }
+    ensures range { (from ≤ result) × (result ≤ length ordered.now) }
+    ensures run { (i : ℕ) (d : OrderedItem) → from ≤ i → i < result → position_of (slice_index_or ordered.now i d) ≡ position }
+    ensures end { (d : OrderedItem) → result < length ordered.now → position_of (slice_index_or ordered.now result d) ≢ position }
+{
+    for at in from..ordered.len() {
+        if ordered[at].position() != position {
+            return at;
+        }
+    }
+    ordered.len()
+}

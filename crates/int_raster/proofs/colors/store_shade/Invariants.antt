@@ -1,0 +1,16 @@
+use Rattle.std.proofs.Common.{◌≡◌, ◌+◌}
+use Rattle.gfx_model.specs.Number.{map_from}
+use Rattle.tri_cover.specs.Slope.{ramp_at}
+use Rattle.int_raster.specs.Places.{spanned, in_row}
+use Rattle.int_raster.specs.Seen.{color_seen}
+use Rattle.int_raster.proofs.colors.store_shade.Given as goal
+
+-- the pixels before the column are stepped, and the channels stand at it
+abbrev pub invariant-loop-x : goal.invariant-loop-x
+invariant-loop-x l = record {
+  red : l.red ≡ ramp_at l.fn.shade.red l.x l.fn.span.y;
+  green : l.green ≡ ramp_at l.fn.shade.green l.x l.fn.span.y;
+  blue : l.blue ≡ ramp_at l.fn.shade.blue l.x l.fn.span.y;
+  alpha : l.alpha ≡ ramp_at l.fn.shade.alpha l.x l.fn.span.y;
+  done : l.colors ≡ map_from (spanned (in_row l.fn.span.start l.fn.span.y (color_seen l.fn.draw l.fn.setup)) (l.fn.span.start + l.fn.span.first) (l.fn.span.start + l.x)) 0 l.fn.colors;
+}

@@ -1,0 +1,100 @@
+// The colours of a piece of a row, by a painter.
+ghost use Rattle.std.specs.Prelude.{◌≡◌, ◌≤◌, ◌<◌, ◌+◌, ◌/◌, ◌%◌, ◌^◌, ℕ, pos, length};
+ghost use Rattle.gfx_model.specs.Number.{zip_with, byte_product};
+ghost use Rattle.gfx_model.specs.Raster.{sample};
+ghost use Rattle.fix_math.specs.Seen.{texels_seen};
+ghost use Rattle.int_raster.specs.Painted.{place_at, shade_at, painter_color, HoldsPiece};
+
+use crate::painters::{Painter, Place, Shade, value_at, wide_value_at};
+use crate::painting::product;
+use crate::sampling::texel_at;
+use crate::spans::Span;
+use fix_math::Texels;
+
+/// The position within one unit of a value of a texture position's ramp.
+#[inline(always)]
+fn unit_part(value: u128) -> u32
+    ensures part { result ≡ value / 2 ^ 104 % 65536 }
+    ensures unit { result < 65536 }
+{
+    (value >> 104) as u32 % 65536
+}
+
+/// The vertices' colours.
+fn shade_piece(shade: &Shade, piece: &Span, colors: &mut [[u8; 4]])
+    requires room { piece.now.after ≤ piece.now.first + length colors.old }
+    ensures { HoldsPiece colors.new (λ x. shade_at shade.now x piece.now.y) piece.now.first piece.now.after }
+{
+    let mut red = value_at(&shade.red, piece.first, piece.y);
+    let mut green = value_at(&shade.green, piece.first, piece.y);
+    let mut blue = value_at(&shade.blue, piece.first, piece.y);
+    let mut alpha = value_at(&shade.alpha, piece.first, piece.y);
+    for x in piece.first..piece.after {
+        colors[(x - piece.first) as usize] = [
+            (red >> 56) as u8,
+            (green >> 56) as u8,
+            (blue >> 56) as u8,
+            (alpha >> 56) as u8,
+        ];
+        red = red.wrapping_add(shade.red.right);
+        green = green.wrapping_add(shade.green.right);
+        blue = blue.wrapping_add(shade.blue.right);
+        alpha = alpha.wrapping_add(shade.alpha.right);
+    }
+}
+
+/// The texels at the texture positions.
+fn texture_piece(texels: &Texels, at: &Place, piece: &Span, colors: &mut [[u8; 4]])
+    requires room { piece.now.after ≤ piece.now.first + length colors.old }
+    ensures { HoldsPiece colors.new (λ x. sample (texels_seen texels.now) (pos (place_at at.now.u x piece.now.y)) (pos (place_at at.now.v x piece.now.y))) piece.now.first piece.now.after }
+{
+    let mut u = wide_value_at(&at.u, piece.first, piece.y);
+    let mut v = wide_value_at(&at.v, piece.first, piece.y);
+    for x in piece.first..piece.after {
+        let column = unit_part(u);
+        let row = unit_part(v);
+        colors[(x - piece.first) as usize] = texel_at(texels, column, row);
+        u = u.wrapping_add(at.u.right);
+        v = v.wrapping_add(at.v.right);
+    }
+}
+
+/// The products of the texels at the texture positions and of the vertices' colours.
+fn product_piece(texels: &Texels, at: &Place, shade: &Shade, piece: &Span, colors: &mut [[u8; 4]])
+    requires room { piece.now.after ≤ piece.now.first + length colors.old }
+    requires short { piece.now.after ≤ piece.now.first + 32 }
+    ensures { HoldsPiece colors.new (λ x. zip_with byte_product (sample (texels_seen texels.now) (pos (place_at at.now.u x piece.now.y)) (pos (place_at at.now.v x piece.now.y))) (shade_at shade.now x piece.now.y)) piece.now.first piece.now.after }
+{
+    let mut samples = [[0; 4]; 32];
+    let mut shades = [[0; 4]; 32];
+    texture_piece(texels, at, piece, &mut samples);
+    shade_piece(shade, piece, &mut shades);
+    for x in piece.first..piece.after {
+        let place = (x - piece.first) as usize;
+        colors[place] = product(samples[place], shades[place]);
+    }
+}
+
+/// One colour.
+fn solid_piece(color: [u8; 4], piece: &Span, colors: &mut [[u8; 4]])
+    requires room { piece.now.after ≤ piece.now.first + length colors.old }
+    ensures { HoldsPiece colors.new (λ x. color) piece.now.first piece.now.after }
+{
+    for x in piece.first..piece.after {
+        colors[(x - piece.first) as usize] = color;
+    }
+}
+
+/// The colours of a painter.
+pub(crate) fn paint_piece(painter: &Painter, piece: &Span, colors: &mut [[u8; 4]])
+    requires room { piece.now.after ≤ piece.now.first + length colors.old }
+    requires short { piece.now.after ≤ piece.now.first + 32 }
+    ensures { HoldsPiece colors.new (λ x. painter_color painter.now x piece.now.y) piece.now.first piece.now.after }
+{
+    match painter {
+        Painter::Solid(color) => solid_piece(*color, piece, colors),
+        Painter::Vertex(shade) => shade_piece(shade, piece, colors),
+        Painter::Texture(texels, at) => texture_piece(texels, at, piece, colors),
+        Painter::TexColor(texels, at, shade) => product_piece(texels, at, shade, piece, colors),
+    }
+}
