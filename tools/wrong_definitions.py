@@ -85,7 +85,7 @@ WRONG = [
     # texts
     ("leading zeros", S + "Field.antt", "not (b == 48) && list_all is_digit", "true && list_all is_digit"),
     ("i32 from one more", S + "Field.antt", "int_le (negsuc 2147483647) z", "int_le (negsuc 2147483646) z"),
-    ("place before version", S + "Grammar.antt", "_ ← unless (not (is_other_version known.newest fs)) unknown_version\n  _ ← unless (is_in_place r w fs) misplaced_word", "_ ← unless (is_in_place r w fs) misplaced_word\n  _ ← unless (not (is_other_version fs)) unknown_version"),
+    ("place before version", S + "Grammar.antt", "_ ← unless (not (is_other_version known.newest fs)) unknown_version\n  _ ← unless (is_in_place r w fs) misplaced_word", "_ ← unless (is_in_place r w fs) misplaced_word\n  _ ← unless (not (is_other_version known.newest fs)) unknown_version"),
     ("skipped lines not counted", S + "Grammar.antt", "read_pieces known (n + 1) (line_read known r p) (q ∷ rest)", "read_pieces known (if is_skipped p then n else n + 1) (line_read known r p) (q ∷ rest)"),
     ("order one shorter", S + "Grammar.antt", "has_count_from 1 (1 + views) fs", "has_count_from 1 views fs"),
     ("order one longer", S + "Grammar.antt", "has_count_from 1 (1 + views) fs", "has_count_from 1 (2 + views) fs"),
@@ -104,8 +104,10 @@ WRONG = [
     ("version 3 is read", S + "Scene.antt", "newest_version = 2", "newest_version = 3"),
     ("no version is refused as such", S + "Grammar.antt", "number_in (newest + 1) 255 n", "number_in 256 255 n"),
     # whole runs
-    ("an input one byte longer", S + "Run.antt", "nat_lt longest_input (length bytes)", "false"),
-    ("refused runs keep a journal", S + "Run.antt", "refused ending line = record { ending = ending; pictures = []; journal = []; noted = line }", "refused ending line = record { ending = ending; pictures = []; journal = [] ∷ []; noted = line }"),
+    ("an input one byte longer", S + "Run.antt", "longest_input = 16777216", "longest_input = 16777217"),
+    ("an input one byte shorter", S + "Run.antt", "longest_input = 16777216", "longest_input = 16777215"),
+    ("refused runs show the bytes of their note", S + "Run.antt", "refused ending line = record { ending = ending; pictures = [];", "refused ending line = record { ending = ending; pictures = line;"),
+    ("replay shows a journal with a fault", S + "Run.antt", "shown_unless with_journal s j (Some place) = unlawful place", "shown_unless with_journal s j (Some place) = shown with_journal s j"),
 ]
 
 

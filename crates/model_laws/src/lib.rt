@@ -3,7 +3,7 @@
 //! They speak of definitions alone, so that a reader can rely on a law without reading its proof, and a program's proof can use it by a call.
 //! There are nine laws: of order, of a journal's first fault, of recordings, of draw orders, of reading, of writing, of fronts, of a
 //! journal's text, and of the schedule.
-//! `one_reading` and `written_front` are corollaries: the first follows from the law of reading, the second from those of fronts and of writing.
+//! `one_reading`, `readable_law` and `written_front` are corollaries: of the law of reading, of that of writing, and of those of fronts and of writing.
 #![tactic(auto)]
 
 ghost use Rattle.gfx_model.specs.Frames.{CollectedLaw, DrawOrderLaw, OrderedItemsLaw};
@@ -12,7 +12,7 @@ ghost use Rattle.scene_model.specs.Recordings.{RecordingsLaw, SameItemsLaw};
 ghost use Rattle.scene_model.specs.TextLaws.{FrontLaw, JournalTextLaw};
 ghost use Rattle.schedule_model.specs.Held.{EveryRunHolds};
 ghost use Rattle.spelling_model.specs.Spelling.{OneReading, ReadingLaw};
-ghost use Rattle.spelling_model.specs.Written.{WritingLaw, WrittenFrontLaw};
+ghost use Rattle.spelling_model.specs.Written.{ReadableLaw, WritingLaw, WrittenFrontLaw};
 
 /// The law of order: where no key is shared between encoders, any two lawful journals of a scene give the same pictures.
 pub fn order_law()
@@ -37,6 +37,11 @@ pub fn one_reading()
 /// The law of writing: each text made of a readable scene's lines is read as that scene.
 pub fn writing_law()
     ensures { WritingLaw }
+{}
+
+/// A scene is readable exactly where what is written of it is read as it, so whether it is can be computed. A corollary of the law of writing.
+pub fn readable_law()
+    ensures { ReadableLaw }
 {}
 
 /// The law of fronts: a text whose last line ends its scene is read as the front of each text that begins with it, in whatever language, and

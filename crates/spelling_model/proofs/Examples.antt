@@ -40,6 +40,21 @@ written_text : written one_clear ≡ codes "scene 1\nsize 2 2\nencoders 1\nroom 
 unfolding digits
 written_text = refl
 
+-- the second version says its latency, though the text that is read left it out
+abbrev second_text : List ℕ
+second_text = codes "scene 2\nsize 2 2\nencoders 1\nframe\nview 0 clear 1 ff000aff 0 7\nencoder 0\ntouch 0\ndone\n"
+
+abbrev one_clear_again : Scene
+one_clear_again = record one_clear { version = 2 }
+
+second_is_read : scene_of whole_language second_text ≡ Ok one_clear_again
+unfolding after_word after_resource after_encoder_line i32_number word_in hex_value hex_byte
+second_is_read = refl
+
+second_written : written one_clear_again ≡ codes "scene 2\nsize 2 2\nencoders 1\nroom 8191 262144 4096\nlatency 1\nframe\nview 0 clear 1 ff000aff 0 7\nencoder 0\ntouch 0\ndone\n"
+unfolding digits
+second_written = refl
+
 -- the lines of the scene that a text is read as
 abbrev spelled_again : (with_room with_latency : Bool) → List Bool → Result Scene Fault → List (List Field)
 spelled_again with_room with_latency besides (Ok s) = spelled_lines with_room with_latency besides s

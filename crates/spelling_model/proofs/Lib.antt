@@ -18,6 +18,7 @@ mod Stages
 mod Choices
 pub mod Reading
 mod Examples
+mod Unreadable
 pub mod LineTexts
 pub mod Writing
 pub mod Fronts

@@ -8,7 +8,7 @@ use Rattle.scene_model.specs.Scene.{ResourceLine, SceneFrame, Scene}
 use Rattle.scene_model.specs.Grammar.{Field, plain_room, says_latency}
 use Rattle.spelling_model.specs.LineSpelling.{resource_fields, block_lines, beside_lines, frame_lines, frames_lines, room_lines, latency_lines, head_lines, spelled_lines}
 use Rattle.spelling_model.specs.Spelling.{MayLeaveRoom, MayLeaveLatency, MayLeaveBesides, Spells}
-use Rattle.spelling_model.specs.Written.{scene_text, has_beside, WritingLaw}
+use Rattle.spelling_model.specs.Written.{scene_text, has_beside, written, WritingLaw, ReadableLaw}
 use Rattle.spelling_model.proofs.LineTexts.{IsLine, AreLines, lines_apart, lines_joined, lines_of_text, text_of_lines}
 use Rattle.spelling_model.proofs.Reading.{reading-law}
 
@@ -97,3 +97,6 @@ writing-law s r =
       (reading-law s (scene_text true (says_latency s.version) (map has_beside s.frames) s)).1
           (r, text_spells s r.0 spells true (says_latency s.version) (map has_beside s.frames) (λ e. absurd (cc e)) (written_latency s spells.1.with_latency spells.1.latency_left) (written_left s.frames)),
     )
+
+pub readable-law : ReadableLaw
+readable-law s = (λ r. (writing-law s r).1, λ e. (written s, e))

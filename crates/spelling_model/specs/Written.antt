@@ -1,5 +1,5 @@
 -- The bytes of a scene's lines, and that they are read as the scene again.
-use Rattle.std.specs.Prelude.{◌≡◌, ℕ, Bool, true, not, ◌==◌, List, [], ◌∷◌, ◌++◌, map, flat_map, length, Ok, codes}
+use Rattle.std.specs.Prelude.{◌≡◌, ◌↔◌, ℕ, Bool, true, not, ◌==◌, List, [], ◌∷◌, ◌++◌, map, flat_map, length, Ok, codes}
 use Rattle.scene_model.specs.Scene.{SceneFrame, Scene}
 use Rattle.scene_model.specs.Grammar.{Field, says_latency, scene_of, front_of, whole_language}
 use Rattle.spelling_model.specs.LineSpelling.{spelled_lines}
@@ -32,3 +32,7 @@ WritingLaw = (s : Scene) → IsReadable s
 -- what is written of a readable scene is a front of each text that begins with it
 abbrev pub WrittenFrontLaw : Type 0
 WrittenFrontLaw = (s : Scene) (rest : List ℕ) → IsReadable s → front_of whole_language (written s ++ rest) ≡ Ok (s, length (written s))
+
+-- a scene is readable exactly where what is written of it is read as it: so whether it is can be computed
+abbrev pub ReadableLaw : Type 0
+ReadableLaw = (s : Scene) → IsReadable s ↔ (scene_of whole_language (written s) ≡ Ok s)
