@@ -1,4 +1,4 @@
-pub mod StateLaws
 pub mod Ranges
 pub mod NameLaws
 pub mod Exits
+pub mod Begins

@@ -8,3 +8,4 @@ pub mod Calls
 pub mod Bundles
 pub mod Encoders
 pub mod Formats
+pub mod Begins

@@ -20,6 +20,10 @@ state_seen bytes s = record {
   textures = s.first_texture ∷ s.second_texture ∷ [];
 }
 
+-- the state with the plain state word, no stencil and no scissor
+abbrev pub with_plain_words : DrawState → DrawState
+with_plain_words s = record s { state = 15; front = 0; back = 0; scissor = record { x = 0; y = 0; w = 0; h = 0 } }
+
 -- the item of a draw with the state
 abbrev pub drawn_with : DrawState → ℕ → ℕ → Handle → ℕ → ℕ → ℕ → DrawItem
 drawn_with s view number program depth values_at values = record {

@@ -5,6 +5,7 @@ mod bundle;
 mod encoder;
 mod handles;
 mod items;
+pub mod laws;
 mod lists;
 mod naming;
 mod recorder;

@@ -7,6 +7,13 @@ use crate::items::{DrawItem, IndexSet, VertexSet};
 use fix_math::{Affine, Rect};
 use gfx_words::{Handle, StateWord, StencilWord};
 
+const NO_SCISSOR: Rect = Rect {
+    x: 0,
+    y: 0,
+    w: 0,
+    h: 0,
+};
+
 /// What the next draw is recorded with.
 #[derive(Clone, Copy, Drop)]
 pub struct DrawState {
@@ -22,29 +29,18 @@ pub struct DrawState {
 }
 
 impl DrawState {
-    ghost use Rattle.draw_encoder.specs.States.{state_seen, drawn_with, HasStateWithin};
+    ghost use Rattle.draw_encoder.specs.States.{state_seen, drawn_with, with_plain_words, HasStateWithin};
 
     /// The state at the beginning of an encoder.
     pub fn plain() -> DrawState
         ensures seen { (bytes : List ℕ) → state_seen bytes result ≡ plain_state }
         ensures within { (n : ℕ) → HasStateWithin n result }
     {
-        let Ok(state) = StateWord::read(15) else {
-            unreachable!()
-        };
-        let Ok(stencil) = StencilWord::read(0) else {
-            unreachable!()
-        };
         DrawState {
-            state,
-            front: stencil,
-            back: stencil,
-            scissor: Rect {
-                x: 0,
-                y: 0,
-                w: 0,
-                h: 0,
-            },
+            state: plain_word(),
+            front: no_stencil(),
+            back: no_stencil(),
+            scissor: NO_SCISSOR,
             model: Affine::identity(),
             vertices: VertexSet::Unset,
             indices: IndexSet::Unset,
@@ -83,24 +79,57 @@ impl DrawState {
         }
     }
 
-    /// The state with the parts reset that the flags name.
-    pub fn discarded(self, flags: u8) -> DrawState
-        ensures seen { (bytes : List ℕ) → state_seen bytes result ≡ discarded flags (state_seen bytes self) }
-        ensures within { (n : ℕ) → HasStateWithin n self → HasStateWithin n result }
+    /// Resets the parts that the flags name, and leaves the others as they are.
+    pub fn discard(&mut self, flags: u8)
+        ensures seen { (bytes : List ℕ) → state_seen bytes self.new ≡ discarded flags (state_seen bytes self.old) }
+        ensures within { (n : ℕ) → HasStateWithin n self.old → HasStateWithin n self.new }
     {
-        let plain = DrawState::plain();
-        DrawState {
-            state: chosen(is_set(flags, 3), plain.state, self.state),
-            front: chosen(is_set(flags, 3), plain.front, self.front),
-            back: chosen(is_set(flags, 3), plain.back, self.back),
-            scissor: chosen(is_set(flags, 3), plain.scissor, self.scissor),
-            model: chosen(is_set(flags, 4), plain.model, self.model),
-            vertices: chosen(is_set(flags, 5), VertexSet::Unset, self.vertices),
-            indices: chosen(is_set(flags, 1), IndexSet::Unset, self.indices),
-            first_texture: chosen(is_set(flags, 0), None, self.first_texture),
-            second_texture: chosen(is_set(flags, 0), None, self.second_texture),
+        if is_set(flags, 0) {
+            self.first_texture = None;
+            self.second_texture = None;
+        }
+        if is_set(flags, 1) {
+            self.indices = IndexSet::Unset;
+        }
+        if is_set(flags, 3) {
+            self.reset_words();
+        }
+        if is_set(flags, 4) {
+            self.model = Affine::identity();
+        }
+        if is_set(flags, 5) {
+            self.vertices = VertexSet::Unset;
         }
     }
+
+    // Resets the state word, the stencil words and the scissor.
+    fn reset_words(&mut self)
+        ensures { self.new ≡ with_plain_words self.old }
+    {
+        self.state = plain_word();
+        self.front = no_stencil();
+        self.back = no_stencil();
+        self.scissor = NO_SCISSOR;
+    }
+}
+
+// The state word at the beginning of an encoder: all channels, no depth test, no blending, no culling, triangles.
+fn plain_word() -> StateWord
+    ensures { result ≡ plain_state.state }
+{
+    let Ok(word) = StateWord::read(15) else {
+        unreachable!()
+    };
+    word
+}
+
+fn no_stencil() -> StencilWord
+    ensures { result ≡ 0 }
+{
+    let Ok(word) = StencilWord::read(0) else {
+        unreachable!()
+    };
+    word
 }
 
 fn is_set(flags: u8, bit: u8) -> bool
@@ -108,10 +137,4 @@ fn is_set(flags: u8, bit: u8) -> bool
     ensures { result ≡ is_bit_set flags bit }
 {
     flags >> bit & 1 == 1
-}
-
-fn chosen<T: Copy>(is_first: bool, first: T, second: T) -> T
-    ensures { result ≡ (if is_first then first else second) }
-{
-    if is_first { first } else { second }
 }

@@ -198,7 +198,7 @@ impl Tape {
             .draw_item(view, number, program, depth, at, all - at);
         put_item(&mut self.items, Item::Draw(item));
         self.pending_at = all;
-        self.current = self.current.discarded(discard);
+        self.current.discard(discard);
     }
 
     pub fn touch(&mut self, view: u16, number: u64)
@@ -216,7 +216,7 @@ impl Tape {
         };
         put_item(&mut self.items, Item::Touch(item));
         self.pending_at = all;
-        self.current = self.current.discarded(255);
+        self.current.discard(255);
     }
 
     pub fn blit(&mut self, view: u16, number: u64, copy: BlitCall)

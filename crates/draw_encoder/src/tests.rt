@@ -196,12 +196,14 @@ fn record<C: Naming, R: Wait>(
     met
 }
 
+// Two recorders at once in frame 0, and one in frame 1. It answers whether the two met, the recordings of frame 0,
+// and the first numbers of frames 1 and 2.
 fn two<C: Naming + Send + Sync, R: Threads + Wait + Sync>(
     rt: &R,
     alloc: Global,
     table: HoldTable,
     mut api: ApiSeat,
-) -> Option<((bool, bool), Recording, Recording)>
+) -> Option<((bool, bool), Recording, Recording, (u64, u64))>
     requires table { (table_of table ≡ C.table) × (api_table api ≡ C.table) × (api_view api ≡ first_view 0) }
     requires views { C.views ≡ fewest_views }
     requires admits { (e f d : ℕ) (items : List SeenItem) → C.admits e f items d }
@@ -222,9 +224,39 @@ fn two<C: Naming + Send + Sync, R: Threads + Wait + Sync>(
             requires admits { (e f d : ℕ) (items : List SeenItem) → C.admits e f items d }
         { record(rt, two, &second, &first) },
     );
-    let (one, _) = shared.collect(rt).part();
-    let (two, _) = shared.collect(rt).part();
-    Some((met, one, two))
+    let (one, seat) = shared.collect(rt).part();
+    shared.table().join(&mut api, seat);
+    let (two, seat) = shared.collect(rt).part();
+    shared.table().join(&mut api, seat);
+    let next = shared.table().advance(&mut api);
+    let last = touched(rt, alloc, &shared, &mut api)?;
+    let table = shared.into_table();
+    table.close(api);
+    Some((met, one, two, (next, last)))
+}
+
+// A frame with one touch, by an encoder of frame 1. It answers the first number of the next frame.
+fn touched<C: Naming, R: Wait>(
+    rt: &R,
+    alloc: Global,
+    shared: &Shared<C>,
+    api: &mut ApiSeat,
+) -> Option<u64>
+    requires table { api_table api.old ≡ C.table }
+    requires frame { ((api_view api.old).frame ≡ 1) × ((api_view api.old).off ≡ []) × ((api_view api.old).joined ≡ 0) }
+    requires views { C.views ≡ fewest_views }
+    requires admits { (e f d : ℕ) (items : List SeenItem) → C.admits e f items d }
+    ensures table { IfSome result (λ n. (api_table api.new ≡ C.table) × ((api_view api.new).off ≡ [])) }
+{
+    let seat = shared.table().split(api, 5);
+    let Ok(mut enc) = Encoder::start(alloc, shared, seat, 5, 1, ROOM, VIEWS) else {
+        return None;
+    };
+    let _ = enc.touch(255);
+    enc.end(rt, 0);
+    let (_, seat) = shared.collect(rt).part();
+    shared.table().join(api, seat);
+    Some(shared.table().advance(api))
 }
 
 fn mark(seen: &mut [bool], recording: &Recording) {
@@ -240,7 +272,7 @@ fn mark(seen: &mut [bool], recording: &Recording) {
 #[test]
 fn two_recorders_at_once(rt: HostRuntime) -> Result<(), Fail> {
     let (table, api) = HoldTable::new(rt.alloc(), 0)?;
-    let (met, one, two) = two::<Brand, _>(&rt, rt.alloc(), table, api).ok_or("memory")?;
+    let (met, one, two, next) = two::<Brand, _>(&rt, rt.alloc(), table, api).ok_or("memory")?;
     assert_eq!(rt;
         met,
         (true, true),
@@ -254,6 +286,8 @@ fn two_recorders_at_once(rt: HostRuntime) -> Result<(), Fail> {
     mark(&mut seen, &one);
     mark(&mut seen, &two);
     assert!(rt; seen.iter().all(|s| *s), "2,002 items have 2,002 numbers");
+    assert_eq!(rt; next, (2002, 2003), "the first numbers of the next frames");
+    assert!(rt; one.encoder != two.encoder);
     Ok(())
 }
 

@@ -11,13 +11,13 @@ use Rattle.draw_encoder.proofs.tape.Tape.submit.Goals as goal
 pub returns : goal.returns
 returns c =
     let i = c.self.inside in
-    submitted i.frame i.views i.room i.current i.pending_at i.items.items i.bytes.items i.uniforms.items c.self.invariant.ranges _ c.args.number c.args.view c.args.program c.args.depth c.args.discard c.len-all.result c.draw_item-item.result _ c.put_item.ensures.items c.draw_item-item.ensures (c.len-all.ensures ∙ i.uniforms.ok.0) c.discarded-self-inside.ensures.seen ∙ ap (with_item c.args.number (calls.submit c.args.view c.args.program c.args.depth c.args.discard)) c.self.view_is
+    submitted i.frame i.views i.room i.current i.pending_at i.items.items i.bytes.items i.uniforms.items c.self.invariant.ranges _ c.args.number c.args.view c.args.program c.args.depth c.args.discard c.len-all.result c.draw_item-item.result _ c.put_item.ensures.items c.draw_item-item.ensures (c.len-all.ensures ∙ i.uniforms.ok.0) c.discard.ensures.seen ∙ ap (with_item c.args.number (calls.submit c.args.view c.args.program c.args.depth c.args.discard)) c.self.view_is
 
 pub invariant_of-self : goal.invariant_of-self
 invariant_of-self c =
     let i = c.self.inside in
     let k = c.self.invariant in
-    let state = c.discarded-self-inside.ensures.within (length i.bytes.items) (k.ranges.vertices, k.ranges.indices) in
+    let state = c.discard.ensures.within (length i.bytes.items) (k.ranges.vertices, k.ranges.indices) in
     let all = c.len-all.ensures ∙ i.uniforms.ok.0 in
     let item : HasRangesWithin (length i.bytes.items) (length i.uniforms.items) (kinds.Draw c.draw_item-item.result) =
     (let P : DrawItem → Type 0 = λ d. HasRangesWithin (length i.bytes.items) (length i.uniforms.items) (kinds.Draw d) in subst P (sym c.draw_item-item.ensures) (k.ranges.vertices, k.ranges.indices, omega (arith, all, k.ranges.pending))) in

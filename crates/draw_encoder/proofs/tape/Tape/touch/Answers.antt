@@ -10,13 +10,13 @@ use Rattle.draw_encoder.proofs.tape.Tape.touch.Goals as goal
 pub returns : goal.returns
 returns c =
     let i = c.self.inside in
-    touched i.frame i.views i.room i.current i.pending_at i.items.items i.bytes.items i.uniforms.items c.self.invariant.ranges _ c.args.number c.args.view c.len-all.result _ c.put_item.ensures.items (c.len-all.ensures ∙ i.uniforms.ok.0) c.discarded-self-inside.ensures.seen ∙ ap (with_item c.args.number (calls.touch c.args.view)) c.self.view_is
+    touched i.frame i.views i.room i.current i.pending_at i.items.items i.bytes.items i.uniforms.items c.self.invariant.ranges _ c.args.number c.args.view c.len-all.result _ c.put_item.ensures.items (c.len-all.ensures ∙ i.uniforms.ok.0) c.discard.ensures.seen ∙ ap (with_item c.args.number (calls.touch c.args.view)) c.self.view_is
 
 pub invariant_of-self : goal.invariant_of-self
 invariant_of-self c =
     let i = c.self.inside in
     let k = c.self.invariant in
-    let state = c.discarded-self-inside.ensures.within (length i.bytes.items) (k.ranges.vertices, k.ranges.indices) in
+    let state = c.discard.ensures.within (length i.bytes.items) (k.ranges.vertices, k.ranges.indices) in
     let all = c.len-all.ensures ∙ i.uniforms.ok.0 in
     let item : HasRangesWithin (length i.bytes.items) (length i.uniforms.items) (kinds.Touch (record { view = c.args.view; number = c.args.number; values_at = i.pending_at; values = c.len-all.result - i.pending_at })) = omega (arith, all, k.ranges.pending) in
     let used = ap (λ t. length t.recorder.items) c.self.view_is in
