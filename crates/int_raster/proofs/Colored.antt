@@ -1,8 +1,8 @@
 -- Changes of colours alone are changes of pixels.
-use Rattle.std.proofs.Common.{◌≡◌, ℕ, ◌+◌, ◌*◌, ◌/◌, ◌%◌, ◌^◌, Bool, true, false, if◌then◌else◌, List, [], ◌∷◌, length, refl, sym, ◌∙◌, arith}
+use Rattle.std.proofs.Common.{◌≡◌, ℕ, ◌+◌, ◌*◌, ◌/◌, ◌%◌, ◌^◌, Bool, true, false, if◌then◌else◌, List, [], ◌∷◌, length, refl, sym, arith}
 use Rattle.gfx_model.specs.Number.{map_from, u32_at}
 use Rattle.gfx_model.specs.Vertex.{Color}
-use Rattle.gfx_model.specs.Pixel.{Pixel, stored_color}
+use Rattle.gfx_model.specs.Pixel.{Pixel}
 use Rattle.gfx_model.specs.Raster.{fragment_at}
 use Rattle.gfx_model.specs.World.{painted}
 use Rattle.fix_math.specs.Seen.{rect_seen}

@@ -1,10 +1,8 @@
 -- Draws whose triangles stand in one list.
-use Rattle.std.proofs.Common.{◌≡◌, ℕ, zero, suc, ◌+◌, ◌-◌, ◌<◌, ◌≤◌, List, [], ◌∷◌, ◌++◌, length, take, drop, map, slice_index_or, refl, ap, sym, ◌∙◌, arith}
+use Rattle.std.proofs.Common.{◌≡◌, ℕ, zero, suc, ◌+◌, ◌-◌, ◌≤◌, List, [], ◌∷◌, ◌++◌, length, take, drop, map, refl, ap, ◌∙◌, arith}
 use Rattle.std.proofs.lemmas.List.{take-append-le, drop-append-le, length-drop, map-append, take_all}
 use Rattle.std.proofs.Math.Seq.{drop-append_seam}
-use Rattle.tri_cover.specs.Shown.{setup_seen}
 use Rattle.tri_cover.specs.declared.triangles.Setup.{Setup}
-use Rattle.int_raster.specs.Drawing.{PreparedDraw}
 use Rattle.int_raster.specs.Listing.{own_triangles, listed_with, listed_seen, AreWithin}
 use Rattle.int_raster.specs.declared.listed.Listed.{Listed}
 

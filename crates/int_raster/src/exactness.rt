@@ -241,7 +241,7 @@ fn one_round<R: Threads + Sync + Abort>(
     }
     draw_view(&mut fast, &list);
     same_surfaces(rt, &fast, &exact, round);
-    draw_bands(rt, &mut apart, &list, round + 1);
+    draw_bands(rt, &mut apart, &list, (round & 7) + 1);
     same_surfaces(rt, &apart, &exact, round);
     Ok(())
 }

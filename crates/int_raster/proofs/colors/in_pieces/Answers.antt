@@ -1,4 +1,4 @@
-use Rattle.std.proofs.Common.{◌≡◌, ◌<◌, ◌≤◌, ◌+◌, arith, ap, subst, sym, ◌∙◌}
+use Rattle.std.proofs.Common.{◌≡◌, ◌<◌, ◌+◌, arith, ap, ◌∙◌}
 use Rattle.gfx_model.specs.Number.{map_from}
 use Rattle.int_raster.specs.Places.{spanned, in_row}
 use Rattle.int_raster.specs.Seen.{color_seen}

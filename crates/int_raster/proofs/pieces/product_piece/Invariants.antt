@@ -1,4 +1,3 @@
-use Rattle.std.proofs.Common.{◌≡◌}
 use Rattle.std.specs.Prelude.{pos}
 use Rattle.gfx_model.specs.Number.{zip_with, byte_product}
 use Rattle.gfx_model.specs.Raster.{sample}

@@ -1,7 +1,7 @@
-use Rattle.std.proofs.Common.{◌≡◌, ◌<◌, ◌≤◌, ◌+◌, ◌-◌, ◌/◌, ◌%◌, ◌^◌, [], ◌∷◌, length, slice_index_or, arith, ap, subst, sym, ◌∙◌}
+use Rattle.std.proofs.Common.{◌≡◌, ◌/◌, ◌^◌, [], ◌∷◌, arith}
 use Rattle.gfx_model.specs.Vertex.{Color}
 use Rattle.int_raster.proofs.Ramped.{ramp_more}
-use Rattle.int_raster.specs.Painted.{HoldsPiece, shade_at}
+use Rattle.int_raster.specs.Painted.{shade_at}
 use Rattle.int_raster.proofs.Held.{held_none, held_more, held_all}
 use Rattle.int_raster.proofs.pieces.shade_piece.Goals as goal
 

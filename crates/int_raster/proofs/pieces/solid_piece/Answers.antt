@@ -1,5 +1,4 @@
-use Rattle.std.proofs.Common.{◌≡◌, ◌<◌, ◌≤◌, ◌+◌, ◌-◌, ◌/◌, ◌%◌, ◌^◌, [], ◌∷◌, length, slice_index_or, arith, refl, ap, subst, sym, ◌∙◌}
-use Rattle.int_raster.specs.Painted.{HoldsPiece}
+use Rattle.std.proofs.Common.{arith, refl}
 use Rattle.int_raster.proofs.Held.{held_none, held_more, held_all}
 use Rattle.int_raster.proofs.pieces.solid_piece.Goals as goal
 

@@ -1,4 +1,3 @@
-use Rattle.std.proofs.Common.{◌≡◌}
 use Rattle.int_raster.specs.Painted.{HoldsPiece}
 use Rattle.int_raster.proofs.pieces.solid_piece.Given as goal
 

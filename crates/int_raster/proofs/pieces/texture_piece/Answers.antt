@@ -1,9 +1,9 @@
-use Rattle.std.proofs.Common.{◌≡◌, ◌<◌, ◌≤◌, ◌+◌, ◌-◌, ◌/◌, ◌%◌, ◌^◌, [], ◌∷◌, length, slice_index_or, arith, ap, subst, sym, ◌∙◌}
+use Rattle.std.proofs.Common.{◌≡◌, ◌/◌, ◌%◌, ◌^◌, arith, ap, ◌∙◌}
 use Rattle.std.specs.Prelude.{pos}
 use Rattle.gfx_model.specs.Raster.{sample}
 use Rattle.fix_math.specs.Seen.{texels_seen}
 use Rattle.int_raster.proofs.Ramped.{wide_more}
-use Rattle.int_raster.specs.Painted.{HoldsPiece, place_at}
+use Rattle.int_raster.specs.Painted.{place_at}
 use Rattle.int_raster.proofs.Held.{held_none, held_more, held_all}
 use Rattle.int_raster.proofs.pieces.texture_piece.Goals as goal
 

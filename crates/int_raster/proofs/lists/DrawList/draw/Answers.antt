@@ -1,4 +1,4 @@
-use Rattle.std.proofs.Common.{◌≡◌, ◌<◌, ◌-◌, length, map, take, drop, slice_index_or, sym, ap, ◌∙◌}
+use Rattle.std.proofs.Common.{◌<◌, ◌-◌, length, take, drop, slice_index_or, sym, ap, ◌∙◌}
 use Rattle.std.proofs.lemmas.List.{length-map, get_or-map}
 use Rattle.int_raster.specs.Listing.{listed_with, listed_seen}
 use Rattle.int_raster.proofs.lists.DrawList.draw.Goals as goal

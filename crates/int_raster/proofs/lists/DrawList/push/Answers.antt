@@ -1,7 +1,7 @@
-use Rattle.std.proofs.Common.{rules, ◌≡◌, ◌≤◌, ◌+◌, ◌++◌, ◌∷◌, [], List, length, map, sym, ap, ◌∙◌, arith}
+use Rattle.std.proofs.Common.{rules, ◌≡◌, ◌++◌, ◌∷◌, [], map, ap, ◌∙◌, arith}
 use Rattle.int_raster.specs.Listing.{listed_with, listed_seen}
 use Rattle.int_raster.specs.declared.listed.Listed.{Listed}
-use Rattle.int_raster.proofs.Grown.{seen_more, within_more}
+use Rattle.int_raster.proofs.Grown.{seen_more}
 use Rattle.int_raster.proofs.lists.DrawList.push.Goals as goal
 
 pub returns-then-is_ok-clause-ok : goal.returns-then-is_ok-clause-ok
