@@ -1,11 +1,10 @@
 -- What is seen of things has no contents.
 use Rattle.std.proofs.Common.{◌≡◌, ℕ, List, [], ◌∷◌, ◌++◌, map, length, replicate, refl, sym, ap, ◌∙◌}
 use Rattle.std.proofs.lemmas.List.{map-append, length-replicate}
-use Rattle.gfx_model.specs.Words.{Kind, Info, UniformKind, vec4, int}
+use Rattle.gfx_model.specs.Words.{Kind, Info}
 use Rattle.gfx_model.specs.World.{Content}
 use Rattle.gfx_model.specs.Resources.{Thing, Resources, make, no_layout}
 use Rattle.gfx_words.specs.declared.kinds.UniformKind.TheVariants as uniforms
-use Rattle.gfx_words.specs.Kinds.{uniform_seen}
 use Rattle.resource_laws.specs.Bare.{bare, bare_content, bare_of}
 use Rattle.resource_book.specs.declared.rows.Fact.{Fact}
 use Rattle.resource_book.specs.declared.rows.Fact.TheVariants as facts

@@ -1,10 +1,10 @@
 -- Updates and view calls: what they write and change.
-use Rattle.std.proofs.Common.{◌≡◌, ℕ, List, [], ◌∷◌, ◌++◌, map, length, Option, Some, None, Result, Ok, Err, refl, sym, ap, ◌∙◌}
+use Rattle.std.proofs.Common.{◌≡◌, ℕ, List, [], ◌∷◌, ◌++◌, map, length, None, Result, Ok, Err, sym, ◌∙◌}
 use Rattle.gfx_model.specs.Words.{Handle, kind_number}
 use Rattle.gfx_model.specs.Raster.{Rect}
 use Rattle.gfx_model.specs.Views.{Views}
 use Rattle.gfx_model.specs.Commands.{Command, update_buffer_command, update_texture_command}
-use Rattle.gfx_model.specs.Resources.{Resources, ResourceCall, Effect, effect, refusals, no_change, with_views, update_buffer, update_texture}
+use Rattle.gfx_model.specs.Resources.{ResourceCall, Effect, effect, refusals, no_change, with_views, update_buffer, update_texture}
 use Rattle.gfx_words.specs.declared.refusals.Refusal.{Refusal}
 use Rattle.view_table.specs.Answered.{IsAnswered}
 use Rattle.resource_laws.specs.Bare.{bare, bare_of}

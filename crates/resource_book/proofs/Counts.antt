@@ -1,21 +1,17 @@
 -- What calls do to the number of things that live.
-use Rattle.std.proofs.Common.{◌≡◌, ℕ, zero, suc, ◌+◌, ◌-◌, ◌*◌, ◌<◌, ◌≤◌, ◌==◌, nat_lt, Bool, true, false, if◌then◌else◌, List, [], ◌∷◌, ◌++◌, map, length, Option, Some, None, Result, Ok, Err, MatchResult, refl, sym, ap, ◌∙◌, subst, arith}
+use Rattle.std.proofs.Common.{◌≡◌, ℕ, zero, suc, ◌+◌, ◌-◌, ◌≤◌, ◌==◌, nat_lt, Bool, true, false, if◌then◌else◌, List, [], ◌∷◌, ◌++◌, length, Option, Some, None, refl, sym, ap, subst, arith}
 use Rattle.std.specs.List.{find}
-use Rattle.std.proofs.lemmas.List.{length-append, length-map}
+use Rattle.std.proofs.lemmas.List.{length-append}
 use Rattle.gfx_model.specs.Words.{Kind, Handle, Info, UniformKind}
 use Rattle.gfx_model.specs.World.{Content}
 use Rattle.gfx_model.specs.Commands.{Command}
 use Rattle.gfx_model.specs.Resources.{Thing, Resources, ResourceCall, is_live, is_at, is_live_handle, change_of_serial, with_death, with_references, make, top_index, book_of, uniform_effect, zero_value, no_change, on_thing, die, with_views, named_uniform, references_of, refusals, refusal_of, effect, create_layout, create_vertex_buffer, create_index_buffer, create_texture, create_frame_buffer, create_program, create_uniform, update_buffer, update_texture, destroy, set_view_rect, set_view_scissor, set_view_clear, set_view_mode, set_view_transform, set_view_target, set_view_order, reset_view}
-use Rattle.gfx_words.specs.declared.refusals.Refusal.{Refusal}
-use Rattle.resource_laws.specs.Bare.{bare, bare_of}
 use Rattle.resource_laws.specs.Lawful.{count_where, IsLawful}
-use Rattle.resource_laws.proofs.AttachLaws.{count_snoc, count_map}
+use Rattle.resource_laws.proofs.AttachLaws.{count_snoc}
 use Rattle.resource_laws.proofs.DeathLaws.{by_serial, one_changed, has_serial}
-use Rattle.resource_laws.proofs.LawfulLaws.{lawful_bare}
-use Rattle.resource_laws.proofs.CallLaws.{lawful_call, all_passed}
+use Rattle.resource_laws.proofs.CallLaws.{all_passed}
 use Rattle.resource_laws.proofs.LiveLaws.{live_found}
-use Rattle.resource_book.specs.Written.{BookView, after_in, add_all, destroys_of}
-use Rattle.resource_book.specs.Answered.{Creates, Updates, Changes}
+use Rattle.resource_book.specs.Written.{destroys_of}
 
 -- lives and length, before and after, with so many destroys
 abbrev pub Counts : (before after : List Thing) → ℕ → Type 0

@@ -1,4 +1,4 @@
-use Rattle.std.proofs.Common.{◌≡◌, ℕ, ◌+◌, ◌-◌, ◌<◌, Bool, true, false, List, [], ◌∷◌, map, filter, drop, length, refl, sym, ap, ◌∙◌, arith, slice_index_or, Option, Some, None, subst, ◌≤◌, if◌then◌else◌}
+use Rattle.std.proofs.Common.{◌≡◌, ℕ, ◌+◌, ◌-◌, ◌<◌, Bool, true, false, List, ◌∷◌, map, filter, drop, length, refl, sym, ap, ◌∙◌, arith, slice_index_or, Some, None, subst, ◌≤◌, if◌then◌else◌}
 use Rattle.std.specs.List.{find}
 use Rattle.std.proofs.lemmas.List.{drop_more, drop_all, get_or-map, length-map}
 use Rattle.gfx_model.specs.Words.{Handle, Kind, is_live_in}

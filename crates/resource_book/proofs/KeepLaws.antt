@@ -1,5 +1,5 @@
 -- What is kept of a list moves to its front.
-use Rattle.std.proofs.Common.{◌≡◌, ℕ, zero, suc, ◌+◌, ◌<◌, ◌≤◌, Bool, true, false, not, if◌then◌else◌, List, [], ◌∷◌, ◌++◌, map, filter, take, drop, length, refl, sym, ap, ◌∙◌, subst, arith, slice_index_or, slice_set}
+use Rattle.std.proofs.Common.{◌≡◌, ℕ, ◌+◌, ◌<◌, ◌≤◌, Bool, true, false, not, if◌then◌else◌, List, [], ◌∷◌, ◌++◌, map, filter, take, drop, length, sym, ap, ◌∙◌, arith, slice_index_or, slice_set}
 use Rattle.std.proofs.lemmas.List.{take_more, map-append, take-set, drop-set-lt, get_or-drop, get_or-set_same, length-set, append-nil}
 use Rattle.std.proofs.lemmas.List.Elements.{filter-append}
 use Rattle.resource_book.specs.declared.stacks.Waiting.{Waiting}

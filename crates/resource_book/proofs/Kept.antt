@@ -1,9 +1,8 @@
 -- What a desk keeps over calls.
-use Rattle.std.proofs.Common.{◌≡◌, ℕ, ◌+◌, ◌*◌, ◌≤◌, Bool, List, [], ◌∷◌, ◌++◌, map, length, Option, Some, None, Result, Ok, Err, refl, sym, ap, ◌∙◌, subst, arith}
+use Rattle.std.proofs.Common.{◌≡◌, ◌+◌, ◌*◌, ◌≤◌, Bool, List, [], ◌∷◌, map, length, Option, Some, None, Result, Ok, Err, refl, sym, ap, ◌∙◌, subst, arith}
 use Rattle.std.proofs.lemmas.List.{length-append, length-map}
 use Rattle.gfx_model.specs.Words.{Handle, all_kinds, greatest}
-use Rattle.gfx_model.specs.Commands.{Command}
-use Rattle.gfx_model.specs.Resources.{Thing, Resources, ResourceCall, is_live, refusal_of, effect, destroy}
+use Rattle.gfx_model.specs.Resources.{Resources, ResourceCall, is_live, refusal_of, effect, destroy}
 use Rattle.gfx_words.specs.declared.refusals.Refusal.{Refusal}
 use Rattle.resource_laws.specs.Bare.{bare, bare_of}
 use Rattle.resource_laws.specs.Lawful.{count_where, IsLawful}

@@ -1,11 +1,11 @@
 -- The numbers of things by their places.
-use Rattle.std.proofs.Common.{◌≡◌, ◌≢◌, ℕ, zero, suc, ◌+◌, ◌<◌, ◌≤◌, ◌==◌, Bool, true, false, ◌&&◌, if◌then◌else◌, List, [], ◌∷◌, ◌++◌, length, Option, Some, None, MatchOption, refl, sym, ap, ◌∙◌, subst, arith, slice_index_or, slice_set, option_map, eq-eqb, ne_eqb}
+use Rattle.std.proofs.Common.{◌≡◌, ◌≢◌, ℕ, zero, suc, ◌+◌, ◌<◌, ◌==◌, Bool, true, false, ◌&&◌, if◌then◌else◌, List, [], ◌∷◌, ◌++◌, length, Option, Some, None, MatchOption, refl, sym, ap, ◌∙◌, arith, slice_index_or, slice_set, option_map, eq-eqb}
 use Rattle.std.specs.List.{find}
 use Rattle.std.proofs.lemmas.List.{get_or-set_same, get_or-set_other, length-set}
 use Rattle.std.proofs.lemmas.Bool.{eqb-true}
 use mathlib.Core.Logic.{dite}
 use native.Mathlib.Decide.{ℕ_discrete}
-use Rattle.gfx_model.specs.Words.{Kind, Handle, kind_number, greatest, first_place, place_of_handle}
+use Rattle.gfx_model.specs.Words.{Kind, kind_number, greatest, first_place, place_of_handle}
 use Rattle.gfx_model.specs.Resources.{Thing, is_at}
 use Rattle.resource_book.specs.Tables.{number_of, IsPlaced}
 use Rattle.gfx_model.proofs.Apart.{kind_apart, index_apart, place_below, first_by_number}

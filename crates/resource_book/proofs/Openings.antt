@@ -1,7 +1,7 @@
 -- The first state is one that a desk keeps.
-use Rattle.std.proofs.Common.{◌≡◌, ℕ, ◌+◌, ◌*◌, ◌≤◌, [], map, length, refl, sym, ap, ◌∙◌, subst, arith}
-use Rattle.gfx_model.specs.Words.{all_kinds, greatest}
-use Rattle.gfx_model.specs.Resources.{Resources, is_live, greatest_serial}
+use Rattle.std.proofs.Common.{◌≡◌, ◌+◌, ◌≤◌, map, length, sym, ap, subst, arith}
+use Rattle.gfx_model.specs.Words.{all_kinds}
+use Rattle.gfx_model.specs.Resources.{is_live, greatest_serial}
 use Rattle.resource_laws.specs.Lawful.{count_where, IsLawful}
 use Rattle.resource_laws.proofs.StartLaws.{lawful_opening}
 use Rattle.resource_book.specs.declared.desk.Desk.{Desk}

@@ -1,6 +1,5 @@
 -- Waiting indices go back on the stack.
-use Rattle.std.proofs.Common.{◌≡◌, ℕ, zero, suc, ◌+◌, ◌<◌, ◌≤◌, ◌==◌, Bool, true, false, not, ◌&&◌, if◌then◌else◌, List, [], ◌∷◌, map, filter, drop, length, refl, sym, ap, ◌∙◌, subst, arith, slice_index_or, eq-eqb}
-use Rattle.std.specs.List.{AllByRecursion}
+use Rattle.std.proofs.Common.{◌≡◌, ℕ, zero, suc, ◌+◌, ◌<◌, ◌≤◌, ◌==◌, Bool, true, false, ◌&&◌, if◌then◌else◌, List, [], ◌∷◌, map, filter, drop, length, refl, sym, ap, ◌∙◌, subst, arith, slice_index_or, eq-eqb}
 use Rattle.std.proofs.lemmas.List.{drop_more, drop_all}
 use Rattle.gfx_model.specs.Resources.{pushed_on}
 use Rattle.schedule_model.specs.Held.{count_of}

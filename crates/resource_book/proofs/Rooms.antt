@@ -1,5 +1,5 @@
 -- How many things there can be: the indices of a kind are each free or one thing's, so no more wait than there are.
-use Rattle.std.proofs.Common.{◌≡◌, ◌≢◌, ℕ, zero, suc, ◌+◌, ◌<◌, ◌≤◌, ◌==◌, nat_lt, Bool, true, false, ◌&&◌, if◌then◌else◌, List, [], ◌∷◌, length, map, Option, Some, None, refl, sym, ap, ◌∙◌, subst, arith, slice_index_or, eq-eqb, ne_eqb}
+use Rattle.std.proofs.Common.{◌≡◌, ◌≢◌, ℕ, zero, suc, ◌+◌, ◌<◌, ◌≤◌, ◌==◌, nat_lt, Bool, true, false, ◌&&◌, if◌then◌else◌, List, [], ◌∷◌, length, map, Option, Some, None, refl, sym, ap, ◌∙◌, arith, slice_index_or, eq-eqb, ne_eqb}
 use Rattle.std.specs.List.{AllByRecursion, find}
 use Rattle.std.proofs.lemmas.Bool.{eqb-true, ltb-true, ltb-false}
 use Rattle.std.proofs.lemmas.Option.{same_Some, none-some}
@@ -7,7 +7,6 @@ use mathlib.Core.Logic.{dite}
 use native.Mathlib.Decide.{ℕ_discrete}
 use Rattle.gfx_model.specs.Words.{Kind, Handle, layout_kind, vertex_buffer_kind, index_buffer_kind, texture_kind, frame_buffer_kind, program_kind, uniform_kind, kind_number, is_kind, greatest, all_kinds}
 use Rattle.gfx_model.specs.Resources.{Thing, Resources, is_at, is_live, book_of}
-use Rattle.schedule_model.specs.Held.{count_of}
 use Rattle.resource_book.specs.Answered.{HasLiveThing}
 use Rattle.resource_laws.specs.Lawful.{count_where, dies, dies_at, waits_at, IsLawful}
 use Rattle.resource_book.proofs.StackLaws.{kind_greatest}

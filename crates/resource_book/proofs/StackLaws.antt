@@ -1,7 +1,7 @@
-use Rattle.std.proofs.Common.{◌≡◌, ℕ, ◌+◌, ◌<◌, ◌≤◌, List, [], ◌∷◌, length, map, set, sym, refl, ap, ◌∙◌, arith, slice_index_or, slice_set, lit<}
-use Rattle.std.proofs.lemmas.List.{get_or-map, map-set, set-get_or, length-map, get_or-set_same}
+use Rattle.std.proofs.Common.{◌≡◌, ℕ, ◌<◌, List, length, map, sym, refl, ap, ◌∙◌, arith, slice_index_or, slice_set, lit<}
+use Rattle.std.proofs.lemmas.List.{get_or-map, map-set, set-get_or, length-map}
 use Rattle.gfx_model.specs.Words.{Kind, layout_kind, vertex_buffer_kind, index_buffer_kind, texture_kind, frame_buffer_kind, program_kind, uniform_kind, all_kinds, kind_number, greatest}
-use Rattle.gfx_model.specs.Resources.{Book, without_top_index, top_index}
+use Rattle.gfx_model.specs.Resources.{Book}
 use Rattle.resource_book.specs.Stacks.{StackView, book_seen}
 
 pub kind_below : (k : Kind) → kind_number k < 7

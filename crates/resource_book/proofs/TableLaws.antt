@@ -1,6 +1,6 @@
 -- Rows as the things that they are.
-use Rattle.std.proofs.Common.{◌≡◌, ℕ, ◌+◌, ◌<◌, List, [], ◌∷◌, ◌++◌, length, map, refl, sym, ap, ◌∙◌, subst, arith, slice_index_or, slice_set, Option, Some, None}
-use Rattle.std.proofs.lemmas.List.{get_or-map, map-set, map-append, length-map, get_or_default}
+use Rattle.std.proofs.Common.{◌≡◌, ℕ, ◌<◌, List, [], ◌∷◌, ◌++◌, length, map, refl, sym, ap, ◌∙◌, subst, arith, slice_index_or, slice_set, Option, Some, None}
+use Rattle.std.proofs.lemmas.List.{get_or-map, map-set, map-append, length-map}
 use Rattle.std.specs.List.{find}
 use Rattle.gfx_model.specs.Words.{greatest, place_of_handle}
 use Rattle.gfx_model.specs.Resources.{Thing, is_at}

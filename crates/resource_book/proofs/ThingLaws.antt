@@ -1,8 +1,6 @@
-use Rattle.std.proofs.Common.{◌≡◌, ℕ, zero, suc, ◌+◌, ◌-◌, ◌<◌, ◌≤◌, ◌==◌, Bool, true, false, List, [], ◌∷◌, ◌++◌, map, length, refl, sym, ap, ◌∙◌, arith, slice_index_or, slice_set, if◌then◌else◌, Option, Some, None, subst}
+use Rattle.std.proofs.Common.{◌≡◌, ℕ, zero, suc, ◌+◌, ◌<◌, ◌≤◌, ◌==◌, Bool, true, false, List, [], ◌∷◌, length, refl, ap, ◌∙◌, arith, slice_index_or, slice_set, if◌then◌else◌}
 use Rattle.std.proofs.lemmas.Bool.{eq-eqb, ne_eqb}
-use Rattle.std.proofs.lemmas.List.{map-set, length-map}
-use Rattle.std.proofs.Math.ListN as listn
-use Rattle.gfx_model.specs.Resources.{Thing, Resources, change_of_serial, with_references, with_death, on_thing}
+use Rattle.gfx_model.specs.Resources.{Thing, change_of_serial}
 use Rattle.resource_laws.specs.Lawful.{Rises}
 
 rises_at : (n : ℕ) (ts : List Thing) (i : ℕ) (d : Thing) → Rises n ts → i < length ts → n ≤ (slice_index_or ts i d).handle.serial

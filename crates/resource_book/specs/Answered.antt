@@ -1,5 +1,5 @@
 -- How the calls are answered.
-use Rattle.std.specs.Prelude.{ℕ, ◌≡◌, Bool, List, [], ◌∷◌, Option, Some, None, Result, MatchResult, MatchOption, IfSome, not, nat_lt}
+use Rattle.std.specs.Prelude.{◌≡◌, Bool, List, Option, Some, None, Result, MatchResult, IfSome, not, nat_lt}
 use Rattle.std.specs.List.{find}
 use Rattle.gfx_model.specs.Resources.{Thing, Resources, ResourceCall, destroy, references_of, is_at, refusal_of, effect}
 use Rattle.gfx_model.specs.Resources as model

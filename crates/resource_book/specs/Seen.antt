@@ -1,9 +1,8 @@
 -- What is known of a thing, as the definitions see it.
-use Rattle.std.specs.Prelude.{ℕ, List, [], map, replicate, Option, None, Some}
+use Rattle.std.specs.Prelude.{List, [], map, replicate}
 use Rattle.gfx_model.specs.World as world
 use Rattle.gfx_model.specs.Resources as model
 use Rattle.gfx_model.specs.Resources.{no_layout, zero_value}
-use Rattle.gfx_model.specs.Views.{Views}
 use Rattle.gfx_words.specs.Kinds.{format_seen, program_seen, uniform_seen}
 use Rattle.resource_book.specs.declared.rows.Fact.{Fact}
 use Rattle.resource_book.specs.declared.rows.Fact.TheVariants as facts

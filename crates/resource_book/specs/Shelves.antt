@@ -1,5 +1,5 @@
 -- A shelf as the definitions' state, with contents left out.
-use Rattle.std.specs.Prelude.{ℕ, ◌≡◌, map}
+use Rattle.std.specs.Prelude.{◌≡◌, map}
 use Rattle.gfx_model.specs.Words.{all_kinds, greatest}
 use Rattle.gfx_model.specs.Resources.{Resources}
 use Rattle.resource_book.specs.declared.shelf.Shelf.{Shelf}

@@ -1,5 +1,5 @@
 -- The things of a table, and the number of each by its place.
-use Rattle.std.specs.Prelude.{ℕ, ◌≡◌, ◌<◌, ◌+◌, Bool, if◌then◌else◌, List, [], ◌∷◌, Option, Some, None, option_map, suc, length, slice_index_or}
+use Rattle.std.specs.Prelude.{ℕ, ◌≡◌, ◌<◌, ◌+◌, Bool, if◌then◌else◌, List, [], ◌∷◌, Option, Some, None, option_map, length, slice_index_or}
 use Rattle.gfx_model.specs.Resources.{Thing, is_at}
 use Rattle.gfx_model.specs.Words.{Kind, greatest, first_place}
 

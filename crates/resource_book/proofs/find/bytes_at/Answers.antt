@@ -1,4 +1,4 @@
-use Rattle.std.proofs.Common.{◌≡◌, ap, ◌∙◌, sym, Some}
+use Rattle.std.proofs.Common.{ap, ◌∙◌, sym}
 use Rattle.gfx_model.specs.Resources.{bytes_of_thing}
 use Rattle.gfx_words.specs.Kinds.{kind_seen}
 use Rattle.resource_book.specs.Seen.{row_seen}

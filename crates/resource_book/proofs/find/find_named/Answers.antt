@@ -1,4 +1,4 @@
-use Rattle.std.proofs.Common.{◌≡◌, ◌&&◌, sym, ◌∙◌}
+use Rattle.std.proofs.Common.{◌&&◌, sym, ◌∙◌}
 use Rattle.gfx_model.specs.Resources.{is_live, has_name}
 use Rattle.resource_book.proofs.FindLaws.{found_thing, found_none}
 use Rattle.resource_book.proofs.find.find_named.Goals as goal

@@ -1,4 +1,4 @@
-use Rattle.std.proofs.Common.{rules, ◌≡◌, ◌&&◌, ◌-◌, ℕ, sym, ap, ◌∙◌, map, filter, drop, length, arith}
+use Rattle.std.proofs.Common.{◌≡◌, ◌&&◌, ◌-◌, ℕ, sym, ap, ◌∙◌, map, filter, drop, length, arith}
 use Rattle.gfx_model.specs.Resources.{is_live, holds_texture, least_index}
 use Rattle.resource_book.specs.Seen.{row_seen, rows_seen}
 use Rattle.resource_book.specs.Finding.{least_holder}

@@ -1,4 +1,4 @@
-use Rattle.std.proofs.Common.{◌≡◌, ap, ◌∙◌, sym}
+use Rattle.std.proofs.Common.{ap, ◌∙◌, sym}
 use Rattle.gfx_model.specs.Words.{is_live_in}
 use Rattle.gfx_words.specs.Kinds.{kind_seen}
 use Rattle.gfx_words.specs.declared.refusals.Refusal.{Refusal}

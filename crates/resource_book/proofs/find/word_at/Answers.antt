@@ -1,4 +1,4 @@
-use Rattle.std.proofs.Common.{◌≡◌, ap, ◌∙◌, sym, Some}
+use Rattle.std.proofs.Common.{ap, ◌∙◌, sym, Some}
 use Rattle.gfx_model.specs.Resources.{word_of_thing}
 use Rattle.resource_book.specs.Seen.{row_seen}
 use Rattle.resource_book.proofs.find.word_at.Goals as goal

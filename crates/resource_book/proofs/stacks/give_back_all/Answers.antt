@@ -1,11 +1,11 @@
-use Rattle.std.proofs.Common.{rules, ◌≡◌, ◌<◌, ◌≤◌, ◌+◌, ℕ, List, ap, ◌∙◌, sym, subst, map, drop, ◌∷◌, filter, length, true, not, arith, slice_index_or}
+use Rattle.std.proofs.Common.{rules, ◌<◌, ◌≤◌, ◌+◌, ℕ, List, ap, ◌∙◌, sym, subst, map, drop, filter, arith, slice_index_or}
 use Rattle.std.proofs.lemmas.List.{get_or_default}
 use Rattle.std.specs.List.{AllByRecursion}
 use Rattle.gfx_model.specs.Resources.{is_over, pushed_on}
 use Rattle.schedule_model.specs.Held.{count_of}
 use Rattle.resource_laws.specs.Lawful.{count_where, waits_at}
 use Rattle.resource_book.specs.Stacks.{waiting_seen}
-use Rattle.resource_book.proofs.ReclaimLaws.{rest_waits, not_free, turned, any, count_some, kept_seen, none_left}
+use Rattle.resource_book.proofs.ReclaimLaws.{rest_waits, not_free, turned, any, count_some, none_left}
 use Rattle.resource_book.proofs.stacks.give_back_all.Goals as goal
 
 pub give_back-requires : goal.give_back-requires

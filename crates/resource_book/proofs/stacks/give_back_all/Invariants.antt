@@ -1,4 +1,4 @@
-use Rattle.std.proofs.Common.{◌≡◌, ◌≤◌, ◌<◌, ◌+◌, ℕ, true, map, filter, drop, length}
+use Rattle.std.proofs.Common.{◌≡◌, ◌≤◌, ◌<◌, ◌+◌, ℕ, true, map, filter, drop}
 use Rattle.std.specs.List.{AllByRecursion}
 use Rattle.gfx_model.specs.Resources.{is_over, pushed_on}
 use Rattle.schedule_model.specs.Held.{count_of}

@@ -1,6 +1,5 @@
-use Rattle.std.proofs.Common.{rules, ◌≡◌, refl, ap, ◌∙◌, sym}
+use Rattle.std.proofs.Common.{rules, refl}
 use Rattle.gfx_model.specs.Resources.{is_over}
-use Rattle.resource_book.specs.Stacks.{waiting_seen}
 use Rattle.resource_book.proofs.KeepLaws.{kept_next, rest_next}
 use Rattle.resource_book.proofs.stacks.keep_later.Goals as goal
 

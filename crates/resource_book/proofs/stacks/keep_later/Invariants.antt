@@ -1,4 +1,4 @@
-use Rattle.std.proofs.Common.{◌≡◌, ◌≤◌, not, map, filter, take, drop, length, vec_len}
+use Rattle.std.proofs.Common.{◌≡◌, ◌≤◌, not, map, filter, take, drop, length}
 use Rattle.gfx_model.specs.Resources.{is_over}
 use Rattle.resource_book.specs.Stacks.{waiting_seen}
 use Rattle.resource_book.proofs.stacks.keep_later.Given as goal

@@ -1,6 +1,5 @@
-use Rattle.fix_math.specs.Seen.{rect_seen, affine_seen}
 use Rattle.gfx_model.specs.Resources.{create_uniform}
-use Rattle.gfx_words.specs.Seen.{mode_seen, program_seen, uniform_seen}
+use Rattle.gfx_words.specs.Seen.{uniform_seen}
 use Rattle.resource_book.proofs.Kept.{created_kept}
 use Rattle.resource_book.proofs.book.Book.create_uniform.Goals as goal
 

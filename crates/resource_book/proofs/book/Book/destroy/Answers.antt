@@ -1,4 +1,4 @@
-use Rattle.std.proofs.Common.{◌≤◌, arith}
+use Rattle.std.proofs.Common.{arith}
 use Rattle.resource_book.specs.Shelves.{resources_of}
 use Rattle.resource_book.proofs.Kept.{destroyed_kept}
 use Rattle.resource_book.proofs.Rooms.{things_fit}

@@ -1,6 +1,4 @@
-use Rattle.fix_math.specs.Seen.{rect_seen, affine_seen}
 use Rattle.gfx_model.specs.Resources.{reset_view}
-use Rattle.gfx_words.specs.Seen.{mode_seen, program_seen, uniform_seen}
 use Rattle.resource_book.proofs.Kept.{changed_kept}
 use Rattle.resource_book.proofs.book.Book.reset_view.Goals as goal
 

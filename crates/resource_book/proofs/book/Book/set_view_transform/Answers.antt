@@ -1,6 +1,5 @@
-use Rattle.fix_math.specs.Seen.{rect_seen, affine_seen}
+use Rattle.fix_math.specs.Seen.{affine_seen}
 use Rattle.gfx_model.specs.Resources.{set_view_transform}
-use Rattle.gfx_words.specs.Seen.{mode_seen, program_seen, uniform_seen}
 use Rattle.resource_book.proofs.Kept.{changed_kept}
 use Rattle.resource_book.proofs.book.Book.set_view_transform.Goals as goal
 

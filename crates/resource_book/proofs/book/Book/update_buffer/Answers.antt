@@ -1,6 +1,4 @@
-use Rattle.fix_math.specs.Seen.{rect_seen, affine_seen}
 use Rattle.gfx_model.specs.Resources.{update_buffer}
-use Rattle.gfx_words.specs.Seen.{mode_seen, program_seen, uniform_seen}
 use Rattle.resource_book.proofs.Kept.{updated_kept}
 use Rattle.resource_book.proofs.book.Book.update_buffer.Goals as goal
 

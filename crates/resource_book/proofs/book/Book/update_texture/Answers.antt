@@ -1,6 +1,5 @@
-use Rattle.fix_math.specs.Seen.{rect_seen, affine_seen}
+use Rattle.fix_math.specs.Seen.{rect_seen}
 use Rattle.gfx_model.specs.Resources.{update_texture}
-use Rattle.gfx_words.specs.Seen.{mode_seen, program_seen, uniform_seen}
 use Rattle.resource_book.proofs.Kept.{updated_kept}
 use Rattle.resource_book.proofs.book.Book.update_texture.Goals as goal
 

@@ -1,4 +1,4 @@
-use Rattle.std.proofs.Common.{rules, ◌≡◌, slice_index_or}
+use Rattle.std.proofs.Common.{rules, slice_index_or}
 use Rattle.gfx_words.specs.Kinds.{uniform_seen}
 use Rattle.resource_book.specs.Desks.{desk_seen}
 use Rattle.resource_book.proofs.NoThing.{no_thing}

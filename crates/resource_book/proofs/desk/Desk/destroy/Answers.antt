@@ -1,7 +1,6 @@
-use Rattle.std.proofs.Common.{rules, ◌≡◌, ◌<◌, ◌≤◌, ◌+◌, ◌-◌, ap, ◌∙◌, sym, subst, slice_index_or, ℕ}
+use Rattle.std.proofs.Common.{rules, ◌<◌, ◌≤◌, ◌-◌, ap, ◌∙◌, sym, subst, slice_index_or, ℕ}
 use Rattle.gfx_model.specs.Resources.{Thing, on_thing, with_references}
 use Rattle.resource_laws.specs.Bare.{bare_of}
-use Rattle.resource_book.specs.Seen.{row_seen}
 use Rattle.resource_book.specs.Shelves.{resources_of}
 use Rattle.resource_book.specs.Desks.{desk_seen}
 use Rattle.resource_book.proofs.NoThing.{no_thing}

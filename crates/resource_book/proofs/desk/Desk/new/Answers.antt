@@ -1,4 +1,4 @@
-use Rattle.std.proofs.Common.{rules, ◌≡◌, ◌≤◌, map}
+use Rattle.std.proofs.Common.{rules, map}
 use Rattle.resource_book.specs.Stacks.{book_seen}
 use Rattle.resource_book.proofs.Openings.{opened_kept}
 use Rattle.resource_book.proofs.desk.Desk.new.Goals as goal

@@ -2,7 +2,6 @@ use Rattle.std.proofs.Common.{rules, ◌≡◌, ◌+◌, ap, ◌∙◌, sym, sub
 use Rattle.gfx_model.specs.Resources.{Thing, first_refusal, uniform_refusals, on_thing, with_references}
 use Rattle.gfx_words.specs.Kinds.{uniform_seen}
 use Rattle.resource_laws.specs.Bare.{bare_of}
-use Rattle.resource_book.specs.Seen.{row_seen}
 use Rattle.resource_book.specs.Shelves.{resources_of}
 use Rattle.resource_book.specs.Desks.{desk_seen}
 use Rattle.resource_book.proofs.desk.Desk.refer.Goals as goal

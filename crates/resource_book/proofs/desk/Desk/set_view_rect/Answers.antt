@@ -1,7 +1,6 @@
 use Rattle.std.proofs.Common.{refl}
-use Rattle.fix_math.specs.Seen.{rect_seen, affine_seen}
+use Rattle.fix_math.specs.Seen.{rect_seen}
 use Rattle.gfx_model.specs.Resources.{effect, set_view_rect}
-use Rattle.gfx_words.specs.Seen.{mode_seen}
 use Rattle.resource_book.specs.Desks.{desk_seen}
 use Rattle.resource_book.specs.Shelves.{resources_of}
 use Rattle.resource_book.proofs.Changes.{view_changed}

@@ -1,6 +1,6 @@
 use Rattle.std.proofs.Common.{◌≡◌, ◌<◌, ◌+◌, ap, ◌∙◌, sym, subst, arith, [], length, map, ℕ}
 use Rattle.gfx_model.specs.Words.{kind_number}
-use Rattle.gfx_model.specs.Resources.{Thing, Book, with_death, with_waiting, change_of_serial}
+use Rattle.gfx_model.specs.Resources.{Book, with_death, with_waiting, change_of_serial}
 use Rattle.resource_book.specs.Stacks.{StackView, book_seen}
 use Rattle.resource_book.specs.Shelves.{resources_of}
 use Rattle.resource_book.proofs.NoThing.{no_thing}

@@ -1,4 +1,4 @@
-use Rattle.std.proofs.Common.{◌≡◌, ◌+◌, ◌-◌, ap, ◌∙◌, sym}
+use Rattle.std.proofs.Common.{◌-◌, ◌∙◌, sym}
 use Rattle.gfx_model.specs.Resources.{with_references}
 use Rattle.resource_book.specs.Shelves.{resources_of}
 use Rattle.resource_book.proofs.ThingLaws.{change_at}

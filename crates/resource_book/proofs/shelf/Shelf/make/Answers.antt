@@ -1,10 +1,10 @@
-use Rattle.std.proofs.Common.{rules, ◌≡◌, ◌<◌, ◌≤◌, ℕ, arith, sym, ap, ◌∙◌, [], ◌∷◌, ◌++◌, map, None, ◌+◌, slice_set, slice_index_or, subst, Some}
+use Rattle.std.proofs.Common.{◌≡◌, ◌<◌, sym, ap, ◌∙◌, [], ◌∷◌, ◌++◌, map, None, ◌+◌, slice_set, slice_index_or, subst, Some}
 use Rattle.std.specs.List.{find}
 use Rattle.gfx_model.specs.Words.{Handle, kind_number, greatest, solid}
 use Rattle.gfx_model.specs.World.{program_content}
-use Rattle.gfx_model.specs.Resources.{Thing, Resources, make, top_index, without_top_index, is_at, Book}
+use Rattle.gfx_model.specs.Resources.{Resources, make, top_index, without_top_index, is_at, Book}
 use Rattle.gfx_words.specs.Kinds.{kind_seen, info_seen}
-use Rattle.resource_book.specs.Seen.{row_seen, fact_seen}
+use Rattle.resource_book.specs.Seen.{fact_seen}
 use Rattle.resource_book.specs.Stacks.{StackView, book_seen}
 use Rattle.resource_book.specs.Shelves.{resources_of}
 use Rattle.resource_book.proofs.BareLaws.{made_after, fact_bare}

@@ -1,9 +1,7 @@
-use Rattle.std.proofs.Common.{◌≡◌, ◌<◌, ◌+◌, ◌-◌, refl, sym, ap, ◌∙◌, subst, ℕ}
-use Rattle.std.proofs.lemmas.List.{get_or_default}
-use Rattle.gfx_model.specs.Resources.{Thing, with_references, with_death}
-use Rattle.resource_book.specs.Seen.{row_seen}
+use Rattle.std.proofs.Common.{refl, ap}
+use Rattle.gfx_model.specs.Resources.{with_death}
 use Rattle.resource_book.specs.Tables.{TableView}
-use Rattle.resource_book.proofs.TableLaws.{within, thing_at, rows_changed, bare_rows, placed_rows}
+use Rattle.resource_book.proofs.TableLaws.{within, rows_changed, bare_rows, placed_rows}
 use Rattle.resource_book.proofs.table.ThingTable.kill.Goals as goal
 
 pub invariant_of-self : goal.invariant_of-self

@@ -1,4 +1,4 @@
-use Rattle.std.proofs.Common.{rules, ◌≡◌, refl, ap, ◌∙◌}
+use Rattle.std.proofs.Common.{rules, refl, ap}
 use Rattle.resource_book.specs.Tables.{TableView}
 use Rattle.resource_book.proofs.TableLaws.{bare_rows, placed_row}
 use Rattle.resource_book.proofs.table.ThingTable.push.Goals as goal

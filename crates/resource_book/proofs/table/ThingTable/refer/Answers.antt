@@ -1,6 +1,5 @@
-use Rattle.std.proofs.Common.{◌≡◌, ◌<◌, ◌+◌, ◌-◌, refl, sym, ap, ◌∙◌, subst, ℕ}
-use Rattle.std.proofs.lemmas.List.{get_or_default}
-use Rattle.gfx_model.specs.Resources.{Thing, with_references, with_death}
+use Rattle.std.proofs.Common.{◌<◌, ◌+◌, refl, ap, subst, ℕ}
+use Rattle.gfx_model.specs.Resources.{Thing, with_references}
 use Rattle.resource_book.specs.Seen.{row_seen}
 use Rattle.resource_book.specs.Tables.{TableView}
 use Rattle.resource_book.proofs.TableLaws.{within, thing_at, rows_changed, bare_rows, placed_rows}
