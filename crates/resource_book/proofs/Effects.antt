@@ -1,0 +1,77 @@
+use Rattle.std.proofs.Common.{◌≡◌, ℕ, ◌+◌, ◌-◌, ◌<◌, ◌≤◌, Bool, true, false, not, ◌&&◌, nat_lt, nat_le, List, [], ◌∷◌, ◌++◌, length, Option, Some, None, Result, Ok, Err, MatchResult, sym, ap, ◌∙◌, subst, if◌then◌else◌}
+use Rattle.std.proofs.lemmas.Bool.{lt-ltb, le-ltb}
+use Rattle.std.specs.List.{find}
+use Rattle.gfx_model.specs.Words.{Handle, UniformKind, kind_number}
+use Rattle.gfx_model.specs.Commands.{destroy_command}
+use Rattle.gfx_model.specs.Resources as model
+use Rattle.gfx_model.specs.Resources.{Thing, Resources, is_at, named_uniform, uniform_refusals, uniform_effect, first_refusal, on_thing, with_references, destroy_effect, die, references_of}
+use Rattle.gfx_words.specs.declared.refusals.Refusal.{Refusal}
+use Rattle.gfx_words.specs.Seen.{refusal_seen, IsFirstRefusal}
+use Rattle.resource_laws.specs.Bare.{bare_of}
+use Rattle.resource_book.specs.Written.{BookView, after_in, add_all, where_changed, written, payload_for}
+use Rattle.resource_book.specs.Answered.{Creates, IsFirstRefusalOrOutOfMemory}
+
+weaker : (first : Option model.Refusal) (r : Refusal) → IsFirstRefusal first r → IsFirstRefusalOrOutOfMemory first r
+weaker first r h = weaker_by (refusal_seen r) h where
+  weaker_by : (o : Option model.Refusal) → Rattle.std.specs.Prelude.MatchOption o ⊥ (λ x. first ≡ Some x) → Rattle.std.specs.Prelude.IfSome o (λ x. first ≡ Some x)
+  weaker_by None k = absurd k
+  weaker_by (Some x) k = k
+
+-- how a create of a uniform is answered, by the live uniform of its name
+abbrev IsMadeBy : Bool → Result Handle Refusal → List ℕ → UniformKind → (old new : BookView) → Option Thing → Type 0
+IsMadeBy bad result name k old new o =
+    MatchResult result
+    (λ h. ((if bad then Some model.bad_size else first_refusal (uniform_refusals old.resources k o)) ≡ None) × ((uniform_effect old.resources name k o).made ≡ Some h)
+    × (new ≡ record {
+      resources = bare_of (uniform_effect old.resources name k o).after;
+      pre = add_all old.pre (where_changed (uniform_effect old.resources name k o).changes (written (model.create_uniform name k) (Some h) (length old.payloads)));
+      post = old.post;
+      payloads = add_all old.payloads (where_changed (uniform_effect old.resources name k o).changes (payload_for (model.create_uniform name k)));
+    }))
+    (λ r. IsFirstRefusalOrOutOfMemory (if bad then Some model.bad_size else first_refusal (uniform_refusals old.resources k o)) r × (new ≡ old))
+
+referred_by : (result : Result Handle Refusal) (name : List ℕ) (k : UniformKind) (old new : BookView) (t : Thing)
+    → MatchResult result
+    (λ h. (first_refusal (uniform_refusals old.resources k (Some t)) ≡ None) × (h ≡ t.handle) × (new ≡ record old { resources = bare_of (on_thing (with_references (λ n. n + 1)) h.serial old.resources) }))
+    (λ r. IsFirstRefusal (first_refusal (uniform_refusals old.resources k (Some t))) r × (new ≡ old))
+    → IsMadeBy false result name k old new (Some t)
+referred_by (Ok h) name k old new t a = (a.0, (λ j. Some (sym a.1 j)), a.2 ∙ (λ j. record old { resources = bare_of (on_thing (with_references (λ n. n + 1)) (a.1 j).serial old.resources) }))
+referred_by (Err r) name k old new t a = (weaker (first_refusal (uniform_refusals old.resources k (Some t))) r a.0, a.1)
+
+pub referred : (result : Result Handle Refusal) (name : List ℕ) (k : UniformKind) (old new : BookView) (t : Thing)
+    → not (nat_le 1 (length name) && nat_le (length name) 32) ≡ false → named_uniform old.resources name ≡ Some t
+    → MatchResult result
+    (λ h. (first_refusal (uniform_refusals old.resources k (Some t)) ≡ None) × (h ≡ t.handle) × (new ≡ record old { resources = bare_of (on_thing (with_references (λ n. n + 1)) h.serial old.resources) }))
+    (λ r. IsFirstRefusal (first_refusal (uniform_refusals old.resources k (Some t))) r × (new ≡ old))
+    → Creates result (model.create_uniform name k) old new
+referred result name k old new t size is a =
+    subst (λ b. IsMadeBy b result name k old new (named_uniform old.resources name)) (sym size) (subst (λ o. IsMadeBy false result name k old new o) (sym is) (referred_by result name k old new t a))
+
+-- ---- destroys
+
+-- an accepted destroy, by whether references are left
+abbrev destroyed_by : Handle → BookView → Bool → BookView
+destroyed_by h v b = record {
+  resources = bare_of (if b then model.no_change (on_thing (with_references (λ n. n - 1)) h.serial v.resources) else model.no_change (die h v.resources)).after;
+  pre = add_all v.pre (where_changed (if b then model.no_change (on_thing (with_references (λ n. n - 1)) h.serial v.resources) else model.no_change (die h v.resources)).changes []);
+  post = add_all v.post (if b then [] else destroy_command (kind_number h.kind) h.index ∷ []);
+  payloads = add_all v.payloads (where_changed (if b then model.no_change (on_thing (with_references (λ n. n - 1)) h.serial v.resources) else model.no_change (die h v.resources)).changes []);
+}
+
+pub destroyed_less : (h : Handle) (v : BookView) (t : Thing) → find (is_at h.kind h.index) v.resources.things ≡ Some t → 1 < t.references
+    → record v { resources = bare_of (on_thing (with_references (λ n. n - 1)) h.serial v.resources) } ≡ after_in (model.destroy h) None v
+destroyed_less h v t is lt =
+    let more : nat_lt 1 (references_of (find (is_at h.kind h.index) v.resources.things)) ≡ true = ap (λ o. nat_lt 1 (references_of o)) is ∙ lt-ltb 1 t.references lt in
+    ap (destroyed_by h v) (sym more)
+
+pub destroyed_whole : (h : Handle) (v : BookView) (t : Thing) → find (is_at h.kind h.index) v.resources.things ≡ Some t → t.references ≤ 1
+    → record v { resources = bare_of (die h v.resources); post = v.post ++ destroy_command (kind_number h.kind) h.index ∷ [] } ≡ after_in (model.destroy h) None v
+destroyed_whole h v t is le =
+    let more : nat_lt 1 (references_of (find (is_at h.kind h.index) v.resources.things)) ≡ false = ap (λ o. nat_lt 1 (references_of o)) is ∙ le-ltb 1 t.references le in
+    ap (destroyed_by h v) (sym more)
+
+pub is_less : (h : Handle) (v : BookView) (t : Thing) → find (is_at h.kind h.index) v.resources.things ≡ Some t → 1 < t.references → false ≡ not (nat_lt 1 (references_of (find (is_at h.kind h.index) v.resources.things)))
+is_less h v t is lt = sym (ap not (ap (λ o. nat_lt 1 (references_of o)) is ∙ lt-ltb 1 t.references lt))
+
+pub is_whole : (h : Handle) (v : BookView) (t : Thing) → find (is_at h.kind h.index) v.resources.things ≡ Some t → t.references ≤ 1 → true ≡ not (nat_lt 1 (references_of (find (is_at h.kind h.index) v.resources.things)))
+is_whole h v t is le = sym (ap not (ap (λ o. nat_lt 1 (references_of o)) is ∙ le-ltb 1 t.references le))

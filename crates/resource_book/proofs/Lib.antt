@@ -1,0 +1,16 @@
+pub mod StackLaws
+pub mod BareLaws
+pub mod FindLaws
+pub mod Refused
+pub mod ThingLaws
+pub mod Effects
+pub mod ReclaimLaws
+pub mod KeepLaws
+pub mod Numbers
+pub mod TableLaws
+pub mod Rooms
+pub mod NoThing
+pub mod Changes
+pub mod Counts
+pub mod Kept
+pub mod Openings

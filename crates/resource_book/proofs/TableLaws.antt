@@ -1,0 +1,44 @@
+-- Rows as the things that they are.
+use Rattle.std.proofs.Common.{◌≡◌, ℕ, ◌<◌, List, [], ◌∷◌, ◌++◌, length, map, refl, sym, ap, ◌∙◌, subst, arith, slice_index_or, slice_set, Option, Some, None}
+use Rattle.std.proofs.lemmas.List.{get_or-map, map-set, map-append, length-map}
+use Rattle.std.specs.List.{find}
+use Rattle.gfx_model.specs.Words.{greatest, place_of_handle}
+use Rattle.gfx_model.specs.Resources.{Thing, is_at}
+use Rattle.resource_laws.specs.Bare.{bare}
+use Rattle.resource_book.specs.declared.rows.Row.{Row}
+use Rattle.resource_book.specs.Seen.{row_seen, rows_seen}
+use Rattle.resource_book.specs.Tables.{IsPlaced}
+use Rattle.resource_book.proofs.BareLaws.{rows_bare}
+use Rattle.resource_book.proofs.Numbers.{placed_changed, placed_more}
+
+pub within : (rows : List Row) (ts : List Thing) (n : ℕ) → rows_seen rows ≡ ts → n < length ts → n < length rows
+within rows ts n e lt = omega (arith, lt, ap length e, length-map rows row_seen)
+
+-- the thing of a row's number
+pub thing_at : (rows : List Row) (ts : List Thing) (n : ℕ) (r : Row) (d : Thing) → rows_seen rows ≡ ts → n < length ts → r ≡ slice_index_or rows n r → slice_index_or ts n d ≡ row_seen r
+thing_at rows ts n r d e lt is = ap (λ xs. slice_index_or xs n d) (sym e) ∙ get_or-map row_seen rows n r d (within rows ts n e lt) ∙ ap row_seen (sym is)
+
+pub rows_changed : (f : Thing → Thing) (rows : List Row) (ts : List Thing) (n : ℕ) (r new : Row) (d : Thing) → rows_seen rows ≡ ts → n < length ts → r ≡ slice_index_or rows n r → row_seen new ≡ f (row_seen r)
+    → rows_seen (slice_set rows n new) ≡ slice_set ts n (f (slice_index_or ts n d))
+rows_changed f rows ts n r new d e lt is same =
+    map-set row_seen rows n new ∙ (λ j. slice_set (e j) n ((same ∙ ap f (sym (thing_at rows ts n r d e lt is))) j))
+
+pub bare_rows : (rows : List Row) (ts : List Thing) → rows_seen rows ≡ ts → map bare ts ≡ ts
+bare_rows rows ts e = ap (map bare) (sym e) ∙ rows_bare rows ∙ e
+
+pub placed_rows : (f : Thing → Thing) (places : List (Option ℕ)) (rows : List Row) (n : ℕ) (r new : Row) → ((t : Thing) → (f t).handle ≡ t.handle) → IsPlaced places (rows_seen rows) → n < length rows → r ≡ slice_index_or rows n r
+    → row_seen new ≡ f (row_seen r) → IsPlaced places (rows_seen (slice_set rows n new))
+placed_rows f places rows n r new keeps h lt is same =
+    subst (IsPlaced places) (sym (map-set row_seen rows n new))
+    (placed_changed places (rows_seen rows) n (row_seen new) (row_seen r) (omega (arith, lt, length-map rows row_seen))
+    (ap (λ (t : Thing). t.handle) same ∙ keeps (row_seen r) ∙ ap (λ (t : Thing). t.handle) (sym (thing_at rows (rows_seen rows) n r (row_seen r) refl (omega (arith, lt, length-map rows row_seen)) is)))
+    h)
+
+pub placed_row : (places : List (Option ℕ)) (rows new : List Row) (ts : List Thing) (r : Row) (place n : ℕ) → IsPlaced places (rows_seen rows) → rows_seen rows ≡ ts → r.handle.index < greatest r.handle.kind → find (is_at r.handle.kind r.handle.index) ts ≡ None
+    → place ≡ place_of_handle r.handle → n ≡ length rows → new ≡ rows ++ r ∷ [] → IsPlaced (slice_set places place (Some n)) (rows_seen new)
+placed_row places rows new ts r place n h e below none at is made =
+    let more = placed_more places (rows_seen rows) (row_seen r) h below (ap (find (is_at r.handle.kind r.handle.index)) e ∙ none) in
+    let list : rows_seen rows ++ row_seen r ∷ [] ≡ rows_seen new = sym (ap rows_seen made ∙ map-append row_seen rows (r ∷ [])) in
+    subst (λ (xs : List Thing). IsPlaced (slice_set places place (Some n)) xs) list
+    (subst (λ (m : ℕ). IsPlaced (slice_set places m (Some n)) (rows_seen rows ++ row_seen r ∷ [])) (sym at)
+    (subst (λ (m : ℕ). IsPlaced (slice_set places (place_of_handle r.handle) (Some m)) (rows_seen rows ++ row_seen r ∷ [])) (length-map rows row_seen ∙ sym is) more))

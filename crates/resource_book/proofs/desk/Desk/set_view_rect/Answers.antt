@@ -1,0 +1,11 @@
+use Rattle.std.proofs.Common.{refl}
+use Rattle.fix_math.specs.Seen.{rect_seen}
+use Rattle.gfx_model.specs.Resources.{effect, set_view_rect}
+use Rattle.resource_book.specs.Desks.{desk_seen}
+use Rattle.resource_book.specs.Shelves.{resources_of}
+use Rattle.resource_book.proofs.Changes.{view_changed}
+use Rattle.resource_book.proofs.desk.Desk.set_view_rect.Goals as goal
+
+pub returns-clause-answer : goal.returns-clause-answer
+returns-clause-answer c =
+    view_changed c.set_rect.result (set_view_rect c.args.view (rect_seen c.args.rect)) (desk_seen c.args.self.now) c.set_rect.new.self (effect (resources_of c.args.self.now.shelf) (set_view_rect c.args.view (rect_seen c.args.rect))).after.views c.facts.ensures c.set_rect.ensures refl refl

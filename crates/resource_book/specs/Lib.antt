@@ -1,0 +1,9 @@
+pub mod Seen
+pub mod Tables
+pub mod Stacks
+pub mod Shelves
+pub mod Written
+pub mod Answered
+pub mod Desks
+pub mod Finding
+pub mod Opened

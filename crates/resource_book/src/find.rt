@@ -1,0 +1,210 @@
+// Looking for things.
+ghost use Rattle.std.specs.Prelude.{◌≡◌, ◌<◌, ◌&&◌, ◌==◌, option_map, map, filter, drop, length, slice_index_or, Some, None, true, false, MatchOption, MatchResult};
+ghost use Rattle.std.specs.List.{find};
+ghost use Rattle.gfx_model.specs.Words.{is_kind, is_live_in, greatest};
+ghost use Rattle.gfx_model.specs.Resources.{Thing, is_at, is_live, has_name, holds_texture, word_of_thing, uniform_kind_in, byte_count, bytes_of_thing, holders, least_index, lesser_index, can_attach, texture_sides, same_sides, not_live_option};
+ghost use Rattle.gfx_words.specs.Kinds.{kind_seen, uniform_seen, format_seen};
+ghost use Rattle.resource_book.specs.Seen.{fact_seen, row_seen, rows_seen};
+ghost use Rattle.resource_book.specs.Finding.{least_holder};
+ghost use Rattle.resource_book.specs.Answered.{HasLiveThing};
+
+use crate::rows::{Fact, Row};
+use crate::table::ThingTable;
+use gfx_words::{Format, Handle, Info, Kind, PlaceWord, Refusal, UniformKind};
+
+fn has_name(row: &Row, name: &[u8]) -> bool
+    ensures { result ≡ (is_live (row_seen row.now) && has_name name.now (row_seen row.now).content) }
+{
+    match &row.fact {
+        Fact::Uniform { kind: _, name: own } => row.death.is_none() && own.as_slice() == name,
+        _ => false,
+    }
+}
+
+/// The number of the live uniform of a name.
+pub fn find_named(table: &ThingTable, name: &[u8]) -> Option<usize>
+    ensures { MatchOption result
+        (find (λ t. is_live t && has_name name.now t.content) table.now.things ≡ None)
+        (λ n. (n < length table.now.things) × ((d : Thing) → find (λ t. is_live t && has_name name.now t.content) table.now.things ≡ Some (slice_index_or table.now.things n d))) }
+{
+    let rows = table.rows();
+    for i in 0..rows.len() {
+        if has_name(&rows[i], name) {
+            return Some(i);
+        }
+    }
+    None
+}
+
+/// The kind of a uniform.
+pub fn uniform_kind_of(fact: &Fact) -> UniformKind
+    ensures { uniform_seen result ≡ uniform_kind_in (fact_seen fact.now) }
+{
+    match fact {
+        Fact::Uniform { kind, name: _ } => *kind,
+        _ => UniformKind::Int,
+    }
+}
+
+fn word_of(row: &Row) -> u64
+    ensures { result ≡ word_of_thing (Some (row_seen row.now)) }
+{
+    let serial = row.handle.serial();
+    match row.death {
+        None => PlaceWord::Live { serial }.word(),
+        Some(death) => PlaceWord::Dying { serial, death }.word(),
+    }
+}
+
+/// The word of the place of a kind's index.
+pub fn word_at(table: &ThingTable, kind: Kind, index: u16) -> u64
+    requires { index < greatest (kind_seen kind) }
+    ensures { result ≡ word_of_thing (find (is_at (kind_seen kind) index) table.now.things) }
+{
+    match table.number_at(kind, index) {
+        None => 0,
+        Some(n) => word_of(table.row(n)),
+    }
+}
+
+fn sides_of(format: Format, h: Handle) -> Option<(u16, u16)>
+    ensures { result ≡ texture_sides (format_seen format) h }
+{
+    match (h.kind(), h.info(), format) {
+        (
+            Kind::Texture,
+            Info::Texture {
+                format: Format::Rgba8,
+                blit_dst: _,
+                width,
+                height,
+            },
+            Format::Rgba8,
+        ) => Some((width, height)),
+        (
+            Kind::Texture,
+            Info::Texture {
+                format: Format::D24S8,
+                blit_dst: _,
+                width,
+                height,
+            },
+            Format::D24S8,
+        ) => Some((width, height)),
+        _ => None,
+    }
+}
+
+fn same_sides(a: Option<(u16, u16)>, b: Option<(u16, u16)>) -> bool
+    ensures { result ≡ same_sides a b }
+{
+    match (a, b) {
+        (Some(a), Some(b)) => a.0 == b.0 && a.1 == b.1,
+        _ => false,
+    }
+}
+
+/// Whether textures can be a frame buffer's.
+pub fn can_attach(color: Handle, depth: Option<Handle>) -> bool
+    ensures { result ≡ can_attach color depth }
+{
+    match depth {
+        None => sides_of(Format::Rgba8, color).is_some(),
+        Some(depth) => same_sides(
+            sides_of(Format::Rgba8, color),
+            sides_of(Format::D24S8, depth),
+        ),
+    }
+}
+
+fn holds(row: &Row, serial: u32) -> bool
+    ensures { result ≡ (is_live (row_seen row.now) && holds_texture serial (row_seen row.now).content) }
+{
+    match row.fact {
+        Fact::FrameBuffer { color, depth } => row.death.is_none()
+            && (color == serial || depth == Some(serial)),
+        _ => false,
+    }
+}
+
+fn lesser(h: Handle, other: Option<Handle>) -> Option<Handle>
+    ensures { result ≡ lesser_index h other }
+{
+    match other {
+        Some(g) if g.index() < h.index() => Some(g),
+        _ => Some(h),
+    }
+}
+
+fn lesser_holder(row: &Row, serial: u32, other: Option<Handle>) -> Option<Handle>
+    ensures { result ≡ least_holder (λ t. is_live t && holds_texture serial t.content) (row_seen row.now) other }
+{
+    if holds(row, serial) {
+        lesser(row.handle, other)
+    } else {
+        other
+    }
+}
+
+/// The live frame buffer of least index that holds a texture.
+pub fn holder_of(table: &ThingTable, serial: u32) -> Option<Handle>
+    ensures { result ≡ least_index (map (λ t. t.handle) (filter (λ t. is_live t && holds_texture serial t.content) table.now.things)) }
+{
+    let rows = table.rows();
+    let mut found = None;
+    for i in 0..rows.len() {
+        found = lesser_holder(&rows[rows.len() - 1 - i], serial, found);
+    }
+    found
+}
+
+fn has_serial(row: &Row, h: Handle) -> bool
+    ensures same { result ≡ is_live_in (word_of_thing (Some (row_seen row.now))) h.serial }
+    ensures serial { result ≡ true → row.now.handle.serial ≡ h.serial }
+    ensures live { result ≡ true → row.now.death ≡ None }
+{
+    row.death.is_none() && row.handle.serial() == h.serial()
+}
+
+/// The number of the live thing of a handle.
+pub fn live_at(table: &ThingTable, h: Handle) -> Result<usize, Refusal>
+    ensures { MatchResult result
+        (λ n. (n < length table.now.things) × ((d : Thing) → HasLiveThing h table.now.things (slice_index_or table.now.things n d))
+        × (is_live_in (word_of_thing (find (is_at h.kind h.index) table.now.things)) h.serial ≡ true))
+        (λ r. (is_live_in (word_of_thing (find (is_at h.kind h.index) table.now.things)) h.serial ≡ false) × (r ≡ Refusal.Stale (word_of_thing (find (is_at h.kind h.index) table.now.things)))) }
+{
+    match table.number_at(h.kind(), h.index()) {
+        None => Err(Refusal::Stale { word: 0 }),
+        Some(n) => {
+            let row = table.row(n);
+            if has_serial(row, h) {
+                Ok(n)
+            } else {
+                Err(Refusal::Stale { word: word_of(row) })
+            }
+        }
+    }
+}
+
+/// How many bytes a buffer has.
+pub fn bytes_in(row: &Row) -> u32
+    ensures { result ≡ byte_count (row_seen row.now).content }
+{
+    match row.fact {
+        Fact::Vertices { bytes } => bytes,
+        Fact::Indices { bytes } => bytes,
+        _ => 0,
+    }
+}
+
+/// How many bytes the buffer at a handle's place has.
+pub fn bytes_at(table: &ThingTable, h: Handle) -> u32
+    ensures { result ≡ bytes_of_thing (find (is_at h.kind h.index) table.now.things) }
+{
+    let kind = h.kind();
+    let index = h.index();
+    match table.number_at(kind, index) {
+        None => 0,
+        Some(n) => bytes_in(table.row(n)),
+    }
+}

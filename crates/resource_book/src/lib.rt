@@ -1,0 +1,19 @@
+//! The resource calls without threads: which are refused, what they make, and what they write for the renderer.
+#![tactic(auto)]
+
+mod book;
+mod creates;
+mod deaths;
+mod desk;
+mod find;
+mod opening;
+mod rows;
+mod settings;
+mod shelf;
+mod stacks;
+mod table;
+mod updates;
+
+pub use book::Book;
+pub use opening::Start;
+pub use rows::{Fact, Row};

@@ -1,0 +1,90 @@
+// The first state of the calls.
+ghost use Rattle.std.specs.Prelude.{◌≡◌, ◌≤◌, [], map, IfOk};
+ghost use Rattle.gfx_model.specs.Words.{all_kinds};
+ghost use Rattle.gfx_model.specs.Views.{IsViewCount};
+ghost use Rattle.gfx_words.specs.Kinds.{kind_seen};
+ghost use Rattle.resource_book.specs.Desks.{desk_seen, IsDesk};
+ghost use Rattle.resource_book.specs.Opened.{new_stack, opened};
+
+use crate::desk::Desk;
+use crate::shelf::Shelf;
+use crate::stacks::Stack;
+use crate::table::ThingTable;
+use cmd_buffer::CmdBuffer;
+use gfx_words::Kind;
+use std::alloc::{AllocError, Global};
+use view_table::ViewTable;
+
+// the bytes of the destroys of all things, of one more, and of the end
+const DESTROY_BYTES: u32 = 15_109;
+
+/// Where the calls begin.
+#[derive(Clone, Copy, Drop)]
+pub struct Start {
+    /// The number of the first frame, up to 1,073,741,823.
+    pub frame: u32,
+    /// The first serial.
+    pub serial: u32,
+    /// How many views there are, 256 or 512.
+    pub views: u16,
+    /// How many frames may be out.
+    pub latency: u8,
+}
+
+fn stack_of(alloc: Global, kind: Kind) -> Result<Stack, AllocError>
+    ensures { IfOk result (λ s. s ≡ new_stack (kind_seen kind)) }
+{
+    Stack::new(alloc, kind.greatest())
+}
+
+fn stacks(alloc: Global) -> Result<[Stack; 7], AllocError>
+    ensures { IfOk result (λ s. s ≡ map new_stack all_kinds) }
+{
+    Ok([
+        stack_of(alloc, Kind::Layout)?,
+        stack_of(alloc, Kind::VertexBuffer)?,
+        stack_of(alloc, Kind::IndexBuffer)?,
+        stack_of(alloc, Kind::Texture)?,
+        stack_of(alloc, Kind::FrameBuffer)?,
+        stack_of(alloc, Kind::Program)?,
+        stack_of(alloc, Kind::Uniform)?,
+    ])
+}
+
+fn post_buffer(alloc: Global) -> Result<CmdBuffer, AllocError>
+    ensures { IfOk result (λ b. (b.commands ≡ []) × (15109 ≤ b.spare)) }
+{
+    let mut post = CmdBuffer::new(alloc);
+    post.reserve(DESTROY_BYTES)?;
+    Ok(post)
+}
+
+impl Desk {
+    /// Nothing is made.
+    pub fn new(alloc: Global, start: Start) -> Result<Desk, AllocError>
+        requires views { IsViewCount start.views }
+        requires frame { start.frame ≤ 1073741823 }
+        ensures seen { IfOk result (λ d. desk_seen d ≡ opened start) }
+        ensures kept { IfOk result IsDesk }
+    {
+        let stacks = stacks(alloc)?;
+        let table = ThingTable::new(alloc)?;
+        let views = ViewTable::new(alloc, start.views)?;
+        let post = post_buffer(alloc)?;
+        let shelf = Shelf {
+            latency: start.latency,
+            frame: start.frame,
+            stacks,
+            table,
+            next_serial: start.serial as u64,
+            views,
+        };
+        Ok(Desk {
+            alloc,
+            shelf,
+            pre: CmdBuffer::new(alloc),
+            post,
+            payloads: Vec::new(alloc),
+        })
+    }
+}

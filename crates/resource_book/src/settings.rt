@@ -1,0 +1,92 @@
+// The calls on views.
+ghost use Rattle.std.specs.Prelude.{◌≡◌};
+ghost use Rattle.fix_math.specs.Seen.{rect_seen, affine_seen};
+ghost use Rattle.gfx_model.specs.Resources as model;
+ghost use Rattle.gfx_words.specs.Seen.{mode_seen};
+ghost use Rattle.resource_book.specs.Answered.{Changes};
+ghost use Rattle.resource_book.specs.Desks.{desk_seen};
+
+use crate::desk::Desk;
+use fix_math::{Affine, Rect};
+use gfx_words::{Refusal, ViewMode};
+
+impl Desk {
+    /// Sets the view's part of its target.
+    pub fn set_view_rect(&mut self, view: u16, rect: Rect) -> Result<(), Refusal>
+        ensures shelf { (self.new.shelf.stacks ≡ self.old.shelf.stacks) × (self.new.shelf.frame ≡ self.old.shelf.frame) }
+        ensures post { self.new.post ≡ self.old.post }
+        ensures answer { Changes result (model.set_view_rect view (rect_seen rect)) (desk_seen self.old) (desk_seen self.new) }
+    {
+        self.shelf.table.facts();
+        self.shelf.views.set_rect(view, rect)
+    }
+
+    /// Sets the view's scissor.
+    pub fn set_view_scissor(&mut self, view: u16, rect: Rect) -> Result<(), Refusal>
+        ensures shelf { (self.new.shelf.stacks ≡ self.old.shelf.stacks) × (self.new.shelf.frame ≡ self.old.shelf.frame) }
+        ensures post { self.new.post ≡ self.old.post }
+        ensures answer { Changes result (model.set_view_scissor view (rect_seen rect)) (desk_seen self.old) (desk_seen self.new) }
+    {
+        self.shelf.table.facts();
+        self.shelf.views.set_scissor(view, rect)
+    }
+
+    /// Sets how the view orders its draws and touches.
+    pub fn set_view_mode(&mut self, view: u16, mode: ViewMode) -> Result<(), Refusal>
+        ensures shelf { (self.new.shelf.stacks ≡ self.old.shelf.stacks) × (self.new.shelf.frame ≡ self.old.shelf.frame) }
+        ensures post { self.new.post ≡ self.old.post }
+        ensures answer { Changes result (model.set_view_mode view (mode_seen mode)) (desk_seen self.old) (desk_seen self.new) }
+    {
+        self.shelf.table.facts();
+        self.shelf.views.set_mode(view, mode)
+    }
+
+    /// Sets the view's transform.
+    pub fn set_view_transform(&mut self, view: u16, t: Affine) -> Result<(), Refusal>
+        ensures shelf { (self.new.shelf.stacks ≡ self.old.shelf.stacks) × (self.new.shelf.frame ≡ self.old.shelf.frame) }
+        ensures post { self.new.post ≡ self.old.post }
+        ensures answer { Changes result (model.set_view_transform view (affine_seen t)) (desk_seen self.old) (desk_seen self.new) }
+    {
+        self.shelf.table.facts();
+        self.shelf.views.set_transform(view, t)
+    }
+
+    /// Sets what entering the view clears.
+    pub fn set_view_clear(
+        &mut self,
+        view: u16,
+        flags: u8,
+        color: [u8; 4],
+        depth: u32,
+        stencil: u8,
+    ) -> Result<(), Refusal>
+        ensures shelf { (self.new.shelf.stacks ≡ self.old.shelf.stacks) × (self.new.shelf.frame ≡ self.old.shelf.frame) }
+        ensures post { self.new.post ≡ self.old.post }
+        ensures answer { Changes result (model.set_view_clear view (record { flags = flags; color = color; depth = depth; stencil = stencil })) (desk_seen self.old) (desk_seen self.new) }
+    {
+        self.shelf.table.facts();
+        self.shelf
+            .views
+            .set_clear(view, flags, color, depth, stencil)
+    }
+
+    /// Sets the views that come first.
+    pub fn set_view_order(&mut self, ids: &[u16]) -> Result<(), Refusal>
+        ensures shelf { (self.new.shelf.stacks ≡ self.old.shelf.stacks) × (self.new.shelf.frame ≡ self.old.shelf.frame) }
+        ensures post { self.new.post ≡ self.old.post }
+        ensures answer { Changes result (model.set_view_order ids.now) (desk_seen self.old) (desk_seen self.new) }
+    {
+        self.shelf.table.facts();
+        self.shelf.views.set_order(ids)
+    }
+
+    /// Sets the view as it is at first.
+    pub fn reset_view(&mut self, view: u16) -> Result<(), Refusal>
+        ensures shelf { (self.new.shelf.stacks ≡ self.old.shelf.stacks) × (self.new.shelf.frame ≡ self.old.shelf.frame) }
+        ensures post { self.new.post ≡ self.old.post }
+        ensures answer { Changes result (model.reset_view view) (desk_seen self.old) (desk_seen self.new) }
+    {
+        self.shelf.table.facts();
+        self.shelf.views.reset_view(view)
+    }
+}

@@ -1,0 +1,153 @@
+// The things that are live or waiting.
+ghost use Rattle.std.specs.Prelude.{map, ◌≡◌, ◌<◌, ◌≤◌, ◌+◌, ◌-◌, ◌++◌, ◌∷◌, [], length, slice_index_or, slice_set, Some, None, MatchOption, OnErr, IfOk};
+ghost use Rattle.std.specs.List.{find};
+ghost use Rattle.gfx_model.specs.Words.{greatest};
+ghost use Rattle.gfx_model.specs.Resources as model;
+ghost use Rattle.gfx_model.specs.Resources.{Thing, is_at};
+ghost use Rattle.gfx_words.specs.Kinds.{kind_seen};
+ghost use Rattle.resource_laws.specs.Bare.{bare};
+ghost use Rattle.resource_book.specs.Seen.{row_seen, rows_seen};
+
+use crate::rows::Row;
+use gfx_words::Kind;
+use std::alloc::{AllocError, Global};
+use std::marker::Model;
+
+const PLACES: usize = 3_776;
+
+/// The things in the order of their births, with the number of each by its place.
+#[derive(Drop)]
+pub struct ThingTable {
+    rows: Vec<Row>,
+    // the number of the thing at each place
+    numbers: Vec<Option<usize>>,
+}
+
+impl Model for ThingTable {
+    ghost use Rattle.std.specs.Prelude.{◌-◌, vec_len, vec_capacity};
+    ghost use Rattle.resource_book.specs.Tables.{TableView, IsPlaced};
+    ghost use Rattle.resource_book.specs.Seen.{rows_seen};
+
+    ghost Value = { TableView };
+
+    ghost view = { λ t. record { things = rows_seen t.rows.items; spare = vec_capacity t.rows - vec_len t.rows } };
+
+    ghost invariant = { λ t. IsPlaced t.numbers.items (rows_seen t.rows.items) };
+}
+
+fn refer_to(row: &mut Row)
+    requires { row.old.references < 65535 }
+    ensures { row_seen row.new ≡ model.with_references (λ n. n + 1) (row_seen row.old) }
+{
+    row.references += 1;
+}
+
+fn forget_one(row: &mut Row)
+    requires { 1 < row.old.references }
+    ensures { row_seen row.new ≡ model.with_references (λ n. n - 1) (row_seen row.old) }
+{
+    row.references -= 1;
+}
+
+fn kill(row: &mut Row, death: u32)
+    requires { death ≤ 1073741823 }
+    ensures { row_seen row.new ≡ model.with_death death (row_seen row.old) }
+{
+    row.death = Some(death);
+}
+
+impl ThingTable {
+    /// There is nothing.
+    pub fn new(alloc: Global) -> Result<ThingTable, AllocError>
+        ensures { IfOk result (λ t. t.things ≡ []) }
+    {
+        let numbers = vec![in alloc; None; PLACES]?;
+        Ok(ThingTable {
+            rows: Vec::new(alloc),
+            numbers,
+        })
+    }
+
+    /// The number of the thing at a kind's index, in the order of births.
+    pub fn number_at(&self, kind: Kind, index: u16) -> Option<usize>
+        requires { index < greatest (kind_seen kind) }
+        ensures { MatchOption result
+            (find (is_at (kind_seen kind) index) self.now.things ≡ None)
+            (λ n. (n < length self.now.things) × ((d : Thing) → find (is_at (kind_seen kind) index) self.now.things ≡ Some (slice_index_or self.now.things n d))) }
+    {
+        self.numbers[kind.first_place() as usize + index as usize]
+    }
+
+    /// The thing of a number.
+    pub fn row(&self, number: usize) -> &Row
+        requires { number < length self.now.things }
+        ensures { (d : Thing) → row_seen result.now ≡ slice_index_or self.now.things number d }
+    {
+        &self.rows[number]
+    }
+
+    /// What every table keeps: it has no contents but what the calls ask of them.
+    pub fn facts(&self)
+        ensures { map bare self.now.things ≡ self.now.things }
+    {
+        let _ = &self.rows;
+    }
+
+    /// All things.
+    pub fn rows(&self) -> &[Row]
+        ensures { rows_seen result.now ≡ self.now.things }
+    {
+        &self.rows
+    }
+
+    /// Makes room for one thing more.
+    pub fn reserve(&mut self) -> Result<(), AllocError>
+        ensures things { self.new.things ≡ self.old.things }
+        ensures room { IfOk result (λ _. 1 ≤ self.new.spare) }
+    {
+        self.rows.try_reserve(1)
+    }
+
+    /// Puts a new thing behind the others. Nothing stands at its place, and there is room.
+    pub fn push(&mut self, row: Row)
+        requires free { find (is_at row.handle.kind row.handle.index) self.old.things ≡ None }
+        requires below { row.handle.index < greatest row.handle.kind }
+        requires room { 1 ≤ self.old.spare }
+        ensures things { self.new.things ≡ self.old.things ++ row_seen row ∷ [] }
+        ensures bare { map bare self.new.things ≡ self.new.things }
+    {
+        let place = row.handle.place() as usize;
+        self.numbers[place] = Some(self.rows.len());
+        self.rows.push_reserved(row);
+    }
+
+    /// One reference more of a thing.
+    pub fn refer(&mut self, number: usize)
+        requires within { number < length self.old.things }
+        requires few { (d : Thing) → (slice_index_or self.old.things number d).references < 65535 }
+        ensures things { (d : Thing) → self.new.things ≡ slice_set self.old.things number (model.with_references (λ n. n + 1) (slice_index_or self.old.things number d)) }
+        ensures bare { map bare self.new.things ≡ self.new.things }
+    {
+        refer_to(&mut self.rows[number]);
+    }
+
+    /// One reference less.
+    pub fn forget(&mut self, number: usize)
+        requires within { number < length self.old.things }
+        requires some { (d : Thing) → 1 < (slice_index_or self.old.things number d).references }
+        ensures things { (d : Thing) → self.new.things ≡ slice_set self.old.things number (model.with_references (λ n. n - 1) (slice_index_or self.old.things number d)) }
+        ensures bare { map bare self.new.things ≡ self.new.things }
+    {
+        forget_one(&mut self.rows[number]);
+    }
+
+    /// A thing dies in a frame.
+    pub fn kill(&mut self, number: usize, death: u32)
+        requires within { number < length self.old.things }
+        requires frame { death ≤ 1073741823 }
+        ensures things { (d : Thing) → self.new.things ≡ slice_set self.old.things number (model.with_death death (slice_index_or self.old.things number d)) }
+        ensures bare { map bare self.new.things ≡ self.new.things }
+    {
+        kill(&mut self.rows[number], death);
+    }
+}
