@@ -1,5 +1,5 @@
 -- The frame that is composed of a scene's lines.
-use Rattle.std.proofs.Common.{◌≡◌, ◌≤◌, ℕ, zero, suc, ◌+◌, ◌-◌, List, [], ◌∷◌, map, length, drop, refl, sym, ap, ◌∙◌, arith}
+use Rattle.std.proofs.Common.{◌≡◌, ◌≤◌, ℕ, suc, ◌+◌, ◌-◌, List, [], ◌∷◌, map, length, drop, refl, sym, ap, ◌∙◌, arith}
 use Rattle.std.specs.List.{range_with_len}
 use Rattle.std.proofs.lemmas.List.{length-map, length-drop}
 use Rattle.gfx_model.specs.Number.{map_from}
@@ -19,7 +19,7 @@ use Rattle.scene_calls.specs.Made.{change_of, changes_since}
 use Rattle.scene_player.specs.declared.frame.Frame.{Frame}
 use Rattle.scene_player.specs.declared.progress.Progress.{Progress}
 use Rattle.scene_player.specs.Lines.{progress_seen}
-use Rattle.scene_player.specs.Frame.{plan_seen, after_before, after_all, IsComposed}
+use Rattle.scene_player.specs.Frame.{after_before, after_all, IsComposed}
 
 length-map_from : {A B : Type 0} (f : ℕ → A → B) (n : ℕ) (xs : List A) → length (map_from f n xs) ≡ length xs
 length-map_from f n [] = refl

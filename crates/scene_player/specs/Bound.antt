@@ -1,5 +1,5 @@
 -- Bindings and lines as the definitions see them.
-use Rattle.std.specs.Prelude.{ℕ, List, [], ◌∷◌, fold, slice_index_or, map}
+use Rattle.std.specs.Prelude.{List, [], ◌∷◌, fold}
 use Rattle.scene_model.specs.Fold.{Bindings}
 use Rattle.scene_player.specs.declared.names.Binding.{Binding}
 
