@@ -6,8 +6,6 @@ pub mod Lines
 pub mod TableDigits
 pub mod WordTables
 pub mod LineParts
+pub mod Fronts
 pub mod LineTails
 pub mod WrittenScenes
-pub mod Alike
-pub mod Wider
-pub mod Again

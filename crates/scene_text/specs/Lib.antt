@@ -1,4 +1,4 @@
-pub mod Spoken
+pub mod LineWords
 pub mod Seen
 pub mod SeenWords
 pub mod SeenReading

@@ -15,7 +15,7 @@ abbrev pub at : LineFault → ℕ → SceneFault
 at faults.OutOfMemory line = wholes.OutOfMemory
 at (faults.Bad cause) line = wholes.At line (number_of cause)
 
-abbrev pub FailsAt : SceneFault → Result model.Scene Fault → Type 0
+abbrev pub FailsAt : {A : Type 0} → SceneFault → Result A Fault → Type 0
 FailsAt wholes.OutOfMemory read = Unit {0}
 FailsAt (wholes.At line cause) read = read ≡ Err (record { line = line; cause = cause })
 
@@ -23,3 +23,8 @@ FailsAt (wholes.At line cause) read = read ≡ Err (record { line = line; cause 
 abbrev pub Reads : Result Scene SceneFault → Result model.Scene Fault → Type 0
 Reads (Ok scene) read = read ≡ Ok (scene_seen scene)
 Reads (Err fault) read = FailsAt fault read
+
+-- the same with the number of bytes that the scene takes
+abbrev pub ReadsFront : Result (Scene × ℕ) SceneFault → Result (model.Scene × ℕ) Fault → Type 0
+ReadsFront (Ok found) read = read ≡ Ok (scene_seen found.0, found.1)
+ReadsFront (Err fault) read = FailsAt fault read

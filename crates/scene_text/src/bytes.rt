@@ -1,10 +1,12 @@
 // Bytes and colours.
 ghost use Rattle.std.specs.Prelude.{◌≡◌, drop};
-ghost use Rattle.scene_model.specs.Field.{hex_byte, hex_pairs, hex_bytes, color_field};
+ghost use Rattle.scene_model.specs.Field.{hex_byte, hex_pairs, hex_bytes, color_field, source_field};
 ghost use Rattle.scene_text.specs.Digits.{digit_or_none};
 ghost use Rattle.scene_text.specs.Gives.{Gives, MayGive};
+ghost use Rattle.scene_text.specs.Seen.{source_seen};
 
 use crate::fault::{Cause, LineFault};
+use crate::scene::TexSource;
 use crate::sequence::Sequence;
 use crate::words::is;
 use std::alloc::Global;
@@ -93,4 +95,19 @@ pub fn hex_bytes(alloc: Global, field: &[u8]) -> Result<Sequence<u8>, LineFault>
     }
     let bytes = pairs(alloc, field)?;
     Ok(Sequence::from_vec(bytes))
+}
+
+/// `fill:COLOR` or `hex:HEX`.
+pub fn source_field(alloc: Global, field: &[u8]) -> Result<TexSource, LineFault>
+    ensures { MayGive source_seen result (source_field field.now) }
+{
+    if field.starts_with(b"fill:") {
+        let color = color_field(&field[5..])?;
+        return Ok(TexSource::Fill { color });
+    }
+    if field.starts_with(b"hex:") {
+        let bytes = hex_bytes(alloc, &field[4..])?;
+        return Ok(TexSource::Bytes { bytes });
+    }
+    Err(LineFault::Bad(Cause::Misspelt))
 }

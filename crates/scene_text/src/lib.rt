@@ -7,7 +7,9 @@ mod encoder_lines;
 mod fault;
 mod fields;
 mod frames;
+mod front;
 mod journal;
+mod lists;
 mod names;
 mod numbers;
 mod parts;
@@ -21,23 +23,22 @@ mod spelled_words;
 mod splitting;
 mod stages;
 mod text;
+mod updates;
 mod view_lines;
 mod words;
 mod write_encoder_lines;
 mod write_resource_lines;
 
 pub use fault::SceneFault;
+pub use front::read_front;
 pub use journal::{Journal, JournalEntry};
 pub use scene::{
-    Clear, EncBlock, EncLine, LayoutPart, ResLine, Room, Scene, SceneFrame, SceneName,
+    EncBlock, EncLine, LayoutPart, ResLine, Room, Scene, SceneFrame, SceneName, TexSource,
 };
 pub use scene_writing::write;
 pub use sequence::Sequence;
 pub use text::read;
+pub use view_table::Clear;
 
 #[cfg(test)]
-mod form_tests;
-#[cfg(test)]
 mod tests;
-#[cfg(test)]
-mod writing_tests;

@@ -3,13 +3,14 @@ ghost use Rattle.std.specs.Prelude.{◌≡◌, ◌<◌, ◌^◌, [], map, length
 ghost use Rattle.scene_model.specs.Grammar.{text_of};
 ghost use Rattle.scene_text.specs.Seen.{name_seen};
 ghost use Rattle.std.specs.List.{list_all};
-ghost use Rattle.scene_model.specs.Field.{used_name, create_name, is_name, find_name, is_name_byte, is_lower};
+ghost use Rattle.scene_model.specs.Field.{used_name, optional_name, create_name, is_name, find_name, is_name_byte, is_lower};
 ghost use Rattle.scene_text.specs.Gives.{Gives, MayGive};
 ghost use Rattle.scene_text.specs.Names.{only_place};
 
 use crate::fault::{Cause, LineFault};
 use crate::scene::SceneName;
 use crate::sequence::Sequence;
+use crate::words::is;
 use indexmap::IndexMap;
 use std::alloc::{AllocError, Global};
 use std::marker::Model;
@@ -91,6 +92,17 @@ impl Names {
             Some(place) => Ok(place as u32),
             None => Err(Cause::NameIsNotBound),
         }
+    }
+
+    /// The same, or none for `-`.
+    pub fn optional(&self, field: &[u8]) -> Result<Option<u32>, Cause>
+        ensures { Gives (λ n. n) result (optional_name self.now field.now) }
+    {
+        if is(field, b"-") {
+            return Ok(None);
+        }
+        let name = self.used(field)?;
+        Ok(Some(name))
     }
 
     /// The place that a create line's name takes. Nothing is bound yet.

@@ -1,8 +1,8 @@
 // Numbers.
-ghost use Rattle.std.specs.Prelude.{◌≡◌, ◌<◌, ◌≤◌, MatchOption, IfOk, FitsSigned};
+ghost use Rattle.std.specs.Prelude.{◌≡◌, ◌<◌, ◌≤◌, ◌^◌, ◌-◌, MatchOption, IfOk, FitsSigned};
 ghost use Rattle.std.specs.Int.{w32};
 ghost use Rattle.std.specs.List.{list_all};
-ghost use Rattle.scene_model.specs.Field.{is_digit, is_numeral, value_onto, number_in, u8_number, u16_number, u32_number, i32_number, is_negative_numeral};
+ghost use Rattle.scene_model.specs.Field.{is_digit, is_numeral, value_onto, number_in, u8_number, u16_number, u32_number, i32_number, is_negative_numeral, number_to};
 ghost use Rattle.scene_text.specs.Gives.{Gives};
 
 use crate::fault::Cause;
@@ -64,7 +64,6 @@ pub fn number(field: &[u8], low: u32, high: u32) -> Result<u32, Cause>
     }
 }
 
-/// A number that fits a byte.
 pub fn u8_number(field: &[u8]) -> Result<u8, Cause>
     ensures { Gives (λ n. n) result (u8_number field.now) }
 {
@@ -72,7 +71,6 @@ pub fn u8_number(field: &[u8]) -> Result<u8, Cause>
     Ok(n as u8)
 }
 
-/// A number that fits two bytes.
 pub fn u16_number(field: &[u8]) -> Result<u16, Cause>
     ensures { Gives (λ n. n) result (u16_number field.now) }
 {
@@ -80,12 +78,37 @@ pub fn u16_number(field: &[u8]) -> Result<u16, Cause>
     Ok(n as u16)
 }
 
-/// A number that fits four bytes.
 pub fn u32_number(field: &[u8]) -> Result<u32, Cause>
     ensures { Gives (λ n. n) result (u32_number field.now) }
 {
     let n = number(field, 0, 4_294_967_295)?;
     Ok(n)
+}
+
+/// The value of digits, up to `high`, of 64 bits.
+fn wide_value_to(digits: &[u8], high: u64) -> Option<u64>
+    ensures { MatchOption result (high < value_onto 0 digits.now) (λ n. n ≡ value_onto 0 digits.now) }
+{
+    let mut value: u128 = 0;
+    for digit in digits {
+        value = value * 10 + u128::from(digit.saturating_sub(b'0'));
+        if value > u128::from(high) {
+            return None;
+        }
+    }
+    Some(value as u64)
+}
+
+pub fn u64_number(field: &[u8]) -> Result<u64, Cause>
+    ensures { Gives (λ n. n) result (number_to (2 ^ 64 - 1) field.now) }
+{
+    if !is_numeral(field) {
+        return Err(Cause::NoNumber);
+    }
+    match wide_value_to(field, 18_446_744_073_709_551_615) {
+        Some(n) => Ok(n),
+        None => Err(Cause::OutOfRange),
+    }
 }
 
 fn is_negative_numeral(field: &[u8]) -> bool
@@ -105,7 +128,6 @@ fn is_negative_numeral(field: &[u8]) -> bool
     }
 }
 
-/// A signed number of four bytes.
 #[tactic(auto, unfolding(scene_model::specs::Field::i32_number))]
 pub fn i32_number(field: &[u8]) -> Result<i32, Cause>
     ensures value { Gives (λ n. n) result (i32_number field.now) }

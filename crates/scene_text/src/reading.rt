@@ -8,7 +8,8 @@ ghost use Rattle.scene_text.specs.Gives.{Gives, MayGive};
 ghost use Rattle.scene_text.specs.Seen.{room_seen, resource_line_seen, frame_seen};
 ghost use Rattle.scene_text.specs.SeenReading.{stage_seen, reading_seen};
 ghost use Rattle.scene_text.specs.SeenWords.{word_seen};
-ghost use Rattle.scene_text.specs.Spoken.{spoken, after_parts};
+ghost use Rattle.scene_model.specs.Grammar.{whole_language};
+ghost use Rattle.scene_text.specs.LineWords.{after_parts};
 
 use crate::encoder_lines::encoder_line;
 use crate::fault::{Cause, LineFault};
@@ -144,7 +145,7 @@ impl Reading {
 
     #[tactic(auto, unfolding(scene_model::specs::Grammar::after_word))]
     fn after_scene(&mut self, fields: &[&[u8]]) -> Result<(), Cause>
-        ensures { Gives (λ _. reading_seen self.new) result (model.after_word spoken (reading_seen self.old) (texts fields.now) model.scene_word) }
+        ensures { Gives (λ _. reading_seen self.new) result (model.after_word whole_language (reading_seen self.old) (texts fields.now) model.scene_word) }
     {
         has_count(fields, 2)?;
         number(field(fields, 1), 1, 1)?;
@@ -154,7 +155,7 @@ impl Reading {
 
     #[tactic(auto, unfolding(scene_model::specs::Grammar::after_word))]
     fn after_size(&mut self, fields: &[&[u8]]) -> Result<(), Cause>
-        ensures { Gives (λ _. reading_seen self.new) result (model.after_word spoken (reading_seen self.old) (texts fields.now) model.size_word) }
+        ensures { Gives (λ _. reading_seen self.new) result (model.after_word whole_language (reading_seen self.old) (texts fields.now) model.size_word) }
     {
         has_count(fields, 3)?;
         let width = number(field(fields, 1), 1, 2048)?;
@@ -167,7 +168,7 @@ impl Reading {
 
     #[tactic(auto, unfolding(scene_model::specs::Grammar::after_word))]
     fn after_encoders(&mut self, fields: &[&[u8]]) -> Result<(), Cause>
-        ensures { Gives (λ _. reading_seen self.new) result (model.after_word spoken (reading_seen self.old) (texts fields.now) model.encoders_word) }
+        ensures { Gives (λ _. reading_seen self.new) result (model.after_word whole_language (reading_seen self.old) (texts fields.now) model.encoders_word) }
     {
         has_count(fields, 2)?;
         let encoders = number(field(fields, 1), 1, 8)?;
@@ -178,7 +179,7 @@ impl Reading {
 
     #[tactic(auto, unfolding(scene_model::specs::Grammar::after_word))]
     fn after_room(&mut self, fields: &[&[u8]]) -> Result<(), Cause>
-        ensures { Gives (λ _. reading_seen self.new) result (model.after_word spoken (reading_seen self.old) (texts fields.now) model.room_word) }
+        ensures { Gives (λ _. reading_seen self.new) result (model.after_word whole_language (reading_seen self.old) (texts fields.now) model.room_word) }
     {
         let room = room(fields)?;
         self.room = room;
@@ -188,7 +189,7 @@ impl Reading {
 
     #[tactic(auto, unfolding(scene_model::specs::Grammar::after_word))]
     fn after_frame(&mut self, alloc: Global, fields: &[&[u8]]) -> Result<(), LineFault>
-        ensures { MayGive (λ _. reading_seen self.new) result (model.after_word spoken (reading_seen self.old) (texts fields.now) model.frame_word) }
+        ensures { MayGive (λ _. reading_seen self.new) result (model.after_word whole_language (reading_seen self.old) (texts fields.now) model.frame_word) }
     {
         has_count(fields, 1)?;
         if self.frames.len() >= 1024 {
@@ -201,7 +202,7 @@ impl Reading {
 
     #[tactic(auto, unfolding(scene_model::specs::Grammar::after_word))]
     fn after_encoder(&mut self, alloc: Global, fields: &[&[u8]]) -> Result<(), LineFault>
-        ensures { MayGive (λ _. reading_seen self.new) result (model.after_word spoken (reading_seen self.old) (texts fields.now) model.encoder_word) }
+        ensures { MayGive (λ _. reading_seen self.new) result (model.after_word whole_language (reading_seen self.old) (texts fields.now) model.encoder_word) }
     {
         has_count(fields, 2)?;
         let encoder = u8_number(field(fields, 1))?;
@@ -212,7 +213,7 @@ impl Reading {
 
     #[tactic(auto, unfolding(scene_model::specs::Grammar::after_word))]
     fn after_beside(&mut self, fields: &[&[u8]]) -> Result<(), Cause>
-        ensures { Gives (λ _. reading_seen self.new) result (model.after_word spoken (reading_seen self.old) (texts fields.now) model.beside_word) }
+        ensures { Gives (λ _. reading_seen self.new) result (model.after_word whole_language (reading_seen self.old) (texts fields.now) model.beside_word) }
     {
         has_count(fields, 1)?;
         self.stage = Stage::InBeside;
@@ -221,7 +222,7 @@ impl Reading {
 
     #[tactic(auto, unfolding(scene_model::specs::Grammar::after_word))]
     fn after_done(&mut self, fields: &[&[u8]]) -> Result<(), Cause>
-        ensures { Gives (λ _. reading_seen self.new) result (model.after_word spoken (reading_seen self.old) (texts fields.now) model.done_word) }
+        ensures { Gives (λ _. reading_seen self.new) result (model.after_word whole_language (reading_seen self.old) (texts fields.now) model.done_word) }
     {
         has_count(fields, 1)?;
         self.stage = Stage::AtEnd;
@@ -245,7 +246,7 @@ impl Reading {
         fields: &[&[u8]],
         word: Word,
     ) -> Result<(), LineFault>
-        ensures { MayGive (λ _. reading_seen self.new) result (model.after_resource spoken (reading_seen self.old) (texts fields.now) (word_seen word)) }
+        ensures { MayGive (λ _. reading_seen self.new) result (model.after_resource whole_language (reading_seen self.old) (texts fields.now) (word_seen word)) }
     {
         let line = resource_line(alloc, &mut self.names, fields, word)?;
         self.add_resource(line)?;
@@ -269,7 +270,7 @@ impl Reading {
     /// What a line does whose word can stand here.
     #[tactic(auto, unfolding(scene_model::specs::Grammar::after_word))]
     fn after_word(&mut self, alloc: Global, fields: &[&[u8]], word: Word) -> Result<(), LineFault>
-        ensures { MayGive (λ _. reading_seen self.new) result (model.after_word spoken (reading_seen self.old) (texts fields.now) (word_seen word)) }
+        ensures { MayGive (λ _. reading_seen self.new) result (model.after_word whole_language (reading_seen self.old) (texts fields.now) (word_seen word)) }
     {
         match word {
             Word::Scene => self.after_scene(fields)?,
@@ -281,11 +282,31 @@ impl Reading {
             Word::Beside => self.after_beside(fields)?,
             Word::Done => self.after_done(fields)?,
             Word::Journal => return Err(LineFault::Bad(Cause::MisplacedWord)),
-            Word::Layout | Word::Program | Word::Uniform | Word::View => self.after_resource(
-                alloc, fields, word,
-            )?,
-            Word::TransientVertices | Word::Set | Word::Submit | Word::Touch =>
-                self.after_encoder_line(alloc, fields, word)?,
+            Word::Layout
+            | Word::VertexBuffer
+            | Word::IndexBuffer
+            | Word::Texture
+            | Word::FrameBuffer
+            | Word::Program
+            | Word::Uniform
+            | Word::Update
+            | Word::TexUpdate
+            | Word::Destroy
+            | Word::View
+            | Word::Order => self.after_resource(alloc, fields, word)?,
+            Word::State
+            | Word::Stencil
+            | Word::Scissor
+            | Word::Transform
+            | Word::Vertices
+            | Word::Indices
+            | Word::TransientVertices
+            | Word::TransientIndices
+            | Word::Bind
+            | Word::Set
+            | Word::Submit
+            | Word::Touch
+            | Word::Blit => self.after_encoder_line(alloc, fields, word)?,
         }
         Ok(())
     }
@@ -297,7 +318,7 @@ impl Reading {
         fields: &[&[u8]],
         word: Option<Word>,
     ) -> Result<(), LineFault>
-        ensures { MayGive (λ _. reading_seen self.new) result (model.after_fields spoken (reading_seen self.old) (texts fields.now) (option_map word_seen word)) }
+        ensures { MayGive (λ _. reading_seen self.new) result (model.after_fields whole_language (reading_seen self.old) (texts fields.now) (option_map word_seen word)) }
     {
         let Some(word) = word else {
             return Err(LineFault::Bad(Cause::UnknownWord));
@@ -342,7 +363,7 @@ impl Reading {
         line: &'a [u8],
         fields: &mut Vec<&'a [u8]>,
     ) -> Result<(), LineFault>
-        ensures { MayGive (λ _. reading_seen self.new) result (model.line_read spoken (reading_seen self.old) line.now) }
+        ensures { MayGive (λ _. reading_seen self.new) result (model.line_read whole_language (reading_seen self.old) line.now) }
     {
         if is_skipped(line) {
             return Ok(());

@@ -4,13 +4,16 @@ ghost use Rattle.scene_text.specs.Fields.{texts};
 ghost use Rattle.scene_text.specs.Gives.{MayGive};
 ghost use Rattle.scene_text.specs.Seen.{resource_line_seen};
 ghost use Rattle.scene_text.specs.SeenWords.{word_seen};
-ghost use Rattle.scene_text.specs.Spoken.{spoken};
+ghost use Rattle.scene_model.specs.Grammar.{whole_language};
 
-use crate::creates::{layout, program, uniform};
+use crate::creates::{
+    frame_buffer, index_buffer, layout, program, texture, uniform, vertex_buffer,
+};
 use crate::fault::{Cause, LineFault};
 use crate::names::Names;
 use crate::scene::ResLine;
-use crate::view_lines::view;
+use crate::updates::{destroy, texel_update, update};
+use crate::view_lines::{order, view};
 use crate::words::Word;
 use std::alloc::Global;
 
@@ -21,13 +24,21 @@ pub fn resource_line(
     fields: &[&[u8]],
     word: Word,
 ) -> Result<ResLine, LineFault>
-    ensures { MayGive (λ l. (resource_line_seen l, names.new)) result (resource_form spoken names.old (texts fields.now) (word_seen word)) }
+    ensures { MayGive (λ l. (resource_line_seen l, names.new)) result (resource_form whole_language names.old (texts fields.now) (word_seen word)) }
 {
     let line = match word {
         Word::Layout => layout(alloc, names, fields)?,
+        Word::VertexBuffer => vertex_buffer(alloc, names, fields)?,
+        Word::IndexBuffer => index_buffer(alloc, names, fields)?,
+        Word::Texture => texture(alloc, names, fields)?,
+        Word::FrameBuffer => frame_buffer(alloc, names, fields)?,
         Word::Program => program(alloc, names, fields)?,
         Word::Uniform => uniform(alloc, names, fields)?,
+        Word::Update => update(alloc, names, fields)?,
+        Word::TexUpdate => texel_update(alloc, names, fields)?,
+        Word::Destroy => destroy(names, fields)?,
         Word::View => view(names, fields)?,
+        Word::Order => order(alloc, names, fields)?,
         _ => return Err(LineFault::Bad(Cause::MisplacedWord)),
     };
     Ok(line)

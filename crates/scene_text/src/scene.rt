@@ -1,8 +1,10 @@
 // Scenes as data.
 
 use crate::sequence::Sequence;
-use gfx_words::{ProgramKind, UniformKind, UniformValue};
+use fix_math::{Affine, Rect};
+use gfx_words::{Format, ProgramKind, UniformKind, UniformValue, ViewMode};
 use vertex_layout::{Attr, AttrType};
+use view_table::Clear;
 
 /// How much an encoder records in a frame: items, transient bytes and uniform values.
 #[derive(Clone, Copy, Debug, PartialEq, Eq, Drop)]
@@ -10,15 +12,6 @@ pub struct Room {
     pub items: u32,
     pub bytes: u32,
     pub uniforms: u32,
-}
-
-/// How a view's target is cleared: flag 1 its colour, 2 its depth, 4 its stencil.
-#[derive(Clone, Copy, Debug, PartialEq, Eq, Drop)]
-pub struct Clear {
-    pub flags: u8,
-    pub color: [u8; 4],
-    pub depth: u32,
-    pub stencil: u8,
 }
 
 /// A part of a vertex: an attribute of one to four components, or bytes that are skipped.
@@ -36,6 +29,15 @@ pub enum LayoutPart {
     },
 }
 
+/// What a texture's texels are at first.
+#[derive(Debug, Drop)]
+pub enum TexSource {
+    /// `fill:COLOR`
+    Fill { color: [u8; 4] },
+    /// `hex:HEX`
+    Bytes { bytes: Sequence<u8> },
+}
+
 /// A resource or view line: a call of the API thread. A name is its place in the scene's list of names.
 #[derive(Debug, Drop)]
 pub enum ResLine {
@@ -43,6 +45,32 @@ pub enum ResLine {
     Layout {
         name: u32,
         parts: Sequence<LayoutPart>,
+    },
+    /// `vb NAME LAYOUT HEX`
+    VertexBuffer {
+        name: u32,
+        layout: u32,
+        bytes: Sequence<u8>,
+    },
+    /// `ib NAME HEX`
+    IndexBuffer {
+        name: u32,
+        bytes: Sequence<u8>,
+    },
+    /// `texture NAME W H FORMAT DST SOURCE`
+    Texture {
+        name: u32,
+        width: u16,
+        height: u16,
+        format: Format,
+        blit_dst: bool,
+        source: TexSource,
+    },
+    /// `fb NAME COLOR_NAME DEPTH_NAME`
+    FrameBuffer {
+        name: u32,
+        color: u32,
+        depth: Option<u32>,
     },
     /// `program NAME KIND`
     Program {
@@ -54,20 +82,107 @@ pub enum ResLine {
         name: u32,
         kind: UniformKind,
     },
+    /// `update NAME OFFSET HEX`
+    Update {
+        name: u32,
+        offset: u32,
+        bytes: Sequence<u8>,
+    },
+    /// `texupdate NAME X Y W H HEX`
+    TexUpdate {
+        name: u32,
+        rect: Rect,
+        bytes: Sequence<u8>,
+    },
+    /// `destroy NAME`
+    Destroy {
+        name: u32,
+    },
+    /// `view V rect X Y W H`
+    ViewRect {
+        view: u16,
+        rect: Rect,
+    },
+    /// `view V scissor X Y W H`
+    ViewScissor {
+        view: u16,
+        rect: Rect,
+    },
     /// `view V clear FLAGS COLOR DEPTH STENCIL`
     ViewClear {
         view: u16,
         clear: Clear,
+    },
+    /// `view V mode MODE`
+    ViewMode {
+        view: u16,
+        mode: ViewMode,
+    },
+    /// `view V target NAME`
+    ViewTarget {
+        view: u16,
+        target: Option<u32>,
+    },
+    /// `view V transform` and 12 numbers
+    ViewTransform {
+        view: u16,
+        transform: Affine,
+    },
+    /// `view V reset`
+    ViewReset {
+        view: u16,
+    },
+    /// `order V ..`
+    Order {
+        views: Sequence<u16>,
     },
 }
 
 /// An encoder line: a call of an encoder. A name is its place in the scene's list of names.
 #[derive(Debug, Drop)]
 pub enum EncLine {
+    /// `state N`
+    State {
+        word: u64,
+    },
+    /// `stencil FRONT BACK`
+    Stencil {
+        front: u32,
+        back: u32,
+    },
+    /// `scissor X Y W H`
+    Scissor {
+        rect: Rect,
+    },
+    /// `transform` and 12 numbers
+    Transform {
+        transform: Affine,
+    },
+    /// `vertices NAME FIRST COUNT`
+    Vertices {
+        buffer: u32,
+        first: u32,
+        count: u32,
+    },
+    /// `indices NAME FIRST COUNT`
+    Indices {
+        buffer: u32,
+        first: u32,
+        count: u32,
+    },
     /// `tvertices LAYOUT HEX`
     TransientVertices {
         layout: u32,
         bytes: Sequence<u8>,
+    },
+    /// `tindices HEX`
+    TransientIndices {
+        bytes: Sequence<u8>,
+    },
+    /// `bind STAGE NAME`
+    Bind {
+        stage: u8,
+        texture: Option<u32>,
     },
     /// `set NAME` and one number or four
     Set {
@@ -84,6 +199,18 @@ pub enum EncLine {
     /// `touch V`
     Touch {
         view: u16,
+    },
+    /// `blit V DST DX DY SRC SX SY W H`
+    Blit {
+        view: u16,
+        dst: u32,
+        dx: u16,
+        dy: u16,
+        src: u32,
+        sx: u16,
+        sy: u16,
+        w: u16,
+        h: u16,
     },
 }
 

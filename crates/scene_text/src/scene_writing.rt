@@ -6,7 +6,6 @@ ghost use Rattle.spelling_model.specs.LineSpelling.{head_lines};
 ghost use Rattle.spelling_model.specs.Spelling.{IsReadable};
 ghost use Rattle.spelling_model.specs.Written.{line_text, written};
 ghost use Rattle.scene_text.specs.Seen.{name_seen, scene_seen};
-ghost use Rattle.scene_text.specs.Spoken.{spoken, IsSpoken};
 ghost use Rattle.scene_text.specs.WrittenParts.{resource_text, encoder_text, block_text, beside_text, frame_text};
 
 use crate::scene::{EncBlock, EncLine, ResLine, Room, Scene, SceneFrame, SceneName};
@@ -155,16 +154,10 @@ fn put_head(text: &mut Vec<u8>, scene: &Scene) -> Result<(), AllocError>
 
 /// The text of a scene: the `room` line always, `beside` only where lines follow it, and no skipped lines.
 ///
-/// A scene that some text stands for, so each that `read` answers, is read again from what is written. Any other, as one
-/// with a side of 0, is spelled alike, and nothing is said of how that is read.
-///
-/// # Errors
-///
-/// `AllocError` where no memory is left for the text.
+/// A scene that some text stands for is read again from it.
 pub fn write(alloc: Global, scene: &Scene) -> Result<Vec<u8>, AllocError>
     ensures text { IfOk result (λ v. v.items ≡ written (scene_seen scene.now)) }
-    ensures again { IfOk result (λ v. IsSpoken (scene_seen scene.now) → scene_of spoken v.items ≡ Ok (scene_seen scene.now)) }
-    ensures both { IfOk result (λ v. IsReadable (scene_seen scene.now) → (scene_of spoken v.items ≡ Ok (scene_seen scene.now)) × (scene_of whole_language v.items ≡ Ok (scene_seen scene.now))) }
+    ensures again { IfOk result (λ v. IsReadable (scene_seen scene.now) → scene_of whole_language v.items ≡ Ok (scene_seen scene.now)) }
 {
     let names = scene.names.as_slice();
     let mut text = Vec::new(alloc);

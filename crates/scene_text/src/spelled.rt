@@ -18,14 +18,15 @@ use vertex_layout::{Attr, AttrType};
 pub enum Spelled<'a> {
     /// A word or a name.
     Text(&'a [u8]),
-    /// A number in decimal digits.
     Number(u64),
-    /// The same behind `-` where it is below 0.
     Signed(i32),
-    /// Bytes as pairs of digits, or `-` for none.
     Hex(&'a [u8]),
-    /// Red, green, blue and alpha as pairs of digits.
     Color([u8; 4]),
+    /// `fill:COLOR`
+    Fill([u8; 4]),
+    /// `hex:HEX`
+    Texels(&'a [u8]),
+    Part(LayoutPart),
 }
 
 fn put_number(text: &mut Vec<u8>, number: u64) -> Result<(), AllocError>
@@ -147,6 +148,22 @@ fn put_part(text: &mut Vec<u8>, part: LayoutPart) -> Result<(), AllocError>
     Ok(())
 }
 
+fn put_fill(text: &mut Vec<u8>, color: [u8; 4]) -> Result<(), AllocError>
+    ensures { IfOk result (λ _. text.new.items ≡ text.old.items ++ (codes "fill:" ++ color_spelled color)) }
+{
+    text.extend_from_slice(b"fill:")?;
+    put_color(text, color)?;
+    Ok(())
+}
+
+fn put_texels(text: &mut Vec<u8>, bytes: &[u8]) -> Result<(), AllocError>
+    ensures { IfOk result (λ _. text.new.items ≡ text.old.items ++ (codes "hex:" ++ hex_field bytes.now)) }
+{
+    text.extend_from_slice(b"hex:")?;
+    put_hex(text, bytes)?;
+    Ok(())
+}
+
 /// A field at the end of a text.
 fn put(text: &mut Vec<u8>, field: &Spelled) -> Result<(), AllocError>
     ensures { IfOk result (λ _. text.new.items ≡ text.old.items ++ spelled field.now) }
@@ -157,6 +174,9 @@ fn put(text: &mut Vec<u8>, field: &Spelled) -> Result<(), AllocError>
         Spelled::Signed(number) => put_signed(text, *number)?,
         Spelled::Hex(bytes) => put_hex(text, bytes)?,
         Spelled::Color(color) => put_color(text, *color)?,
+        Spelled::Fill(color) => put_fill(text, *color)?,
+        Spelled::Texels(bytes) => put_texels(text, bytes)?,
+        Spelled::Part(part) => put_part(text, *part)?,
     }
     Ok(())
 }
@@ -199,6 +219,16 @@ fn put_integers(text: &mut Vec<u8>, numbers: &[i32]) -> Result<(), AllocError>
     Ok(())
 }
 
+fn put_numbers(text: &mut Vec<u8>, numbers: &[u16]) -> Result<(), AllocError>
+    ensures { IfOk result (λ _. text.new.items ≡ text.old.items ++ behind (map decimal numbers.now)) }
+{
+    for number in numbers {
+        text.push(b' ')?;
+        put_number(text, u64::from(*number))?;
+    }
+    Ok(())
+}
+
 fn put_parts(text: &mut Vec<u8>, parts: &[LayoutPart]) -> Result<(), AllocError>
     ensures { IfOk result (λ _. text.new.items ≡ text.old.items ++ behind (map (λ p. part_spelled (part_seen p)) parts.now)) }
 {
@@ -220,6 +250,16 @@ pub fn put_integer_line(
 {
     put_start(text, word, fields)?;
     put_integers(text, numbers)?;
+    text.push(b'\n')?;
+    Ok(())
+}
+
+/// A line of numbers.
+pub fn put_number_line(text: &mut Vec<u8>, word: &[u8], numbers: &[u16]) -> Result<(), AllocError>
+    ensures { IfOk result (λ _. text.new.items ≡ text.old.items ++ line_text (word.now ∷ map decimal numbers.now)) }
+{
+    put_start(text, word, &[])?;
+    put_numbers(text, numbers)?;
     text.push(b'\n')?;
     Ok(())
 }
@@ -260,6 +300,21 @@ pub fn put_view_line(
 {
     put_view(text, view, setting)?;
     put_fields(text, values)?;
+    text.push(b'\n')?;
+    Ok(())
+}
+
+/// A view line whose values are integers.
+pub fn put_view_integer_line(
+    text: &mut Vec<u8>,
+    view: u16,
+    setting: &[u8],
+    numbers: &[i32],
+) -> Result<(), AllocError>
+    ensures { IfOk result (λ _. text.new.items ≡ text.old.items ++ line_text (view_spelled view setting.now (map signed_decimal numbers.now))) }
+{
+    put_view(text, view, setting)?;
+    put_integers(text, numbers)?;
     text.push(b'\n')?;
     Ok(())
 }

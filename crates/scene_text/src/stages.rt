@@ -25,7 +25,18 @@ fn is_resource_word(word: Word) -> bool
     ensures { result ≡ model.is_resource_word (word_seen word) }
 {
     match word {
-        Word::Layout | Word::Program | Word::Uniform | Word::View => true,
+        Word::Layout
+        | Word::VertexBuffer
+        | Word::IndexBuffer
+        | Word::Texture
+        | Word::FrameBuffer
+        | Word::Program
+        | Word::Uniform
+        | Word::Update
+        | Word::TexUpdate
+        | Word::Destroy
+        | Word::View
+        | Word::Order => true,
         _ => false,
     }
 }
@@ -35,7 +46,19 @@ fn is_encoder_word(word: Word) -> bool
     ensures { result ≡ model.is_encoder_word (word_seen word) }
 {
     match word {
-        Word::TransientVertices | Word::Set | Word::Submit | Word::Touch => true,
+        Word::State
+        | Word::Stencil
+        | Word::Scissor
+        | Word::Transform
+        | Word::Vertices
+        | Word::Indices
+        | Word::TransientVertices
+        | Word::TransientIndices
+        | Word::Bind
+        | Word::Set
+        | Word::Submit
+        | Word::Touch
+        | Word::Blit => true,
         _ => false,
     }
 }
@@ -81,5 +104,15 @@ pub fn can_stand(stage: Stage, word: Word) -> bool
         Stage::InBlock => stands_in_block(word),
         Stage::InBeside => stands_beside(word),
         Stage::AtEnd => false,
+    }
+}
+
+/// Whether the `done` line was read.
+pub fn is_at_end(stage: Stage) -> bool
+    ensures { result ≡ model.is_at_end (stage_seen stage) }
+{
+    match stage {
+        Stage::AtEnd => true,
+        _ => false,
     }
 }

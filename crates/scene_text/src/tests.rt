@@ -1,11 +1,11 @@
 // Which texts are refused where, and that all others are read with ample memory.
-use crate::{EncLine, ResLine, Scene, SceneFault, read};
+use crate::{EncLine, ResLine, Scene, SceneFault, read, read_front, write};
 use std::alloc::{AllocError, Global};
 use std::process::Abort;
 use std::test::Fail;
 
 /// The scene of one clear and one touch, with another text in place of one of its lines, counted from 1.
-pub fn changed(alloc: Global, number: usize, change: &[u8]) -> Result<Vec<u8>, AllocError> {
+fn changed(alloc: Global, number: usize, change: &[u8]) -> Result<Vec<u8>, AllocError> {
     let lines: [&[u8]; 8] = [
         b"scene 1",
         b"size 2 2",
@@ -25,7 +25,7 @@ pub fn changed(alloc: Global, number: usize, change: &[u8]) -> Result<Vec<u8>, A
     Ok(text)
 }
 
-pub fn read_small(alloc: Global, text: &[u8]) -> Result<Scene, SceneFault> {
+fn read_small(alloc: Global, text: &[u8]) -> Result<Scene, SceneFault> {
     if text.len() > 100_000 {
         return Err(SceneFault::At { line: 0, cause: 0 });
     }
@@ -49,9 +49,9 @@ fn changed_fault(alloc: Global, number: usize, change: &[u8]) -> Option<(u32, u8
 }
 
 /// A line that is changed, its text, and the line and the cause that are wanted.
-pub type Row = (usize, &'static [u8], u32, u8);
+type Row = (usize, &'static [u8], u32, u8);
 
-pub fn check(rt: &impl Abort, alloc: Global, rows: &[Row]) {
+fn check(rt: &impl Abort, alloc: Global, rows: &[Row]) {
     for (number, change, line, cause) in rows {
         assert_eq!(rt;
             changed_fault(alloc, *number, change),
@@ -100,6 +100,32 @@ static PARTS: [Row; 15] = [
     (8, b"\n", 10, 2),
 ];
 
+static CREATES: &[u8] =
+    b"layout p position:fixed:2 color0:u8:4 skip:1\nvb v p 00ff\nib i -\ntexture t 1 1 rgba8 dst fill:202020ff\ntexture d 1 1 d24s8 - hex:00000000\nfb f t d\nfb g t -\nprogram s solid\nuniform u vec4\nuniform u int\nupdate v 1 00\ntexupdate t 0 0 1 1 00000000\ndestroy g\nview 0 rect 0 0 1 1\nview 0 scissor 0 0 1 1\nview 0 mode ascending\nview 0 target f\nview 0 target -\nview 0 transform 1 -2 3 4 5 6 7 8 9 10 11 -2147483648\nview 0 reset\norder\norder 1 0 65535\nencoder 0\nstate 18446744073709551615\nstencil 1 4294967295\nscissor 0 0 1 1\ntransform 0 0 0 0 0 0 0 0 0 0 0 2147483647\nvertices v 0 4294967295\nindices i 0 0\ntvertices p 00\ntindices -\nbind 255 -\nbind 0 t\nset u 1\nset u 1 2 3 -4\nsubmit 0 s 0 255\nblit 0 t 0 0 d 0 0 1 1";
+
+static FORMS: [Row; 20] = [
+    (5, b"program 9a solid", 5, 8),
+    (5, b"program a solid\nprogram a solid", 6, 9),
+    (5, b"program a solid\nuniform a vec4", 6, 9),
+    (7, b"bind 0 a", 7, 10),
+    (7, b"submit 0 nope 0 255", 7, 10),
+    (5, b"vb v v 00", 5, 10),
+    (5, b"destroy abcdefghijklmnopqrstuvwxyz0123456", 5, 8),
+    (5, b"layout p position:fixed:5", 5, 11),
+    (5, b"layout p position:fixed", 5, 11),
+    (5, b"layout p skip:0", 5, 11),
+    (5, b"ib i 0", 5, 11),
+    (5, b"ib i 0A", 5, 11),
+    (5, b"texture t 1 1 rgba8 dst fill:-", 5, 11),
+    (5, b"texture t 1 1 rgba dst hex:-", 5, 11),
+    (5, b"program a wood", 5, 11),
+    (5, b"view 0 mode up", 5, 11),
+    (7, b"state 18446744073709551616", 7, 7),
+    (7, b"transform -0 0 0 0 0 0 0 0 0 0 0 0", 7, 6),
+    (7, b"transform 0 0 0 0 0 0 0 0 0 0 0 2147483648", 7, 7),
+    (7, b"set u 1 2", 7, 5),
+];
+
 static LIMITS: [Row; 11] = [
     (0, b"", 0, 0),
     (2, b"size 2048 1", 0, 0),
@@ -119,6 +145,8 @@ fn each_cause_has_its_line(rt: HostRuntime) {
     check(&rt, rt.alloc(), &CAUSES);
     check(&rt, rt.alloc(), &PARTS);
     check(&rt, rt.alloc(), &LIMITS);
+    check(&rt, rt.alloc(), &FORMS);
+    assert_eq!(rt; changed_fault(rt.alloc(), 6, CREATES), Some((0, 0)));
 }
 
 /// The fault of the first scene's first bytes, and of what follows them.
@@ -183,5 +211,52 @@ fn the_first_scene_is_read(rt: HostRuntime) -> Result<(), Fail> {
         return Err(SceneFault::OutOfMemory)?;
     };
     assert_eq!(rt; (block.encoder, *view), (0, 0));
+    Ok(())
+}
+
+static WRITTEN: &[u8] =
+    b"scene 1\nsize 2 2\nencoders 1\nroom 8191 262144 4096\nframe\nview 0 clear 1 ff0000ff 0 0\nencoder 0\ntouch 0\ndone\n";
+
+#[test]
+fn the_first_scene_is_written(rt: HostRuntime) -> Result<(), Fail> {
+    let alloc = rt.alloc();
+    let text = changed(alloc, 7, b"touch 0\n# more\nbeside")?;
+    let scene = read_small(alloc, &text)?;
+    let written = write(alloc, &scene)?;
+    assert_eq!(rt; written.as_slice(), WRITTEN);
+    Ok(())
+}
+
+#[test]
+fn every_form_is_written_as_it_is_read(rt: HostRuntime) -> Result<(), Fail> {
+    let alloc = rt.alloc();
+    let text = changed(alloc, 6, CREATES)?;
+    let scene = read_small(alloc, &text)?;
+    let first = write(alloc, &scene)?;
+    let again = read_small(alloc, &first)?;
+    let second = write(alloc, &again)?;
+    assert_eq!(rt; first.len(), text.len() + 22);
+    assert_eq!(rt; first.as_slice(), second.as_slice());
+    Ok(())
+}
+
+fn front(alloc: Global, text: &[u8]) -> Option<(usize, u32, u8)> {
+    if text.len() > 100_000 {
+        return None;
+    }
+    match read_front(alloc, text) {
+        Ok((_, place)) => Some((place, 0, 0)),
+        Err(SceneFault::At { line, cause }) => Some((0, line, cause)),
+        Err(SceneFault::OutOfMemory) => None,
+    }
+}
+
+#[test]
+fn a_front_ends_behind_its_done_line(rt: HostRuntime) -> Result<(), Fail> {
+    let alloc = rt.alloc();
+    let whole = changed(alloc, 8, b"done\nj 0:0")?;
+    assert_eq!(rt; front(alloc, &whole), Some((85, 0, 0)));
+    let cut = changed(alloc, 8, b"# done")?;
+    assert_eq!(rt; front(alloc, &cut), Some((0, 9, 2)));
     Ok(())
 }

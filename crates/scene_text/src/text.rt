@@ -1,12 +1,11 @@
 // Whole texts.
 ghost use Rattle.std.specs.Prelude.{◌≡◌, ◌≤◌, length, IfOk};
-ghost use Rattle.scene_model.specs.Scene.{HasSides};
 ghost use Rattle.scene_model.specs.Grammar.{scene_of};
 ghost use Rattle.scene_model.specs.Grammar as model;
 ghost use Rattle.scene_text.specs.Reads.{Reads, at};
 ghost use Rattle.scene_text.specs.Seen.{scene_seen};
 ghost use Rattle.scene_text.specs.SeenReading.{reading_seen};
-ghost use Rattle.scene_text.specs.Spoken.{spoken};
+ghost use Rattle.scene_model.specs.Grammar.{whole_language};
 
 use crate::fault::{Cause, LineFault, SceneFault};
 use crate::reading::{Reading, all_text};
@@ -17,7 +16,7 @@ use crate::stages::Stage;
 use std::alloc::{AllocError, Global};
 
 /// The fault of a line.
-fn at(line: u32, fault: LineFault) -> SceneFault
+pub fn at(line: u32, fault: LineFault) -> SceneFault
     ensures { result ≡ at fault line }
 {
     match fault {
@@ -30,7 +29,7 @@ fn at(line: u32, fault: LineFault) -> SceneFault
 }
 
 /// The scene that was read.
-fn scene(alloc: Global, reading: Reading) -> Result<Scene, AllocError>
+pub fn scene(alloc: Global, reading: Reading) -> Result<Scene, AllocError>
     ensures { IfOk result (λ s. scene_seen s ≡ model.scene_read (reading_seen reading)) }
 {
     let names = reading.names.into_names(alloc)?;
@@ -45,7 +44,7 @@ fn scene(alloc: Global, reading: Reading) -> Result<Scene, AllocError>
 }
 
 /// What the last piece makes, which no newline ends.
-fn at_last_piece(
+pub fn at_last_piece(
     alloc: Global,
     line: u32,
     reading: Reading,
@@ -76,18 +75,10 @@ fn at_last_piece(
 
 /// The scene that the bytes are, or the first line that fails, counted from 1, with its first cause.
 ///
-/// The lines are those of the scene text of `docs/formats.md` that are built. One pass over the bytes, and no line is
-/// copied. The bytes are at most 4,294,967,294. What is read has sides of 1 to 2,048 pixels and at most 1,024
-/// frames.
-///
-/// # Errors
-///
-/// `SceneFault::At` where the bytes are no scene, and `SceneFault::OutOfMemory` where no memory is left for it.
+/// The lines are those of the scene text of `docs/behaviour.md`. One pass over the bytes, and no line is copied.
 pub fn read(alloc: Global, bytes: &[u8]) -> Result<Scene, SceneFault>
     requires { length bytes.now ≤ 4294967294 }
-    ensures exact { Reads result (scene_of spoken bytes.now) }
-    ensures sides { IfOk result (λ s. HasSides (scene_seen s)) }
-    ensures few { IfOk result (λ s. length (scene_seen s).frames ≤ 1024) }
+    ensures exact { Reads result (scene_of whole_language bytes.now) }
 {
     let mut reading = Reading::new(alloc);
     let mut fields = Vec::new(alloc);

@@ -1,8 +1,8 @@
 use Rattle.std.proofs.Common.{◌≡◌}
 use Rattle.spelling_model.specs.Written.{written}
+use Rattle.spelling_model.proofs.Writing.{writing-law}
 use Rattle.scene_text.specs.Seen.{scene_seen}
 use Rattle.scene_text.proofs.WrittenScenes.{whole_text}
-use Rattle.scene_text.proofs.Again.{read_again, read_by_both}
 use Rattle.scene_text.proofs.scene_writing.write.Goals as goal
 
 the_text : (c : goal.In_ok-put_line) → c.put_line.new.text.items ≡ written (scene_seen c.args.scene.now)
@@ -12,7 +12,4 @@ pub returns-clause-text : goal.returns-clause-text
 returns-clause-text c = the_text c
 
 pub returns-clause-again : goal.returns-clause-again
-returns-clause-again c is_spoken = rw (the_text c) (read_again c.args.scene.now is_spoken)
-
-pub returns-clause-both : goal.returns-clause-both
-returns-clause-both c readable = rw (the_text c) (read_by_both c.args.scene.now readable)
+returns-clause-again c readable = rw (the_text c) (writing-law (scene_seen c.args.scene.now) readable).1
