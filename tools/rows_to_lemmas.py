@@ -5,8 +5,8 @@ usage: tools/rows_to_lemmas.py ROWS > crates/scene_model/proofs/WorkedRows.antt 
 
 ROWS holds a folder for each row: `program`, `args` (one word a line), `scene.txt` (standard input), `status`,
 `stdout.hex` (standard output) and `stderr` (the notes). Where the schedule decides, `stdout.or.hex` and `stderr.or` are a
-second answer; the journal then stands in the notes. Rows of other programs, of other modes, of forms that the definitions do not have,
-and those that are too large to compute (LARGE) are left out, and named on standard error.
+second answer; the journal then stands in the notes. Rows of other programs, of other modes, and those that are too large to compute
+(LARGE) are left out, and named on standard error.
 """
 import os
 import sys
@@ -121,8 +121,6 @@ def rows_of(folder, row):
     if read("program").strip() != b"gfx_play" or not words or words[0] not in ("play", "replay") or row in LARGE:
         return None
     scene = read("scene.txt")
-    if b"scene 2\n" in scene or b"latency" in scene:
-        return None
     status, name, flag = int(read("status")), row.replace("-", "_"), "true" if "--journal" in words else "false"
     answers = [("", bytes.fromhex(read("stdout.hex").decode()), read("stderr"))]
     if read("stdout.or.hex"):

@@ -1,9 +1,9 @@
--- Every scene that is read has sides of 1 to 2,048 pixels and at most 1,024 frames, in whatever language it is read.
+-- Every scene that is read has sides of 1 to 2,048 pixels, at most 1,024 frames and one of the versions, in whatever language it is read.
 use Rattle.std.proofs.Common.{◌≡◌, ℕ, ◌+◌, ◌≤◌, ◌<◌, nat_lt, leb, leb-true, ltb-true, Bool, true, false, not, ◌&&◌, cond, List, [], ◌∷◌, length, ◌++◌, length-append, Option, Some, None, Result, Ok, Err, refl, ap, subst, sym, ◌∙◌, suc, arith}
 use Rattle.std.specs.List.{list_all}
-use Rattle.scene_model.specs.Scene.{SceneFrame, Scene, HasSides}
+use Rattle.scene_model.specs.Scene.{SceneFrame, Scene, HasSides, newest_version, IsVersion, greatest_latency, views_in}
 use Rattle.scene_model.specs.Field.{Read, ◌>>=◌, bad_byte, ends_early, misplaced_word, unknown_version, out_of_range, natural, in_range, number_in, u8_number, split_at, find_word}
-use Rattle.scene_model.specs.Grammar.{Field, field, Language, Word, scene_word, size_word, encoders_word, room_word, frame_word, encoder_word, beside_word, done_word, journal_word, layout_word, vertex_buffer_word, index_buffer_word, texture_word, frame_buffer_word, program_word, uniform_word, update_word, texel_update_word, destroy_word, view_word, order_word, state_word, stencil_word, scissor_word, transform_word, vertices_word, indices_word, transient_vertices_word, transient_indices_word, bind_word, set_word, submit_word, touch_word, blit_word, Stage, at_front, at_size, at_encoders, at_room, at_first_frame, in_before, in_block, in_beside, at_end, is_front_word, is_size_word, can_stand, Reading, nothing_read, on_last, empty_frame, at_stage, with_size, with_encoders, with_room, with_new_frame, with_block, on_last_frame, with_names, with_resource_line, with_encoder_line, last_encoder, blocks_of_last, unless, has_count, is_text_byte, is_other_version, is_next_of, is_in_place, are_filled_before, room_form, resource_form, encoder_form, after_resource, after_encoder_line, after_word, after_fields, after_line, is_skipped, is_at_end, scene_read, Fault, at_last_piece, line_read, read_pieces, scene_of}
+use Rattle.scene_model.specs.Grammar.{Field, field, Language, Word, scene_word, size_word, encoders_word, room_word, latency_word, frame_word, encoder_word, beside_word, done_word, journal_word, layout_word, vertex_buffer_word, index_buffer_word, texture_word, frame_buffer_word, program_word, uniform_word, update_word, texel_update_word, destroy_word, view_word, order_word, state_word, stencil_word, scissor_word, transform_word, vertices_word, indices_word, transient_vertices_word, transient_indices_word, bind_word, set_word, submit_word, touch_word, blit_word, Stage, at_front, at_size, at_encoders, at_room, at_latency, at_first_frame, in_before, in_block, in_beside, at_end, is_front_word, is_size_word, can_stand, Reading, nothing_read, on_last, empty_frame, at_stage, with_version, with_size, with_encoders, with_room, with_latency, with_new_frame, with_block, on_last_frame, with_names, with_resource_line, with_encoder_line, last_encoder, blocks_of_last, unless, has_count, is_text_byte, is_other_version, is_next_of, says_latency, is_in_place, are_filled_before, room_form, resource_form, encoder_form, after_resource, after_encoder_line, after_word, after_fields, after_line, is_skipped, is_at_end, scene_read, Fault, at_last_piece, line_read, read_pieces, scene_of}
 
 -- ---- tests that hold
 
@@ -47,6 +47,7 @@ SidesAt at_front width height = Unit {0}
 SidesAt at_size width height = Unit {0}
 SidesAt at_encoders width height = AreSides width height
 SidesAt at_room width height = AreSides width height
+SidesAt at_latency width height = AreSides width height
 SidesAt at_first_frame width height = AreSides width height
 SidesAt in_before width height = AreSides width height
 SidesAt in_block width height = AreSides width height
@@ -73,6 +74,7 @@ known_where at_front w width height front size c h = absurd (true_is_false (sym 
 known_where at_size w width height front size c h = absurd (true_is_false (sym c ∙ size))
 known_where at_encoders w width height front size c h = h
 known_where at_room w width height front size c h = h
+known_where at_latency w width height front size c h = h
 known_where at_first_frame w width height front size c h = h
 known_where in_before w width height front size c h = h
 known_where in_block w width height front size c h = h
@@ -85,6 +87,7 @@ known_at_end at_front width height e h = absurd (cc e)
 known_at_end at_size width height e h = absurd (cc e)
 known_at_end at_encoders width height e h = absurd (cc e)
 known_at_end at_room width height e h = absurd (cc e)
+known_at_end at_latency width height e h = absurd (cc e)
 known_at_end at_first_frame width height e h = absurd (cc e)
 known_at_end in_before width height e h = absurd (cc e)
 known_at_end in_block width height e h = absurd (cc e)
@@ -94,7 +97,7 @@ known_at_end in_beside width height e h = absurd (cc e)
 
 scene_sized : (known : Language) (r : Reading) (fs : List Field) → ReadsSized (after_word known r fs scene_word)
 unfolding after_word
-scene_sized known r fs = behind (has_count 2 fs) _ (λ b is. behind (number_in 1 1 (field fs 1)) _ (λ n k. here (at_stage at_size r) tt))
+scene_sized known r fs = behind (has_count 2 fs) _ (λ b is. behind (number_in 1 newest_version (field fs 1)) _ (λ n k. here (with_version n r) tt))
 
 size_sized : (known : Language) (r : Reading) (fs : List Field) → ReadsSized (after_word known r fs size_word)
 unfolding after_word
@@ -113,6 +116,10 @@ encoders_sized known r fs h = behind (has_count 2 fs) _ (λ b is. behind (number
 room_sized : (known : Language) (r : Reading) (fs : List Field) → AreSides r.width r.height → ReadsSized (after_word known r fs room_word)
 unfolding after_word
 room_sized known r fs h = behind (room_form fs) _ (λ room k. here (with_room room r) h)
+
+latency_sized : (known : Language) (r : Reading) (fs : List Field) → AreSides r.width r.height → ReadsSized (after_word known r fs latency_word)
+unfolding after_word
+latency_sized known r fs h = behind (has_count 2 fs) _ (λ b is. behind (number_in 1 greatest_latency (field fs 1)) _ (λ n k. here (with_latency n r) h))
 
 frame_sized : (known : Language) (r : Reading) (fs : List Field) → AreSides r.width r.height → ReadsSized (after_word known r fs frame_word)
 unfolding after_word
@@ -134,7 +141,7 @@ done_sized known r fs h = behind (has_count 1 fs) _ (λ b is. here (at_stage at_
 
 resource_sized : (known : Language) (r : Reading) (fs : List Field) (w : Word) → IsSized r → ReadsSized (after_resource known r fs w)
 unfolding after_resource
-resource_sized known r fs w h = behind (resource_form known r.names fs w) _ (λ l k. here (with_names l.1 (with_resource_line l.0 r)) h)
+resource_sized known r fs w h = behind (resource_form known (views_in r.version) r.names fs w) _ (λ l k. here (with_names l.1 (with_resource_line l.0 r)) h)
 
 encoder_line_sized : (r : Reading) (fs : List Field) (w : Word) → IsSized r → ReadsSized (after_encoder_line r fs w)
 unfolding after_encoder_line
@@ -148,6 +155,7 @@ word_sized known r fs scene_word place h = scene_sized known r fs
 word_sized known r fs size_word place h = size_sized known r fs
 word_sized known r fs encoders_word place h = encoders_sized known r fs (known_where r.stage encoders_word r.width r.height refl refl place h)
 word_sized known r fs room_word place h = room_sized known r fs (known_where r.stage room_word r.width r.height refl refl place h)
+word_sized known r fs latency_word place h = latency_sized known r fs (known_where r.stage latency_word r.width r.height refl refl (both_of (can_stand r.stage latency_word) (says_latency r.version) place).0 h)
 word_sized known r fs frame_word place h = frame_sized known r fs (known_where r.stage frame_word r.width r.height refl refl place h)
 word_sized known r fs encoder_word place h = encoder_sized known r fs (known_where r.stage encoder_word r.width r.height refl refl (both_of (can_stand r.stage encoder_word) (is_next_of r.encoders (last_encoder (blocks_of_last r.frames)) (field fs 1)) place).0 h)
 word_sized known r fs beside_word place h = beside_sized known r fs (known_where r.stage beside_word r.width r.height refl refl place h)
@@ -217,7 +225,7 @@ pieces_sized known (p ∷ p2 ∷ rest) n (Ok r) s h e = pieces_sized known (p2 �
 pub sized : (l : Language) (bytes : List ℕ) (s : Scene) → scene_of l bytes ≡ Ok s → HasSides s
 sized l bytes s e = pieces_sized l (split_at 10 bytes) 1 (Ok nothing_read) s (here nothing_read tt) e
 
--- ---- the number of frames
+-- ---- the number of frames, and the version
 
 -- a change of the last item keeps the number of items
 same_length : {A : Type 0} (f : A → A) (xs : List A) → length (on_last f xs) ≡ length xs
@@ -226,9 +234,9 @@ same_length f (x ∷ []) = refl
 same_length f (x ∷ y ∷ rest) = ap suc (same_length f (y ∷ rest))
 
 abbrev IsFew : Reading → Type 0
-IsFew r = length r.frames ≤ 1024
+IsFew r = (length r.frames ≤ 1024) × IsVersion r.version
 
--- what succeeds is a reading of few frames
+-- what succeeds is a reading of few frames and of one of the versions
 abbrev ReadsFew : Read Reading → Type 0
 ReadsFew m = (q : Reading) → m ≡ Ok q → IsFew q
 
@@ -247,29 +255,30 @@ changed_few f fs h = omega (arith, same_length f fs, h)
 more_few : (fs : List SceneFrame) → length fs < 1024 → length (fs ++ empty_frame ∷ []) ≤ 1024
 more_few fs h = omega (arith, length-append fs (empty_frame ∷ []), h)
 
-frame_few : (known : Language) (r : Reading) (fs : List Field) → ReadsFew (after_word known r fs frame_word)
+frame_few : (known : Language) (r : Reading) (fs : List Field) → IsFew r → ReadsFew (after_word known r fs frame_word)
 unfolding after_word
-frame_few known r fs =
+frame_few known r fs h =
     few_behind (has_count 1 fs) _ (λ b is.
     few_behind (unless (nat_lt (length r.frames) 1024) out_of_range) _ (λ c k.
-    few_here (with_new_frame r) (more_few r.frames (ltb-true (length r.frames) 1024 (unless_ok (nat_lt (length r.frames) 1024) out_of_range c k)))))
+    few_here (with_new_frame r) (more_few r.frames (ltb-true (length r.frames) 1024 (unless_ok (nat_lt (length r.frames) 1024) out_of_range c k)), h.1)))
 
 resource_few : (known : Language) (r : Reading) (fs : List Field) (w : Word) → IsFew r → ReadsFew (after_resource known r fs w)
 unfolding after_resource
-resource_few known r fs w h = few_behind (resource_form known r.names fs w) _ (λ l k. few_here (with_names l.1 (with_resource_line l.0 r)) (changed_few _ r.frames h))
+resource_few known r fs w h = few_behind (resource_form known (views_in r.version) r.names fs w) _ (λ l k. few_here (with_names l.1 (with_resource_line l.0 r)) (changed_few _ r.frames h.0, h.1))
 
 encoder_line_few : (r : Reading) (fs : List Field) (w : Word) → IsFew r → ReadsFew (after_encoder_line r fs w)
 unfolding after_encoder_line
-encoder_line_few r fs w h = few_behind (encoder_form r.names fs w) _ (λ l k. few_here (on_last_frame (with_encoder_line l) r) (changed_few _ r.frames h))
+encoder_line_few r fs w h = few_behind (encoder_form r.names fs w) _ (λ l k. few_here (on_last_frame (with_encoder_line l) r) (changed_few _ r.frames h.0, h.1))
 
 word_few : (known : Language) (r : Reading) (fs : List Field) (w : Word) → IsFew r → ReadsFew (after_word known r fs w)
 unfolding after_word
-word_few known r fs scene_word h = few_behind (has_count 2 fs) _ (λ b is. few_behind (number_in 1 1 (field fs 1)) _ (λ n k. few_here (at_stage at_size r) h))
+word_few known r fs scene_word h = few_behind (has_count 2 fs) _ (λ b is. few_behind (number_in 1 newest_version (field fs 1)) _ (λ n k. few_here (with_version n r) (h.0, number_bound 1 newest_version (field fs 1) n k)))
 word_few known r fs size_word h = few_behind (has_count 3 fs) _ (λ b is. few_behind (number_in 1 2048 (field fs 1)) _ (λ x wide. few_behind (number_in 1 2048 (field fs 2)) _ (λ y high. few_here (with_size x y r) h)))
 word_few known r fs encoders_word h = few_behind (has_count 2 fs) _ (λ b is. few_behind (number_in 1 8 (field fs 1)) _ (λ n k. few_here (with_encoders n r) h))
 word_few known r fs room_word h = few_behind (room_form fs) _ (λ room k. few_here (with_room room r) h)
-word_few known r fs frame_word h = frame_few known r fs
-word_few known r fs encoder_word h = few_behind (has_count 2 fs) _ (λ b is. few_behind (u8_number (field fs 1)) _ (λ n k. few_here (at_stage in_block (on_last_frame (with_block n) r)) (changed_few _ r.frames h)))
+word_few known r fs latency_word h = few_behind (has_count 2 fs) _ (λ b is. few_behind (number_in 1 greatest_latency (field fs 1)) _ (λ n k. few_here (with_latency n r) h))
+word_few known r fs frame_word h = frame_few known r fs h
+word_few known r fs encoder_word h = few_behind (has_count 2 fs) _ (λ b is. few_behind (u8_number (field fs 1)) _ (λ n k. few_here (at_stage in_block (on_last_frame (with_block n) r)) (changed_few _ r.frames h.0, h.1)))
 word_few known r fs beside_word h = few_behind (has_count 1 fs) _ (λ b is. few_here (at_stage in_beside r) h)
 word_few known r fs done_word h = few_behind (has_count 1 fs) _ (λ b is. few_here (at_stage at_end r) h)
 word_few known r fs journal_word h = λ q e. absurd (cc e)
@@ -314,15 +323,15 @@ line_few known r line h = by (is_skipped line)
     by true = few_here r h
     by false = few_behind (unless (list_all is_text_byte line) bad_byte) _ (λ b k. fields_few known r (split_at 32 line) (find_word known.words (field (split_at 32 line) 0)) h)
 
-last_few : (n : ℕ) (r : Reading) (p : List ℕ) (s : Scene) → IsFew r → at_last_piece n r p ≡ Ok s → length s.frames ≤ 1024
+last_few : (n : ℕ) (r : Reading) (p : List ℕ) (s : Scene) → IsFew r → at_last_piece n r p ≡ Ok s → (length s.frames ≤ 1024) × IsVersion s.version
 last_few n r [] s h e = by (is_at_end r.stage) e
   where
-    by : (b : Bool) → cond {A = Result Scene Fault} b (Ok (scene_read r)) (Err (record { line = n; cause = ends_early })) ≡ Ok s → length s.frames ≤ 1024
-    by true e = let made : scene_read r ≡ s = cc e in subst (λ t. length t.frames ≤ 1024) made h
+    by : (b : Bool) → cond {A = Result Scene Fault} b (Ok (scene_read r)) (Err (record { line = n; cause = ends_early })) ≡ Ok s → (length s.frames ≤ 1024) × IsVersion s.version
+    by true e = let made : scene_read r ≡ s = cc e in subst (λ t. (length t.frames ≤ 1024) × IsVersion t.version) made h
     by false e = absurd (cc e)
 last_few n r (b ∷ bs) s h e = absurd (cc e)
 
-pieces_few : (known : Language) (pieces : List (List ℕ)) (n : ℕ) (m : Read Reading) (s : Scene) → ReadsFew m → read_pieces known n m pieces ≡ Ok s → length s.frames ≤ 1024
+pieces_few : (known : Language) (pieces : List (List ℕ)) (n : ℕ) (m : Read Reading) (s : Scene) → ReadsFew m → read_pieces known n m pieces ≡ Ok s → (length s.frames ≤ 1024) × IsVersion s.version
 pieces_few known pieces n (Err cause) s h e = absurd (cc e)
 pieces_few known [] n (Ok r) s h e = absurd (cc e)
 pieces_few known (p ∷ []) n (Ok r) s h e = last_few n r p s (h r refl) e
@@ -330,4 +339,8 @@ pieces_few known (p ∷ p2 ∷ rest) n (Ok r) s h e = pieces_few known (p2 ∷ r
 
 -- a scene that some bytes are has at most 1,024 frames
 pub few-frames : (l : Language) (bytes : List ℕ) (s : Scene) → scene_of l bytes ≡ Ok s → length s.frames ≤ 1024
-few-frames l bytes s e = pieces_few l (split_at 10 bytes) 1 (Ok nothing_read) s (few_here nothing_read (omega arith)) e
+few-frames l bytes s e = (pieces_few l (split_at 10 bytes) 1 (Ok nothing_read) s (few_here nothing_read (omega arith, (omega arith, omega arith))) e).0
+
+-- a scene that some bytes are has one of the versions
+pub read-version : (l : Language) (bytes : List ℕ) (s : Scene) → scene_of l bytes ≡ Ok s → IsVersion s.version
+read-version l bytes s e = (pieces_few l (split_at 10 bytes) 1 (Ok nothing_read) s (few_here nothing_read (omega arith, (omega arith, omega arith))) e).1

@@ -199,6 +199,11 @@ index_given_again : played false (scene_of whole_language (codes "scene 1\nsize 
 unfolding digits after_word after_resource after_encoder_line i32_number word_in hex_value hex_byte skip_piece attribute_piece part_field
 index_given_again = refl
 
+index_given_again_latency_2 : played false (scene_of whole_language (codes "scene 2\nsize 1 1\nencoders 1\nlatency 2\nframe\nprogram p0 solid\nprogram p1 solid\nprogram p2 solid\nprogram p3 solid\nprogram p4 solid\nprogram p5 solid\nprogram p6 solid\nprogram p7 solid\nprogram p8 solid\nprogram p9 solid\nprogram p10 solid\nprogram p11 solid\nprogram p12 solid\nprogram p13 solid\nprogram p14 solid\nprogram p15 solid\nprogram p16 solid\nprogram p17 solid\nprogram p18 solid\nprogram p19 solid\nprogram p20 solid\nprogram p21 solid\nprogram p22 solid\nprogram p23 solid\nprogram p24 solid\nprogram p25 solid\nprogram p26 solid\nprogram p27 solid\nprogram p28 solid\nprogram p29 solid\nprogram p30 solid\nprogram p31 solid\nprogram p32 solid\nprogram p33 solid\nprogram p34 solid\nprogram p35 solid\nprogram p36 solid\nprogram p37 solid\nprogram p38 solid\nprogram p39 solid\nprogram p40 solid\nprogram p41 solid\nprogram p42 solid\nprogram p43 solid\nprogram p44 solid\nprogram p45 solid\nprogram p46 solid\nprogram p47 solid\nprogram p48 solid\nprogram p49 solid\nprogram p50 solid\nprogram p51 solid\nprogram p52 solid\nprogram p53 solid\nprogram p54 solid\nprogram p55 solid\nprogram p56 solid\nprogram p57 solid\nprogram p58 solid\nprogram p59 solid\nprogram p60 solid\nprogram p61 solid\nprogram p62 solid\nprogram p63 solid\nprogram p64 solid\nprogram p65 solid\nprogram p66 solid\nprogram p67 solid\nprogram p68 solid\nprogram p69 solid\nprogram p70 solid\nprogram p71 solid\nprogram p72 solid\nprogram p73 solid\nprogram p74 solid\nprogram p75 solid\nprogram p76 solid\nprogram p77 solid\nprogram p78 solid\nprogram p79 solid\nprogram p80 solid\nprogram p81 solid\nprogram p82 solid\nprogram p83 solid\nprogram p84 solid\nprogram p85 solid\nprogram p86 solid\nprogram p87 solid\nprogram p88 solid\nprogram p89 solid\nprogram p90 solid\nprogram p91 solid\nprogram p92 solid\nprogram p93 solid\nprogram p94 solid\nprogram p95 solid\nprogram p96 solid\nprogram p97 solid\nprogram p98 solid\nprogram p99 solid\nprogram p100 solid\nprogram p101 solid\nprogram p102 solid\nprogram p103 solid\nprogram p104 solid\nprogram p105 solid\nprogram p106 solid\nprogram p107 solid\nprogram p108 solid\nprogram p109 solid\nprogram p110 solid\nprogram p111 solid\nprogram p112 solid\nprogram p113 solid\nprogram p114 solid\nprogram p115 solid\nprogram p116 solid\nprogram p117 solid\nprogram p118 solid\nprogram p119 solid\nprogram p120 solid\nprogram p121 solid\nprogram p122 solid\nprogram p123 solid\nprogram p124 solid\nprogram p125 solid\nprogram p126 solid\nprogram p127 solid\nprogram p128 solid\nprogram p129 solid\nprogram p130 solid\nprogram p131 solid\nprogram p132 solid\nprogram p133 solid\nprogram p134 solid\nprogram p135 solid\nprogram p136 solid\nprogram p137 solid\nprogram p138 solid\nprogram p139 solid\nprogram p140 solid\nprogram p141 solid\nprogram p142 solid\nprogram p143 solid\nprogram p144 solid\nprogram p145 solid\nprogram p146 solid\nprogram p147 solid\nprogram p148 solid\nprogram p149 solid\nprogram p150 solid\nprogram p151 solid\nprogram p152 solid\nprogram p153 solid\nprogram p154 solid\nprogram p155 solid\nprogram p156 solid\nprogram p157 solid\nprogram p158 solid\nprogram p159 solid\nprogram p160 solid\nprogram p161 solid\nprogram p162 solid\nprogram p163 solid\nprogram p164 solid\nprogram p165 solid\nprogram p166 solid\nprogram p167 solid\nprogram p168 solid\nprogram p169 solid\nprogram p170 solid\nprogram p171 solid\nprogram p172 solid\nprogram p173 solid\nprogram p174 solid\nprogram p175 solid\nprogram p176 solid\nprogram p177 solid\nprogram p178 solid\nprogram p179 solid\nprogram p180 solid\nprogram p181 solid\nprogram p182 solid\nprogram p183 solid\nprogram p184 solid\nprogram p185 solid\nprogram p186 solid\nprogram p187 solid\nprogram p188 solid\nprogram p189 solid\nprogram p190 solid\nprogram p191 solid\nprogram p192 solid\nprogram p193 solid\nprogram p194 solid\nprogram p195 solid\nprogram p196 solid\nprogram p197 solid\nprogram p198 solid\nprogram p199 solid\nprogram p200 solid\nprogram p201 solid\nprogram p202 solid\nprogram p203 solid\nprogram p204 solid\nprogram p205 solid\nprogram p206 solid\nprogram p207 solid\nprogram p208 solid\nprogram p209 solid\nprogram p210 solid\nprogram p211 solid\nprogram p212 solid\nprogram p213 solid\nprogram p214 solid\nprogram p215 solid\nprogram p216 solid\nprogram p217 solid\nprogram p218 solid\nprogram p219 solid\nprogram p220 solid\nprogram p221 solid\nprogram p222 solid\nprogram p223 solid\nprogram p224 solid\nprogram p225 solid\nprogram p226 solid\nprogram p227 solid\nprogram p228 solid\nprogram p229 solid\nprogram p230 solid\nprogram p231 solid\nprogram p232 solid\nprogram p233 solid\nprogram p234 solid\nprogram p235 solid\nprogram p236 solid\nprogram p237 solid\nprogram p238 solid\nprogram p239 solid\nprogram p240 solid\nprogram p241 solid\nprogram p242 solid\nprogram p243 solid\nprogram p244 solid\nprogram p245 solid\nprogram p246 solid\nprogram p247 solid\nprogram p248 solid\nprogram p249 solid\nprogram p250 solid\nprogram p251 solid\nprogram p252 solid\nprogram p253 solid\nprogram p254 solid\nprogram p255 solid\nprogram p256 solid\ndestroy p0\nframe\nprogram q1 solid\nframe\nprogram q2 solid\nframe\nprogram q3 solid\ndone\n"))
+    ≡ run 0 ((codes "P6\n1 1\n255\n" ++ (0 ∷ 0 ∷ 0 ∷ [])) ++ ((codes "P6\n1 1\n255\n" ++ (0 ∷ 0 ∷ 0 ∷ [])) ++ ((codes "P6\n1 1\n255\n" ++ (0 ∷ 0 ∷ 0 ∷ [])) ++ (codes "P6\n1 1\n255\n" ++ (0 ∷ 0 ∷ 0 ∷ []))))) (codes "frame 0 items 0 dropped 1\nframe 1 items 0 dropped 1\nframe 2 items 0 dropped 1\nframe 3 items 0 dropped 0\n")
+unfolding digits after_word after_resource after_encoder_line i32_number word_in hex_value hex_byte skip_piece attribute_piece part_field
+index_given_again_latency_2 = refl
+
 index_past_its_buffer : played false (scene_of whole_language (codes "scene 1\nsize 1 1\nencoders 1\nframe\nlayout p position:fixed:2\nuniform u_color vec4\nprogram s solid\nvb v p 0000ffff000001000000ffff000001000000ffff00000100\nupdate v 8 00000300000001000000ffff0000fdff\nib n 000001000200\nencoder 0\nset u_color 8224 8224 8224 65536\nvertices v 0 3\nindices n 0 4\nsubmit 0 s 0 255\ndone\n"))
     ≡ run 0 (codes "P6\n1 1\n255\n" ++ (32 ∷ 32 ∷ 32 ∷ [])) (codes "frame 0 items 1 dropped 0\n")
 unfolding digits after_word after_resource after_encoder_line i32_number word_in hex_value hex_byte skip_piece attribute_piece part_field
@@ -388,3 +393,13 @@ views_256_in_version_1 : played false (scene_of whole_language (codes "scene 1\n
     ≡ run 0 (codes "P6\n1 1\n255\n" ++ (16 ∷ 16 ∷ 16 ∷ [])) (codes "frame 0 items 1 dropped 2\n")
 unfolding digits after_word after_resource after_encoder_line i32_number word_in hex_value hex_byte skip_piece attribute_piece part_field
 views_256_in_version_1 = refl
+
+views_512_by_number : played false (scene_of whole_language (codes "scene 2\nsize 1 1\nencoders 1\nframe\nlayout p position:fixed:2\nuniform u_color vec4\nprogram s solid\nencoder 0\nset u_color 4112 4112 4112 65536\ntvertices p 0000ffff0000010000000300000001000000ffff0000fdff\nsubmit 0 s 0 255\nset u_color 8224 8224 8224 65536\ntvertices p 0000ffff0000010000000300000001000000ffff0000fdff\nsubmit 511 s 0 255\ntouch 512\ndone\n"))
+    ≡ run 0 (codes "P6\n1 1\n255\n" ++ (32 ∷ 32 ∷ 32 ∷ [])) (codes "frame 0 items 2 dropped 1\n")
+unfolding digits after_word after_resource after_encoder_line i32_number word_in hex_value hex_byte skip_piece attribute_piece part_field
+views_512_by_number = refl
+
+views_512_ordered : played false (scene_of whole_language (codes "scene 2\nsize 1 1\nencoders 1\nframe\nlayout p position:fixed:2\nuniform u_color vec4\nprogram s solid\norder 511 0\nencoder 0\nset u_color 4112 4112 4112 65536\ntvertices p 0000ffff0000010000000300000001000000ffff0000fdff\nsubmit 0 s 0 255\nset u_color 8224 8224 8224 65536\ntvertices p 0000ffff0000010000000300000001000000ffff0000fdff\nsubmit 511 s 0 255\ntouch 512\ndone\n"))
+    ≡ run 0 (codes "P6\n1 1\n255\n" ++ (16 ∷ 16 ∷ 16 ∷ [])) (codes "frame 0 items 2 dropped 1\n")
+unfolding digits after_word after_resource after_encoder_line i32_number word_in hex_value hex_byte skip_piece attribute_piece part_field
+views_512_ordered = refl

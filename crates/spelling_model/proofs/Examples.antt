@@ -10,10 +10,12 @@ use Rattle.spelling_model.specs.Written.{written}
 
 abbrev one_clear : Scene
 one_clear = record {
+  version = 1;
   width = 2;
   height = 2;
   encoders = 1;
   room = plain_room;
+  latency = 1;
   names = [];
   frames = record { before = clear_line 0 (record { flags = 1; color = 255 ∷ 0 ∷ 10 ∷ 255 ∷ []; depth = 0; stencil = 7 }) ∷ []; blocks = record { encoder = 0; lines = touch_line 0 ∷ [] } ∷ []; beside = [] } ∷ [];
 }
@@ -25,7 +27,7 @@ abbrev long_text : List ℕ
 long_text = codes "scene 1\nsize 2 2\nencoders 1\nroom 8191 262144 4096\n\nframe\nview 0 clear 1 ff000aff 0 7\n# touched once\nencoder 0\ntouch 0\nbeside\ndone\n"
 
 -- without the two lines that may be left out; with both of them, and with lines that are skipped
-both_spell : (kept_fields short_text ≡ spelled_lines false (false ∷ []) one_clear) × (kept_fields long_text ≡ spelled_lines true (true ∷ []) one_clear)
+both_spell : (kept_fields short_text ≡ spelled_lines false false (false ∷ []) one_clear) × (kept_fields long_text ≡ spelled_lines true false (true ∷ []) one_clear)
 unfolding digits
 both_spell = (refl, refl)
 
@@ -39,12 +41,12 @@ unfolding digits
 written_text = refl
 
 -- the lines of the scene that a text is read as
-abbrev spelled_again : Bool → List Bool → Result Scene Fault → List (List Field)
-spelled_again with_room besides (Ok s) = spelled_lines with_room besides s
-spelled_again with_room besides (Err f) = []
+abbrev spelled_again : (with_room with_latency : Bool) → List Bool → Result Scene Fault → List (List Field)
+spelled_again with_room with_latency besides (Ok s) = spelled_lines with_room with_latency besides s
+spelled_again with_room with_latency besides (Err f) = []
 
 abbrev front_text : List ℕ
-front_text = codes "scene 1\nsize 4 4\nencoders 2\nroom 100 1000 10\nframe\n"
+front_text = codes "scene 2\nsize 4 4\nencoders 2\nroom 100 1000 10\nlatency 3\nframe\n"
 
 abbrev resource_text : List ℕ
 resource_text = codes "layout p position:fixed:2 color0:u8:4 skip:3\nvb corners p 0a\nib steps -\ntexture t 2 2 rgba8 - fill:00ff00ff\ntexture d 2 2 d24s8 dst hex:-\nfb whole t d\nfb plain t -\nprogram s solid\nuniform u vec4\nuniform n int\nupdate corners 0 0a\ntexupdate t 0 0 1 1 01020304\n"
@@ -61,6 +63,6 @@ end_text = codes "beside\ndestroy t\nuniform u vec4\nframe\nbeside\nframe\ndone\
 abbrev every_form : List ℕ
 every_form = front_text ++ (resource_text ++ (view_text ++ (encoder_text ++ end_text)))
 
-every_form_again : spelled_again true (true ∷ true ∷ false ∷ []) (scene_of whole_language every_form) ≡ kept_fields every_form
+every_form_again : spelled_again true true (true ∷ true ∷ false ∷ []) (scene_of whole_language every_form) ≡ kept_fields every_form
 unfolding digits after_word after_resource after_encoder_line i32_number word_in hex_value hex_byte skip_piece attribute_piece part_field
 every_form_again = refl

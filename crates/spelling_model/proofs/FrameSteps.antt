@@ -2,9 +2,9 @@
 use Rattle.std.proofs.Common.{◌≡◌, Bool, true, false, ◌||◌, cond, List, [], ◌∷◌, ◌++◌, Ok, refl, ap, subst, sym, ◌∙◌}
 use Rattle.std.specs.Prelude.{codes}
 use Rattle.std.specs.Fmt.{decimal}
-use Rattle.scene_model.specs.Scene.{ResourceLine, EncoderLine, SceneFrame}
+use Rattle.scene_model.specs.Scene.{ResourceLine, EncoderLine, SceneFrame, views_in}
 use Rattle.scene_model.specs.Field.{Read, ◌>>=◌, BoundName, u8_number}
-use Rattle.scene_model.specs.Grammar.{Field, field, Named, Word, encoder_word, beside_word, Stage, at_front, at_size, at_encoders, at_room, at_first_frame, in_before, in_block, in_beside, at_end, is_resource_word, is_encoder_word, is_front_word, is_size_word, is_encoders_word, is_room_word, is_frame_word, opens_part, ends_frame, can_stand, is_beside, Reading, at_stage, with_block, with_encoder_line, with_before_line, with_beside_line, on_last, on_last_frame, with_resource_line, with_names, has_count, resource_form, encoder_form, after_resource, after_encoder_line, whole_language}
+use Rattle.scene_model.specs.Grammar.{Field, field, Named, Word, encoder_word, beside_word, Stage, at_front, at_size, at_encoders, at_room, at_latency, at_first_frame, in_before, in_block, in_beside, at_end, is_resource_word, is_encoder_word, is_front_word, is_size_word, is_encoders_word, is_room_word, is_latency_word, is_frame_word, opens_part, ends_frame, can_stand, is_beside, Reading, at_stage, with_block, with_encoder_line, with_before_line, with_beside_line, on_last, on_last_frame, with_resource_line, with_names, has_count, resource_form, encoder_form, after_resource, after_encoder_line, whole_language}
 use Rattle.spelling_model.specs.LineSpelling.{resource_fields, encoder_fields, frame_lines}
 use Rattle.spelling_model.proofs.Read.{bind_ok, same_ok, count_ok}
 use Rattle.spelling_model.proofs.Numbers.{u8_takes}
@@ -37,6 +37,7 @@ part_here all p r at_front c so = absurd (cc c)
 part_here all p r at_size c so = absurd (cc c)
 part_here all p r at_encoders c so = absurd (cc c)
 part_here all p r at_room c so = absurd (cc c)
+part_here all p r at_latency c so = absurd (cc c)
 part_here all p r at_first_frame c so = absurd (cc c)
 part_here all p r in_beside c so = absurd (cc c)
 part_here all p r at_end c so = absurd (cc c)
@@ -49,6 +50,7 @@ beside_too at_front c = c
 beside_too at_size c = c
 beside_too at_encoders c = c
 beside_too at_room c = c
+beside_too at_latency c = c
 beside_too at_first_frame c = c
 beside_too in_beside c = c
 beside_too at_end c = c
@@ -87,7 +89,7 @@ beside_step fs r q e place word =
 -- a word of a resource or view line is no other word
 abbrev pub IsResourceWord : Word → Type 0
 IsResourceWord w =
-    (is_front_word w ≡ false) × (is_size_word w ≡ false) × (is_encoders_word w ≡ false) × (is_room_word w ≡ false) × (is_frame_word w ≡ false) × (is_encoder_word w ≡ false)
+    (is_front_word w ≡ false) × (is_size_word w ≡ false) × (is_encoders_word w ≡ false) × (is_room_word w ≡ false) × (is_latency_word w ≡ false) × (is_frame_word w ≡ false) × (is_encoder_word w ≡ false)
     × (opens_part w ≡ false) × (ends_frame w ≡ false)
 
 none_of_two : (a b : Bool) → a ≡ false → b ≡ false → (a || b) ≡ true → ⊥
@@ -117,15 +119,16 @@ resource_here all p fs r names l w is own in_beside at c so =
 resource_here all p fs r names l w is own at_front at c so = absurd (not_both is.0 c)
 resource_here all p fs r names l w is own at_size at c so = absurd (not_both is.1 c)
 resource_here all p fs r names l w is own at_encoders at c so = absurd (not_both is.2 c)
-resource_here all p fs r names l w is own at_room at c so = absurd (none_of_two (is_room_word w) (is_frame_word w) is.3 is.4 c)
-resource_here all p fs r names l w is own at_first_frame at c so = absurd (not_both is.4 c)
-resource_here all p fs r names l w is own in_block at c so = absurd (none_of_three (is_encoder_word w) (opens_part w) (ends_frame w) is.5 is.6 is.7 c)
+resource_here all p fs r names l w is own at_room at c so = absurd (none_of_three (is_room_word w) (is_latency_word w) (is_frame_word w) is.3 is.4 is.5 c)
+resource_here all p fs r names l w is own at_latency at c so = absurd (none_of_two (is_latency_word w) (is_frame_word w) is.4 is.5 c)
+resource_here all p fs r names l w is own at_first_frame at c so = absurd (not_both is.5 c)
+resource_here all p fs r names l w is own in_block at c so = absurd (none_of_three (is_encoder_word w) (opens_part w) (ends_frame w) is.6 is.7 is.8 c)
 resource_here all p fs r names l w is own at_end at c so = absurd (cc c)
 
-pub resource_step : (fs : List Field) (r q : Reading) (w : Word) → IsResourceWord w → ((l : Named ResourceLine) → resource_form whole_language r.names fs w ≡ Ok l → Takes r.names fs l) → after_resource whole_language r fs w ≡ Ok q → can_stand r.stage w ≡ true → StepTakes fs r q
+pub resource_step : (fs : List Field) (r q : Reading) (w : Word) → IsResourceWord w → ((l : Named ResourceLine) → resource_form whole_language (views_in r.version) r.names fs w ≡ Ok l → Takes r.names fs l) → after_resource whole_language r fs w ≡ Ok q → can_stand r.stage w ≡ true → StepTakes fs r q
 unfolding after_resource
 resource_step fs r q w is takes e place =
-    let l = bind_ok (resource_form whole_language r.names fs w) _ q e in
+    let l = bind_ok (resource_form whole_language (views_in r.version) r.names fs w) _ q e in
     let made : with_names l.0.1 (with_resource_line l.0.0 r) ≡ q = same_ok l.2 in
     let t = takes l.0 l.1 in
     subst (StepTakes fs r) made (t.0, λ all old p so. resource_here all p fs r l.0.1 l.0.0 w is (t.1 all old) r.stage refl place so)
@@ -134,7 +137,7 @@ resource_step fs r q w is takes e place =
 
 abbrev pub IsEncoderWord : Word → Type 0
 IsEncoderWord w =
-    (is_front_word w ≡ false) × (is_size_word w ≡ false) × (is_encoders_word w ≡ false) × (is_room_word w ≡ false) × (is_frame_word w ≡ false) × (is_resource_word w ≡ false)
+    (is_front_word w ≡ false) × (is_size_word w ≡ false) × (is_encoders_word w ≡ false) × (is_room_word w ≡ false) × (is_latency_word w ≡ false) × (is_frame_word w ≡ false) × (is_resource_word w ≡ false)
     × (opens_part w ≡ false) × (ends_frame w ≡ false)
 
 encoder_line_here : (all : List Field) (p : List (List Field)) (fs : List Field) (r : Reading) (l : EncoderLine) (w : Word) → IsEncoderWord w → fs ≡ encoder_fields all l → (st : Stage) → can_stand st w ≡ true → SoFar all p r st
@@ -146,10 +149,11 @@ encoder_line_here all p fs r l w is own in_block c so =
 encoder_line_here all p fs r l w is own at_front c so = absurd (not_both is.0 c)
 encoder_line_here all p fs r l w is own at_size c so = absurd (not_both is.1 c)
 encoder_line_here all p fs r l w is own at_encoders c so = absurd (not_both is.2 c)
-encoder_line_here all p fs r l w is own at_room c so = absurd (none_of_two (is_room_word w) (is_frame_word w) is.3 is.4 c)
-encoder_line_here all p fs r l w is own at_first_frame c so = absurd (not_both is.4 c)
-encoder_line_here all p fs r l w is own in_before c so = absurd (none_of_three (is_resource_word w) (opens_part w) (ends_frame w) is.5 is.6 is.7 c)
-encoder_line_here all p fs r l w is own in_beside c so = absurd (none_of_two (is_resource_word w) (ends_frame w) is.5 is.7 c)
+encoder_line_here all p fs r l w is own at_room c so = absurd (none_of_three (is_room_word w) (is_latency_word w) (is_frame_word w) is.3 is.4 is.5 c)
+encoder_line_here all p fs r l w is own at_latency c so = absurd (none_of_two (is_latency_word w) (is_frame_word w) is.4 is.5 c)
+encoder_line_here all p fs r l w is own at_first_frame c so = absurd (not_both is.5 c)
+encoder_line_here all p fs r l w is own in_before c so = absurd (none_of_three (is_resource_word w) (opens_part w) (ends_frame w) is.6 is.7 is.8 c)
+encoder_line_here all p fs r l w is own in_beside c so = absurd (none_of_two (is_resource_word w) (ends_frame w) is.6 is.8 c)
 encoder_line_here all p fs r l w is own at_end c so = absurd (cc c)
 
 pub encoder_step : (fs : List Field) (r q : Reading) (w : Word) → IsEncoderWord w → ((l : EncoderLine) → encoder_form r.names fs w ≡ Ok l → (all : List Field) → IsPrefix (texts r.names) all → fs ≡ encoder_fields all l) → after_encoder_line r fs w ≡ Ok q → can_stand r.stage w ≡ true → StepTakes fs r q

@@ -1,8 +1,9 @@
 -- The joining of the two ways of saying a scene's text: bytes are read as a scene exactly where the scene is readable and they spell it.
 use Rattle.std.proofs.Common.{◌≡◌, ℕ, true, List, [], ◌∷◌, ◌++◌, Ok, Result, refl, ap, subst, sym, ◌∙◌, append_assoc}
 use Rattle.std.specs.Prelude.{codes}
-use Rattle.scene_model.specs.Scene.{Scene}
-use Rattle.scene_model.specs.Grammar.{Field, Stage, at_front, at_size, at_encoders, at_room, at_first_frame, in_before, in_block, in_beside, at_end, is_at_end, Reading, nothing_read, scene_read, Fault, scene_of, whole_language}
+use Rattle.scene_model.specs.Scene.{Scene, IsVersion}
+use Rattle.scene_model.specs.Grammar.{Field, Stage, at_front, at_size, at_encoders, at_room, at_latency, at_first_frame, in_before, in_block, in_beside, at_end, is_at_end, Reading, nothing_read, scene_read, Fault, scene_of, whole_language}
+use Rattle.scene_model.proofs.ScenesSized.{read-version}
 use Rattle.spelling_model.specs.LineSpelling.{head_lines, frames_lines}
 use Rattle.spelling_model.specs.Spelling.{kept_fields, IsSpelling, Spells, ReadingLaw, OneReading}
 use Rattle.spelling_model.proofs.Names.{same_prefix, texts}
@@ -19,6 +20,7 @@ end_here all p r at_front e so = absurd (cc e)
 end_here all p r at_size e so = absurd (cc e)
 end_here all p r at_encoders e so = absurd (cc e)
 end_here all p r at_room e so = absurd (cc e)
+end_here all p r at_latency e so = absurd (cc e)
 end_here all p r at_first_frame e so = absurd (cc e)
 end_here all p r in_before e so = absurd (cc e)
 end_here all p r in_block e so = absurd (cc e)
@@ -27,19 +29,21 @@ end_here all p r in_beside e so = absurd (cc e)
 whole_spelled : (lines : List (List Field)) (r : Reading) → SoFar (texts r.names) lines r at_end → IsSpelling (scene_read r) lines
 whole_spelled lines r so = record {
   with_room = so.1.with_room;
+  with_latency = so.1.with_latency;
   besides = so.1.besides;
   room_left = so.1.room_left;
+  latency_left = so.1.latency_left;
   besides_left = so.1.besides_left;
   spelled =
       so.2
       ∙ ap (λ k. k ++ (codes "done" ∷ []) ∷ []) so.1.lines
-      ∙ append_assoc (head_lines so.1.with_room (scene_read r)) (frames_lines (texts r.names) so.1.besides r.frames) ((codes "done" ∷ []) ∷ []);
+      ∙ append_assoc (head_lines so.1.with_room so.1.with_latency (scene_read r)) (frames_lines (texts r.names) so.1.besides r.frames) ((codes "done" ∷ []) ∷ []);
 }
 
 read_spelled : (lines : List (List Field)) (r : Reading) → read_fields nothing_read lines ≡ Ok r → is_at_end r.stage ≡ true → IsSpelling (scene_read r) lines
 read_spelled lines r e end =
     let steps = read_steps lines nothing_read r e in
-    whole_spelled lines r (end_here (texts r.names) lines r r.stage end (steps.1 (texts r.names) (same_prefix (texts r.names)) [] (refl, refl, refl)))
+    whole_spelled lines r (end_here (texts r.names) lines r r.stage end (steps.1 (texts r.names) (same_prefix (texts r.names)) [] (refl, refl, refl, refl)))
 
 spells : (s : Scene) (bytes : List ℕ) → scene_of whole_language bytes ≡ Ok s → Spells bytes s
 spells s bytes e =
@@ -48,17 +52,17 @@ spells s bytes e =
 
 -- ---- what is spelled is read
 
-same_reading : (s : Scene) (xs ys : List (List Field)) → IsSpelling s xs → IsSpelling s ys → read_fields nothing_read xs ≡ read_fields nothing_read ys
-same_reading s xs ys x y =
+same_reading : (s : Scene) (xs ys : List (List Field)) → IsVersion s.version → IsSpelling s xs → IsSpelling s ys → read_fields nothing_read xs ≡ read_fields nothing_read ys
+same_reading s xs ys version x y =
     ap (read_fields nothing_read) x.spelled
-    ∙ choices_same x.with_room x.besides s x.room_left x.besides_left
-    ∙ sym (choices_same y.with_room y.besides s y.room_left y.besides_left)
+    ∙ choices_same x.with_room x.with_latency x.besides s version x.room_left x.latency_left x.besides_left
+    ∙ sym (choices_same y.with_room y.with_latency y.besides s version y.room_left y.latency_left y.besides_left)
     ∙ ap (read_fields nothing_read) (sym y.spelled)
 
 read_again : (s : Scene) (text bytes : List ℕ) → scene_of whole_language text ≡ Ok s → Spells bytes s → scene_of whole_language bytes ≡ Ok s
 read_again s text bytes e k =
     let t = fields_read text s e in
-    bytes_read bytes t.1 k.0 (same_reading s (kept_fields bytes) (kept_fields text) k.1 (spells s text e).1 ∙ t.2) t.3 ∙ ap (λ s. Ok s) t.4
+    bytes_read bytes t.1 k.0 (same_reading s (kept_fields bytes) (kept_fields text) (read-version whole_language text s e) k.1 (spells s text e).1 ∙ t.2) t.3 ∙ ap (λ s. Ok s) t.4
 
 -- ---- the laws
 

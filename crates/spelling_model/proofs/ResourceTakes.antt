@@ -1,5 +1,5 @@
 -- A create, update or destroy line that is read is spelled by its fields.
-use Rattle.std.proofs.Common.{◌≡◌, ◌≤◌, true, false, List, [], ◌∷◌, map, drop, length, Ok, subst, ◌∙◌, arith}
+use Rattle.std.proofs.Common.{◌≡◌, ℕ, ◌+◌, ◌≤◌, true, false, List, [], ◌∷◌, map, drop, length, Ok, subst, ◌∙◌, arith}
 use Rattle.std.specs.Prelude.{codes}
 use Rattle.std.specs.Fmt.{decimal}
 use Rattle.scene_model.specs.Scene.{ResourceLine, layout_line, vertex_buffer_line, index_buffer_line, texture_line, frame_buffer_line, program_line, uniform_line, update_line, texel_update_line, destroy_line, order_line}
@@ -187,11 +187,11 @@ destroy_takes names fs l e word =
           count_ok 2 fs c.0 c.1 ∙ (λ i. word i ∷ s1 i ∷ []),
     )
 
-pub order_takes : (names : List BoundName) (fs : List Field) (l : Named ResourceLine) → order_form names fs ≡ Ok l → field fs 0 ≡ codes "order" → Takes names fs l
-order_takes names fs l e word =
-    let c = bind_ok (has_count_from 1 257 fs) _ l e in
+pub order_takes : (views : ℕ) (names : List BoundName) (fs : List Field) (l : Named ResourceLine) → order_form views names fs ≡ Ok l → field fs 0 ≡ codes "order" → Takes names fs l
+order_takes views names fs l e word =
+    let c = bind_ok (has_count_from 1 (1 + views) fs) _ l e in
     let ids = bind_ok (read_all u16_number (drop 1 fs)) _ l c.2 in
     let made : (order_line ids.0, names) ≡ l = same_ok ids.2 in
     let rest : drop 1 fs ≡ map decimal ids.0 = all_takes u16_number decimal u16_takes (drop 1 fs) ids.0 ids.1 in
-    let long = count_from_ok 1 257 fs c.0 c.1 in
+    let long = count_from_ok 1 (1 + views) fs c.0 c.1 in
     subst (Takes names fs) made (same_prefix (texts names), λ all old. first_one fs long ∙ (λ i. word i ∷ rest i))

@@ -6,37 +6,41 @@ use Rattle.std.proofs.lemmas.List.{append-nil, map-append}
 use Rattle.std.proofs.lemmas.Grind.{flat_map-append}
 use Rattle.scene_model.specs.Scene.{ResourceLine, EncoderLine, Block, SceneFrame}
 use Rattle.scene_model.specs.Field.{BoundName}
-use Rattle.scene_model.specs.Grammar.{Field, Stage, at_front, at_size, at_encoders, at_room, at_first_frame, in_before, in_block, in_beside, at_end, Reading, plain_room, empty_frame, with_new_frame, with_block, with_line, with_encoder_line, with_before_line, with_beside_line, on_last, scene_read}
+use Rattle.scene_model.specs.Grammar.{Field, Stage, at_front, at_size, at_encoders, at_room, at_latency, at_first_frame, in_before, in_block, in_beside, at_end, Reading, plain_room, says_latency, empty_frame, with_new_frame, with_block, with_line, with_encoder_line, with_before_line, with_beside_line, on_last, scene_read}
 use Rattle.spelling_model.specs.LineSpelling.{resource_fields, encoder_fields, block_lines, beside_lines, frame_lines, frames_lines, head_lines}
-use Rattle.spelling_model.specs.Spelling.{MayLeaveRoom, MayLeaveBesides}
+use Rattle.spelling_model.specs.Spelling.{MayLeaveRoom, MayLeaveLatency, MayLeaveBesides}
 
--- in front of the frames: the lines, no frame, and the plain room
+-- in front of the frames: the lines, no frame, the plain room, and a latency of 1
 abbrev pub AtHead : List (List Field) → List (List Field) → Reading → Type 0
-AtHead expected p r = (p ≡ expected) × (r.frames ≡ []) × (r.room ≡ plain_room)
+AtHead expected p r = (p ≡ expected) × (r.frames ≡ []) × (r.room ≡ plain_room) × (r.latency ≡ 1)
 
 -- the lines up to the end of a frame
 pub record Closed (all : List Field) (p : List (List Field)) (r : Reading) : Type 0 where
   pub with_room : Bool
+  pub with_latency : Bool
   pub besides : List Bool
   pub room_left : MayLeaveRoom with_room (scene_read r)
+  pub latency_left : MayLeaveLatency with_latency r.version r.latency
   pub besides_left : MayLeaveBesides besides r.frames
-  pub lines : p ≡ head_lines with_room (scene_read r) ++ frames_lines all besides r.frames
+  pub lines : p ≡ head_lines with_room with_latency (scene_read r) ++ frames_lines all besides r.frames
 
 -- the lines up to a place within a last frame
 pub record Open (all : List Field) (beside : Bool) (f : SceneFrame) (p : List (List Field)) (r : Reading) : Type 0 where
   pub with_room : Bool
+  pub with_latency : Bool
   pub besides : List Bool
   pub closed : List SceneFrame
   pub room_left : MayLeaveRoom with_room (scene_read r)
+  pub latency_left : MayLeaveLatency with_latency r.version r.latency
   pub besides_left : MayLeaveBesides besides closed
   pub frames : r.frames ≡ closed ++ f ∷ []
-  pub lines : p ≡ head_lines with_room (scene_read r) ++ (frames_lines all besides closed ++ frame_lines all beside f)
+  pub lines : p ≡ head_lines with_room with_latency (scene_read r) ++ (frames_lines all besides closed ++ frame_lines all beside f)
 
 abbrev pub HasLast : List Block → Type 0
 HasLast blocks = (front : List Block) × (b : Block) × (blocks ≡ front ++ b ∷ [])
 
-abbrev pub scene_line : List Field
-scene_line = codes "scene" ∷ codes "1" ∷ []
+abbrev pub scene_line : ℕ → List Field
+scene_line version = codes "scene" ∷ decimal version ∷ []
 
 abbrev pub size_line : ℕ → ℕ → List Field
 size_line w h = codes "size" ∷ decimal w ∷ decimal h ∷ []
@@ -47,10 +51,11 @@ encoders_line n = codes "encoders" ∷ decimal n ∷ []
 -- the lines p, read to r, are what r spells, as far as its stage says
 abbrev pub SoFar : List Field → List (List Field) → Reading → Stage → Type 0
 SoFar all p r at_front = AtHead [] p r
-SoFar all p r at_size = AtHead (scene_line ∷ []) p r
-SoFar all p r at_encoders = AtHead (scene_line ∷ size_line r.width r.height ∷ []) p r
-SoFar all p r at_room = AtHead (scene_line ∷ size_line r.width r.height ∷ encoders_line r.encoders ∷ []) p r
-SoFar all p r at_first_frame = (p ≡ head_lines true (scene_read r)) × (r.frames ≡ [])
+SoFar all p r at_size = AtHead (scene_line r.version ∷ []) p r
+SoFar all p r at_encoders = AtHead (scene_line r.version ∷ size_line r.width r.height ∷ []) p r
+SoFar all p r at_room = AtHead (scene_line r.version ∷ size_line r.width r.height ∷ encoders_line r.encoders ∷ []) p r
+SoFar all p r at_latency = (p ≡ head_lines true false (scene_read r)) × (r.frames ≡ []) × (r.latency ≡ 1)
+SoFar all p r at_first_frame = (with_room : Bool) × (p ≡ head_lines with_room true (scene_read r)) × (r.frames ≡ []) × MayLeaveRoom with_room (scene_read r) × (says_latency r.version ≡ true)
 SoFar all p r in_before = (f : SceneFrame) × Open all false f p r × (f.blocks ≡ []) × (f.beside ≡ [])
 SoFar all p r in_block = (f : SceneFrame) × Open all false f p r × HasLast f.blocks × (f.beside ≡ [])
 SoFar all p r in_beside = (f : SceneFrame) × Open all true f p r
@@ -80,13 +85,15 @@ frames_more all (c ∷ bs) (g ∷ fs) b f l = ap (λ k. frame_lines all c g ++ k
 pub closing : (all : List Field) (beside : Bool) (f : SceneFrame) (p : List (List Field)) (r : Reading) → Open all beside f p r → (beside ≡ false → f.beside ≡ []) → Closed all p r
 closing all beside f p r o h = record {
   with_room = o.with_room;
+  with_latency = o.with_latency;
   besides = o.besides ++ beside ∷ [];
   room_left = o.room_left;
+  latency_left = o.latency_left;
   besides_left = subst (MayLeaveBesides (o.besides ++ beside ∷ [])) (sym o.frames) (left_more o.besides o.closed beside f o.besides_left h);
   lines =
       o.lines
-      ∙ ap (λ k. head_lines o.with_room (scene_read r) ++ k) (sym (frames_more all o.besides o.closed beside f o.besides_left))
-      ∙ ap (λ k. head_lines o.with_room (scene_read r) ++ frames_lines all (o.besides ++ beside ∷ []) k) (sym o.frames);
+      ∙ ap (λ k. head_lines o.with_room o.with_latency (scene_read r) ++ k) (sym (frames_more all o.besides o.closed beside f o.besides_left))
+      ∙ ap (λ k. head_lines o.with_room o.with_latency (scene_read r) ++ frames_lines all (o.besides ++ beside ∷ []) k) (sym o.frames);
 }
 
 -- ---- a frame is opened
@@ -94,12 +101,14 @@ closing all beside f p r o h = record {
 pub opening : (all : List Field) (p : List (List Field)) (r : Reading) → Closed all p r → Open all false empty_frame (p ++ (codes "frame" ∷ []) ∷ []) (with_new_frame r)
 opening all p r c = record {
   with_room = c.with_room;
+  with_latency = c.with_latency;
   besides = c.besides;
   closed = r.frames;
   room_left = c.room_left;
+  latency_left = c.latency_left;
   besides_left = c.besides_left;
   frames = refl;
-  lines = ap (λ k. k ++ (codes "frame" ∷ []) ∷ []) c.lines ∙ append_assoc (head_lines c.with_room (scene_read r)) (frames_lines all c.besides r.frames) ((codes "frame" ∷ []) ∷ []);
+  lines = ap (λ k. k ++ (codes "frame" ∷ []) ∷ []) c.lines ∙ append_assoc (head_lines c.with_room c.with_latency (scene_read r)) (frames_lines all c.besides r.frames) ((codes "frame" ∷ []) ∷ []);
 }
 
 -- ---- a frame has a line more
@@ -112,15 +121,17 @@ pub open_more : (all : List Field) (beside later : Bool) (f g : SceneFrame) (p :
     → frames ≡ o.closed ++ g ∷ [] → frame_lines all later g ≡ frame_lines all beside f ++ fs ∷ [] → Open all later g (p ++ fs ∷ []) (moved r stage names frames)
 open_more all beside later f g p fs r stage names frames o h e = record {
   with_room = o.with_room;
+  with_latency = o.with_latency;
   besides = o.besides;
   closed = o.closed;
   room_left = o.room_left;
+  latency_left = o.latency_left;
   besides_left = o.besides_left;
   frames = h;
   lines =
       ap (λ k. k ++ fs ∷ []) o.lines
-      ∙ append_assoc (head_lines o.with_room (scene_read r)) (frames_lines all o.besides o.closed ++ frame_lines all beside f) (fs ∷ [])
-      ∙ ap (λ k. head_lines o.with_room (scene_read r) ++ k) (append_assoc (frames_lines all o.besides o.closed) (frame_lines all beside f) (fs ∷ []) ∙ ap (λ k. frames_lines all o.besides o.closed ++ k) (sym e));
+      ∙ append_assoc (head_lines o.with_room o.with_latency (scene_read r)) (frames_lines all o.besides o.closed ++ frame_lines all beside f) (fs ∷ [])
+      ∙ ap (λ k. head_lines o.with_room o.with_latency (scene_read r) ++ k) (append_assoc (frames_lines all o.besides o.closed) (frame_lines all beside f) (fs ∷ []) ∙ ap (λ k. frames_lines all o.besides o.closed ++ k) (sym e));
 }
 
 -- what is added behind a frame's last part is added behind its lines

@@ -3,13 +3,14 @@ use Rattle.std.proofs.Common.{◌≡◌, ◌⊎◌, inr, nat_lt, ℕ, not, List,
 use Rattle.std.specs.Prelude.{codes, flat_map}
 use Rattle.std.specs.Fmt.{decimal}
 use Rattle.std.specs.List.{list_all}
-use Rattle.scene_model.specs.Scene.{ResourceLine, layout_line, vertex_buffer_line, index_buffer_line, texture_line, frame_buffer_line, program_line, uniform_line, update_line, texel_update_line, destroy_line, rect_line, view_scissor_line, clear_line, mode_line, target_line, view_transform_line, reset_line, order_line, EncoderLine, state_line, stencil_line, scissor_line, transform_line, vertices_line, indices_line, transient_vertices_line, transient_indices_line, bind_line, set_line, submit_line, touch_line, blit_line, Block}
+use Rattle.gfx_model.specs.Recorder.{Room}
+use Rattle.scene_model.specs.Scene.{ResourceLine, layout_line, vertex_buffer_line, index_buffer_line, texture_line, frame_buffer_line, program_line, uniform_line, update_line, texel_update_line, destroy_line, rect_line, view_scissor_line, clear_line, mode_line, target_line, view_transform_line, reset_line, order_line, EncoderLine, state_line, stencil_line, scissor_line, transform_line, vertices_line, indices_line, transient_vertices_line, transient_indices_line, bind_line, set_line, submit_line, touch_line, blit_line, Block, newest_version, views_in}
 use Rattle.scene_model.specs.Field.{Read, ◌>>=◌, bad_byte, misplaced_word, unknown_version, out_of_range, find_word, u8_number, number_in}
-use Rattle.scene_model.specs.Grammar.{Field, field, Word, scene_word, size_word, encoders_word, frame_word, encoder_word, layout_word, vertex_buffer_word, index_buffer_word, texture_word, frame_buffer_word, program_word, uniform_word, update_word, texel_update_word, destroy_word, view_word, order_word, state_word, stencil_word, scissor_word, transform_word, vertices_word, indices_word, transient_vertices_word, transient_indices_word, bind_word, set_word, submit_word, touch_word, blit_word, words, whole_language, Stage, in_before, in_block, at_room, Reading, at_stage, at_size, with_size, with_encoders, with_new_frame, on_last_frame, with_block, with_names, with_resource_line, with_encoder_line, unless, has_count, is_text_byte, is_other_version, is_in_place, are_filled_before, resource_form, encoder_form, after_resource, after_encoder_line, after_word, after_fields}
+use Rattle.scene_model.specs.Grammar.{Field, field, Word, scene_word, size_word, encoders_word, room_word, frame_word, encoder_word, layout_word, vertex_buffer_word, index_buffer_word, texture_word, frame_buffer_word, program_word, uniform_word, update_word, texel_update_word, destroy_word, view_word, order_word, state_word, stencil_word, scissor_word, transform_word, vertices_word, indices_word, transient_vertices_word, transient_indices_word, bind_word, set_word, submit_word, touch_word, blit_word, words, whole_language, Stage, in_before, in_block, at_room, at_latency, Reading, at_stage, with_version, with_size, with_encoders, with_room, with_new_frame, on_last_frame, with_block, with_names, with_resource_line, with_encoder_line, unless, has_count, is_text_byte, is_other_version, is_in_place, are_filled_before, room_form, resource_form, encoder_form, after_resource, after_encoder_line, after_word, after_fields}
 use Rattle.spelling_model.specs.LineSpelling.{resource_fields, encoder_fields, block_lines}
 use Rattle.spelling_model.proofs.Read.{bind_ok, same_ok}
 use Rattle.spelling_model.proofs.SoFar.{scene_line, size_line, encoders_line}
-use Rattle.spelling_model.proofs.Steps.{scene_form, size_form, encoders_form, frame_form}
+use Rattle.spelling_model.proofs.Steps.{scene_form, size_form, encoders_form, room_line_form, frame_form}
 use Rattle.spelling_model.proofs.FrameSteps.{encoder_line_form}
 use Rattle.spelling_model.proofs.ReadLines.{after_kept, read_fields}
 
@@ -46,7 +47,7 @@ kept_word r q fs w is e =
 resource_stage : (r q : Reading) (fs : List Field) (w : Word) → after_resource whole_language r fs w ≡ Ok q → q.stage ≡ r.stage
 unfolding after_resource
 resource_stage r q fs w e =
-    let l = bind_ok (resource_form whole_language r.names fs w) _ q e in
+    let l = bind_ok (resource_form whole_language (views_in r.version) r.names fs w) _ q e in
     let made : with_names l.0.1 (with_resource_line l.0.0 r) ≡ q = same_ok l.2 in
     ap (λ k. k.stage) (sym made)
 
@@ -142,37 +143,60 @@ blocks_stage names (b ∷ blocks) r q e h =
 
 -- ---- lines in front of the frames
 
-scene_room : (r q : Reading) (fs : List Field) → scene_form fs r ≡ Ok q → q.room ≡ r.room
-scene_room r q fs a =
-    let c = bind_ok (has_count 2 fs) _ q a in
-    let n = bind_ok (number_in 1 1 (field fs 1)) _ q c.2 in
-    let made : at_stage at_size r ≡ q = same_ok n.2 in
-    ap (λ k. k.room) (sym made)
+-- a reading has the room and the latency of another
+abbrev KeepsHead : Reading → Reading → Type 0
+KeepsHead r q = (q.room ≡ r.room) × (q.latency ≡ r.latency)
 
-size_room : (r q : Reading) (fs : List Field) → size_form fs r ≡ Ok q → q.room ≡ r.room
-size_room r q fs a =
+-- the version is the one that its field says
+abbrev pub HasVersion : List ℕ → Reading → Type 0
+HasVersion f q = number_in 1 newest_version f ≡ Ok q.version
+
+scene_keeps : (r q : Reading) (fs : List Field) → scene_form fs r ≡ Ok q → KeepsHead r q × HasVersion (field fs 1) q
+scene_keeps r q fs a =
+    let c = bind_ok (has_count 2 fs) _ q a in
+    let n = bind_ok (number_in 1 newest_version (field fs 1)) _ q c.2 in
+    let made : with_version n.0 r ≡ q = same_ok n.2 in
+    ((ap (λ k. k.room) (sym made), ap (λ k. k.latency) (sym made)), n.1 ∙ (λ i. Ok (made i).version))
+
+size_keeps : (r q : Reading) (fs : List Field) → size_form fs r ≡ Ok q → KeepsHead r q × (q.version ≡ r.version)
+size_keeps r q fs a =
     let c = bind_ok (has_count 3 fs) _ q a in
     let m = bind_ok (number_in 1 2048 (field fs 1)) _ q c.2 in
     let n = bind_ok (number_in 1 2048 (field fs 2)) _ q m.2 in
     let made : with_size m.0 n.0 r ≡ q = same_ok n.2 in
-    ap (λ k. k.room) (sym made)
+    ((ap (λ k. k.room) (sym made), ap (λ k. k.latency) (sym made)), ap (λ k. k.version) (sym made))
 
-encoders_room : (r q : Reading) (fs : List Field) → encoders_form fs r ≡ Ok q → (q.room ≡ r.room) × (q.stage ≡ at_room)
-encoders_room r q fs a =
+encoders_keeps : (r q : Reading) (fs : List Field) → encoders_form fs r ≡ Ok q → KeepsHead r q × (q.version ≡ r.version) × (q.stage ≡ at_room)
+encoders_keeps r q fs a =
     let c = bind_ok (has_count 2 fs) _ q a in
     let m = bind_ok (number_in 1 8 (field fs 1)) _ q c.2 in
     let made : with_encoders m.0 r ≡ q = same_ok m.2 in
-    (ap (λ k. k.room) (sym made), ap (λ k. k.stage) (sym made))
+    ((ap (λ k. k.room) (sym made), ap (λ k. k.latency) (sym made)), ap (λ k. k.version) (sym made), ap (λ k. k.stage) (sym made))
 
--- behind the first three lines the room is still that before them
-pub head_room : (r q : Reading) (w h n : ℕ) → read_fields r (scene_line ∷ size_line w h ∷ encoders_line n ∷ []) ≡ Ok q → (q.room ≡ r.room) × (q.stage ≡ at_room)
+room_keeps : (r q : Reading) (fs : List Field) → room_line_form fs r ≡ Ok q → (q.latency ≡ r.latency) × (q.version ≡ r.version) × (q.stage ≡ at_latency)
+room_keeps r q fs a =
+    let room = bind_ok (room_form fs) _ q a in
+    let made : with_room room.0 r ≡ q = same_ok room.2 in
+    (ap (λ k. k.latency) (sym made), ap (λ k. k.version) (sym made), ap (λ k. k.stage) (sym made))
+
+-- behind the first three lines a reading has the version that they say, and the room and the latency that it had
+pub head_keeps : (r q : Reading) (version w h n : ℕ) → read_fields r (scene_line version ∷ size_line w h ∷ encoders_line n ∷ []) ≡ Ok q → KeepsHead r q × HasVersion (decimal version) q × (q.stage ≡ at_room)
 unfolding after_word
-head_room r q w h n e =
-    let a = bind_ok (after_kept r scene_line) _ q e in
+head_keeps r q version w h n e =
+    let a = bind_ok (after_kept r (scene_line version)) _ q e in
     let b = bind_ok (after_kept a.0 (size_line w h)) _ q a.2 in
     let c = bind_ok (after_kept b.0 (encoders_line n)) _ q b.2 in
     let same : c.0 ≡ q = same_ok c.2 in
-    let first = scene_room r a.0 scene_line (kept_word r a.0 scene_line scene_word refl a.1) in
-    let second = size_room a.0 b.0 (size_line w h) (kept_word a.0 b.0 (size_line w h) size_word refl b.1) in
-    let third = encoders_room b.0 c.0 (encoders_line n) (kept_word b.0 c.0 (encoders_line n) encoders_word refl c.1) in
-    (ap (λ k. k.room) (sym same) ∙ third.0 ∙ second ∙ first, ap (λ k. k.stage) (sym same) ∙ third.1)
+    let first = scene_keeps r a.0 (scene_line version) (kept_word r a.0 (scene_line version) scene_word refl a.1) in
+    let second = size_keeps a.0 b.0 (size_line w h) (kept_word a.0 b.0 (size_line w h) size_word refl b.1) in
+    let third = encoders_keeps b.0 c.0 (encoders_line n) (kept_word b.0 c.0 (encoders_line n) encoders_word refl c.1) in
+    let version' : c.0.version ≡ a.0.version = third.1 ∙ second.1 in
+    subst (λ q. KeepsHead r q × HasVersion (decimal version) q × (q.stage ≡ at_room)) same
+    ((third.0.0 ∙ second.0.0 ∙ first.0.0, third.0.1 ∙ second.0.1 ∙ first.0.1), first.1 ∙ (λ i. Ok (sym version' i)), third.2)
+
+-- behind the `room` line too, but for the room
+pub room_line_keeps : (r q : Reading) (room : Room) → after_kept r (codes "room" ∷ decimal room.items ∷ decimal room.bytes ∷ decimal room.uniforms ∷ []) ≡ Ok q → (q.latency ≡ r.latency) × (q.version ≡ r.version) × (q.stage ≡ at_latency)
+unfolding after_word
+room_line_keeps r q room e =
+    let fs = codes "room" ∷ decimal room.items ∷ decimal room.bytes ∷ decimal room.uniforms ∷ [] in
+    room_keeps r q fs (kept_word r q fs room_word refl e)

@@ -1,14 +1,16 @@
 -- One line more, in front of the frames and at their ends: where the lines so far are what the reading spells, so they are behind the next line.
-use Rattle.std.proofs.Common.{◌≡◌, ◌≤◌, nat_lt, ℕ, Bool, true, false, List, [], ◌∷◌, ◌++◌, length, lit<, Ok, refl, ap, subst, sym, ◌∙◌, arith}
+use Rattle.std.proofs.Common.{◌≡◌, nat_lt, ℕ, Bool, true, false, List, [], ◌∷◌, ◌++◌, length, lit<, Ok, refl, ap, subst, sym, ◌∙◌}
 use Rattle.std.specs.Prelude.{codes}
-use Rattle.std.specs.Fmt.{decimal, digits}
+use Rattle.std.specs.Fmt.{decimal}
 use Rattle.gfx_model.specs.Recorder.{Room}
+use Rattle.std.proofs.lemmas.List.{append-nil}
+use Rattle.scene_model.specs.Scene.{newest_version, greatest_latency}
 use Rattle.scene_model.specs.Field.{Read, ◌>>=◌, number_in, number_to, out_of_range}
-use Rattle.scene_model.specs.Grammar.{Field, field, scene_word, size_word, encoders_word, room_word, frame_word, done_word, Stage, at_front, at_size, at_encoders, at_room, at_first_frame, in_before, in_block, in_beside, at_end, can_stand, Reading, plain_room, empty_frame, at_stage, with_size, with_encoders, with_room, with_new_frame, scene_read, has_count, unless, room_form}
-use Rattle.spelling_model.specs.LineSpelling.{head_lines}
-use Rattle.spelling_model.specs.Spelling.{MayLeaveBesides}
+use Rattle.scene_model.specs.Grammar.{Field, field, scene_word, size_word, encoders_word, room_word, latency_word, frame_word, done_word, Stage, at_front, at_size, at_encoders, at_room, at_latency, at_first_frame, in_before, in_block, in_beside, at_end, can_stand, Reading, says_latency, empty_frame, at_stage, with_version, with_size, with_encoders, with_room, with_latency, with_new_frame, scene_read, has_count, unless, room_form}
+use Rattle.spelling_model.specs.LineSpelling.{latency_lines, frames_lines, head_lines}
+use Rattle.spelling_model.specs.Spelling.{MayLeaveRoom, MayLeaveLatency, MayLeaveBesides}
 use Rattle.spelling_model.proofs.Read.{bind_ok, same_ok, count_ok}
-use Rattle.spelling_model.proofs.Numbers.{number_takes, number_bound}
+use Rattle.spelling_model.proofs.Numbers.{number_takes}
 use Rattle.spelling_model.proofs.Names.{IsPrefix, same_prefix, texts}
 use Rattle.spelling_model.proofs.SoFar.{AtHead, Closed, Open, SoFar, scene_line, size_line, encoders_line, closing, opening}
 
@@ -20,8 +22,8 @@ StepTakes fs r q = IsPrefix (texts r.names) (texts q.names) × ((all : List Fiel
 abbrev pub scene_form : List Field → Reading → Read Reading
 scene_form fs r = do
   _ ← has_count 2 fs
-  n ← number_in 1 1 (field fs 1)
-  Ok (at_stage at_size r)
+  n ← number_in 1 newest_version (field fs 1)
+  Ok (with_version n r)
 
 abbrev pub size_form : List Field → Reading → Read Reading
 size_form fs r = do
@@ -41,6 +43,12 @@ room_line_form fs r = do
   room ← room_form fs
   Ok (with_room room r)
 
+abbrev pub latency_form : List Field → Reading → Read Reading
+latency_form fs r = do
+  _ ← has_count 2 fs
+  n ← number_in 1 greatest_latency (field fs 1)
+  Ok (with_latency n r)
+
 abbrev pub frame_form : List Field → Reading → Read Reading
 frame_form fs r = do
   _ ← has_count 1 fs
@@ -59,61 +67,61 @@ front_here all p r at_front c so = so
 front_here all p r at_size c so = absurd (cc c)
 front_here all p r at_encoders c so = absurd (cc c)
 front_here all p r at_room c so = absurd (cc c)
+front_here all p r at_latency c so = absurd (cc c)
 front_here all p r at_first_frame c so = absurd (cc c)
 front_here all p r in_before c so = absurd (cc c)
 front_here all p r in_block c so = absurd (cc c)
 front_here all p r in_beside c so = absurd (cc c)
 front_here all p r at_end c so = absurd (cc c)
 
-size_here : (all : List Field) (p : List (List Field)) (r : Reading) (st : Stage) → can_stand st size_word ≡ true → SoFar all p r st → AtHead (scene_line ∷ []) p r
+size_here : (all : List Field) (p : List (List Field)) (r : Reading) (st : Stage) → can_stand st size_word ≡ true → SoFar all p r st → AtHead (scene_line r.version ∷ []) p r
 size_here all p r at_size c so = so
 size_here all p r at_front c so = absurd (cc c)
 size_here all p r at_encoders c so = absurd (cc c)
 size_here all p r at_room c so = absurd (cc c)
+size_here all p r at_latency c so = absurd (cc c)
 size_here all p r at_first_frame c so = absurd (cc c)
 size_here all p r in_before c so = absurd (cc c)
 size_here all p r in_block c so = absurd (cc c)
 size_here all p r in_beside c so = absurd (cc c)
 size_here all p r at_end c so = absurd (cc c)
 
-encoders_here : (all : List Field) (p : List (List Field)) (r : Reading) (st : Stage) → can_stand st encoders_word ≡ true → SoFar all p r st → AtHead (scene_line ∷ size_line r.width r.height ∷ []) p r
+encoders_here : (all : List Field) (p : List (List Field)) (r : Reading) (st : Stage) → can_stand st encoders_word ≡ true → SoFar all p r st → AtHead (scene_line r.version ∷ size_line r.width r.height ∷ []) p r
 encoders_here all p r at_encoders c so = so
 encoders_here all p r at_front c so = absurd (cc c)
 encoders_here all p r at_size c so = absurd (cc c)
 encoders_here all p r at_room c so = absurd (cc c)
+encoders_here all p r at_latency c so = absurd (cc c)
 encoders_here all p r at_first_frame c so = absurd (cc c)
 encoders_here all p r in_before c so = absurd (cc c)
 encoders_here all p r in_block c so = absurd (cc c)
 encoders_here all p r in_beside c so = absurd (cc c)
 encoders_here all p r at_end c so = absurd (cc c)
 
-room_here : (all : List Field) (p : List (List Field)) (r : Reading) (st : Stage) → can_stand st room_word ≡ true → SoFar all p r st → AtHead (scene_line ∷ size_line r.width r.height ∷ encoders_line r.encoders ∷ []) p r
+room_here : (all : List Field) (p : List (List Field)) (r : Reading) (st : Stage) → can_stand st room_word ≡ true → SoFar all p r st → AtHead (scene_line r.version ∷ size_line r.width r.height ∷ encoders_line r.encoders ∷ []) p r
 room_here all p r at_room c so = so
 room_here all p r at_front c so = absurd (cc c)
 room_here all p r at_size c so = absurd (cc c)
 room_here all p r at_encoders c so = absurd (cc c)
+room_here all p r at_latency c so = absurd (cc c)
 room_here all p r at_first_frame c so = absurd (cc c)
 room_here all p r in_before c so = absurd (cc c)
 room_here all p r in_block c so = absurd (cc c)
 room_here all p r in_beside c so = absurd (cc c)
 room_here all p r at_end c so = absurd (cc c)
 
-one_is : (n : ℕ) → (1 ≤ n) × (n ≤ 1) → decimal n ≡ codes "1"
-unfolding digits
-one_is n h = let e : n ≡ 1 = omega (arith, h) in ap decimal e
-
 pub scene_step : (fs : List Field) (r q : Reading) → scene_form fs r ≡ Ok q → can_stand r.stage scene_word ≡ true → field fs 0 ≡ codes "scene" → StepTakes fs r q
 scene_step fs r q e place word =
     let c = bind_ok (has_count 2 fs) _ q e in
-    let n = bind_ok (number_in 1 1 (field fs 1)) _ q c.2 in
-    let made : at_stage at_size r ≡ q = same_ok n.2 in
-    let s1 : field fs 1 ≡ codes "1" = number_takes 1 1 (field fs 1) n.0 (lit< tt) n.1 ∙ one_is n.0 (number_bound 1 1 (field fs 1) n.0 n.1) in
-    let own : fs ≡ scene_line = count_ok 2 fs c.0 c.1 ∙ (λ i. word i ∷ s1 i ∷ []) in
+    let n = bind_ok (number_in 1 newest_version (field fs 1)) _ q c.2 in
+    let made : with_version n.0 r ≡ q = same_ok n.2 in
+    let s1 : field fs 1 ≡ decimal n.0 = number_takes 1 newest_version (field fs 1) n.0 (lit< tt) n.1 in
+    let own : fs ≡ scene_line n.0 = count_ok 2 fs c.0 c.1 ∙ (λ i. word i ∷ s1 i ∷ []) in
     subst (StepTakes fs r) made (
       same_prefix (texts r.names),
       λ all old p so.
           let h = front_here all p r r.stage place so in
-          (λ i. h.0 i ++ own i ∷ [], h.1, h.2),
+          (λ i. h.0 i ++ own i ∷ [], h.1, h.2, h.3),
     )
 
 pub size_step : (fs : List Field) (r q : Reading) → size_form fs r ≡ Ok q → can_stand r.stage size_word ≡ true → field fs 0 ≡ codes "size" → StepTakes fs r q
@@ -129,7 +137,7 @@ size_step fs r q e place word =
       same_prefix (texts r.names),
       λ all old p so.
           let h = size_here all p r r.stage place so in
-          (λ i. h.0 i ++ own i ∷ [], h.1, h.2),
+          (λ i. h.0 i ++ own i ∷ [], h.1, h.2, h.3),
     )
 
 pub encoders_step : (fs : List Field) (r q : Reading) → encoders_form fs r ≡ Ok q → can_stand r.stage encoders_word ≡ true → field fs 0 ≡ codes "encoders" → StepTakes fs r q
@@ -143,7 +151,7 @@ encoders_step fs r q e place word =
       same_prefix (texts r.names),
       λ all old p so.
           let h = encoders_here all p r r.stage place so in
-          (λ i. h.0 i ++ own i ∷ [], h.1, h.2),
+          (λ i. h.0 i ++ own i ∷ [], h.1, h.2, h.3),
     )
 
 abbrev room_line : Room → List Field
@@ -170,17 +178,60 @@ room_step fs r q e place word =
       same_prefix (texts r.names),
       λ all old p so.
           let h = room_here all p r r.stage place so in
-          (λ i. h.0 i ++ own i ∷ [], h.1),
+          (λ i. h.0 i ++ own i ∷ [], h.1, h.3),
+    )
+
+-- where a `latency` line may stand: behind the encoders or the room
+abbrev BeforeLatency : List (List Field) → Reading → Type 0
+BeforeLatency p r = (with_room : Bool) × (p ≡ head_lines with_room false (scene_read r)) × (r.frames ≡ []) × MayLeaveRoom with_room (scene_read r)
+
+latency_here : (all : List Field) (p : List (List Field)) (r : Reading) (st : Stage) → can_stand st latency_word ≡ true → SoFar all p r st → BeforeLatency p r
+latency_here all p r at_room c so = (false, so.0, so.1, λ e. so.2)
+latency_here all p r at_latency c so = (true, so.0, so.1, λ e. absurd (cc e))
+latency_here all p r at_front c so = absurd (cc c)
+latency_here all p r at_size c so = absurd (cc c)
+latency_here all p r at_encoders c so = absurd (cc c)
+latency_here all p r at_first_frame c so = absurd (cc c)
+latency_here all p r in_before c so = absurd (cc c)
+latency_here all p r in_block c so = absurd (cc c)
+latency_here all p r in_beside c so = absurd (cc c)
+latency_here all p r at_end c so = absurd (cc c)
+
+latency_behind : (with_room : Bool) (r : Reading) (n : ℕ) → head_lines with_room false (scene_read r) ++ latency_lines true n ≡ head_lines with_room true (scene_read (with_latency n r))
+latency_behind true r n = refl
+latency_behind false r n = refl
+
+pub latency_step : (fs : List Field) (r q : Reading) → latency_form fs r ≡ Ok q → can_stand r.stage latency_word ≡ true → says_latency r.version ≡ true → field fs 0 ≡ codes "latency" → StepTakes fs r q
+latency_step fs r q e place says word =
+    let c = bind_ok (has_count 2 fs) _ q e in
+    let n = bind_ok (number_in 1 greatest_latency (field fs 1)) _ q c.2 in
+    let made : with_latency n.0 r ≡ q = same_ok n.2 in
+    let s1 : field fs 1 ≡ decimal n.0 = number_takes 1 greatest_latency (field fs 1) n.0 (lit< tt) n.1 in
+    let own : fs ≡ codes "latency" ∷ decimal n.0 ∷ [] = count_ok 2 fs c.0 c.1 ∙ (λ i. word i ∷ s1 i ∷ []) in
+    subst (StepTakes fs r) made (
+      same_prefix (texts r.names),
+      λ all old p so.
+          let h = latency_here all p r r.stage place so in
+          (h.0, (λ i. h.1 i ++ own i ∷ []) ∙ latency_behind h.0 r n.0, h.2, h.3, says),
     )
 
 -- ---- the ends of frames
 
-no_frames : (all : List Field) (p : List (List Field)) (r : Reading) (with_line : Bool) → (with_line ≡ false → r.room ≡ plain_room) → p ≡ head_lines with_line (scene_read r) ++ [] → r.frames ≡ [] → Closed all p r
-no_frames all p r with_line left lines none = record { with_room = with_line; besides = []; room_left = left; besides_left = subst (MayLeaveBesides []) (sym none) tt; lines = lines }
+no_frames : (all : List Field) (p : List (List Field)) (r : Reading) (with_room with_latency : Bool) → MayLeaveRoom with_room (scene_read r) → MayLeaveLatency with_latency r.version r.latency → p ≡ head_lines with_room with_latency (scene_read r) → r.frames ≡ [] → Closed all p r
+no_frames all p r with_room with_latency room latency lines none = record {
+  with_room = with_room;
+  with_latency = with_latency;
+  besides = [];
+  room_left = room;
+  latency_left = latency;
+  besides_left = subst (MayLeaveBesides []) (sym none) tt;
+  lines = lines ∙ sym (append-nil (head_lines with_room with_latency (scene_read r))) ∙ ap (λ k. head_lines with_room with_latency (scene_read r) ++ frames_lines all [] k) (sym none);
+}
 
 closed_here : (all : List Field) (p : List (List Field)) (r : Reading) (st : Stage) → can_stand st frame_word ≡ true → SoFar all p r st → Closed all p r
-closed_here all p r at_room c so = no_frames all p r false (λ e. so.2) so.0 so.1
-closed_here all p r at_first_frame c so = no_frames all p r true (λ e. absurd (cc e)) so.0 so.1
+closed_here all p r at_room c so = no_frames all p r false false (λ e. so.2) so.3 so.0 so.1
+closed_here all p r at_latency c so = no_frames all p r true false (λ e. absurd (cc e)) so.2 so.0 so.1
+closed_here all p r at_first_frame c so = no_frames all p r so.0 true so.3 so.4 so.1 so.2
 closed_here all p r in_before c so = closing all false so.0 p r so.1 (λ e. so.3)
 closed_here all p r in_block c so = closing all false so.0 p r so.1 (λ e. so.3)
 closed_here all p r in_beside c so = closing all true so.0 p r so.1 (λ e. absurd (cc e))
@@ -195,6 +246,7 @@ frame_too in_before c = refl
 frame_too in_block c = refl
 frame_too in_beside c = refl
 frame_too at_room c = refl
+frame_too at_latency c = refl
 frame_too at_first_frame c = refl
 frame_too at_front c = c
 frame_too at_size c = c
@@ -223,5 +275,5 @@ done_step fs r q e place word =
       same_prefix (texts r.names),
       λ all old p so.
           let k = closed_here all p r r.stage (frame_too r.stage place) so in
-          (p, record { with_room = k.with_room; besides = k.besides; room_left = k.room_left; besides_left = k.besides_left; lines = k.lines }, λ i. p ++ own i ∷ []),
+          (p, record { with_room = k.with_room; with_latency = k.with_latency; besides = k.besides; room_left = k.room_left; latency_left = k.latency_left; besides_left = k.besides_left; lines = k.lines }, λ i. p ++ own i ∷ []),
     )

@@ -7,7 +7,7 @@ use Rattle.gfx_model.specs.Words.{Format, ProgramKind, UniformKind}
 use Rattle.gfx_model.specs.Vertex.{Attribute, ComponentType}
 use Rattle.gfx_model.specs.Views.{ViewMode}
 use Rattle.scene_model.specs.Field.{find_word, word_in, or_misspelt, formats, programs, uniform_kinds, modes, destinations, attributes, component_types}
-use Rattle.scene_model.specs.Grammar.{Field, words, settings, Word, scene_word, size_word, encoders_word, room_word, frame_word, encoder_word, beside_word, done_word, journal_word, layout_word, vertex_buffer_word, index_buffer_word, texture_word, frame_buffer_word, program_word, uniform_word, update_word, texel_update_word, destroy_word, view_word, order_word, state_word, stencil_word, scissor_word, transform_word, vertices_word, indices_word, transient_vertices_word, transient_indices_word, bind_word, set_word, submit_word, touch_word, blit_word, Setting, rect_setting, scissor_setting, clear_setting, mode_setting, target_setting, transform_setting, reset_setting}
+use Rattle.scene_model.specs.Grammar.{Field, words, settings, Word, scene_word, size_word, encoders_word, room_word, latency_word, frame_word, encoder_word, beside_word, done_word, journal_word, layout_word, vertex_buffer_word, index_buffer_word, texture_word, frame_buffer_word, program_word, uniform_word, update_word, texel_update_word, destroy_word, view_word, order_word, state_word, stencil_word, scissor_word, transform_word, vertices_word, indices_word, transient_vertices_word, transient_indices_word, bind_word, set_word, submit_word, touch_word, blit_word, Setting, rect_setting, scissor_setting, clear_setting, mode_setting, target_setting, transform_setting, reset_setting}
 use Rattle.spelling_model.specs.FieldSpelling as field_spelling
 use Rattle.spelling_model.proofs.Read.{both}
 
@@ -73,6 +73,7 @@ word_text scene_word = codes "scene"
 word_text size_word = codes "size"
 word_text encoders_word = codes "encoders"
 word_text room_word = codes "room"
+word_text latency_word = codes "latency"
 word_text frame_word = codes "frame"
 word_text encoder_word = codes "encoder"
 word_text beside_word = codes "beside"

@@ -1,13 +1,13 @@
 -- What is written of a readable scene is read as that scene.
-use Rattle.std.proofs.Common.{◌≡◌, ℕ, eqb-true, Bool, true, false, not, ◌==◌, List, [], ◌∷◌, ◌++◌, map, length, refl, subst, sym}
+use Rattle.std.proofs.Common.{◌≡◌, ℕ, eqb-true, Bool, true, false, not, ◌==◌, List, [], ◌∷◌, ◌++◌, map, length, refl, subst, sym, ◌∙◌}
 use Rattle.std.specs.Prelude.{codes, flat_map}
 use Rattle.std.specs.Fmt.{digits}
 use Rattle.std.proofs.lemmas.List.{nil_from_length}
 use Rattle.gfx_model.specs.Recorder.{Room}
 use Rattle.scene_model.specs.Scene.{ResourceLine, SceneFrame, Scene}
-use Rattle.scene_model.specs.Grammar.{Field, plain_room}
-use Rattle.spelling_model.specs.LineSpelling.{resource_fields, block_lines, beside_lines, frame_lines, frames_lines, room_lines, head_lines, spelled_lines}
-use Rattle.spelling_model.specs.Spelling.{MayLeaveRoom, MayLeaveBesides, Spells}
+use Rattle.scene_model.specs.Grammar.{Field, plain_room, says_latency}
+use Rattle.spelling_model.specs.LineSpelling.{resource_fields, block_lines, beside_lines, frame_lines, frames_lines, room_lines, latency_lines, head_lines, spelled_lines}
+use Rattle.spelling_model.specs.Spelling.{MayLeaveRoom, MayLeaveLatency, MayLeaveBesides, Spells}
 use Rattle.spelling_model.specs.Written.{scene_text, has_beside, WritingLaw}
 use Rattle.spelling_model.proofs.LineTexts.{IsLine, AreLines, lines_apart, lines_joined, lines_of_text, text_of_lines}
 use Rattle.spelling_model.proofs.Reading.{reading-law}
@@ -44,23 +44,33 @@ room_too room a false left h = tt
 room_too room true true left h = h
 room_too room false true left h = subst (λ r. AreLines (room_lines true r)) (sym (left refl)) room_is_line
 
-scene_too : (s : Scene) (a b : Bool) (given wanted : List Bool) → MayLeaveRoom a s → MayLeaveBesides given s.frames → AreLines (spelled_lines a given s) → AreLines (spelled_lines b wanted s)
-scene_too s a b given wanted room left h =
+latency_is_line : AreLines (latency_lines true 1)
+unfolding digits
+latency_is_line = ((codes "latency 1", refl, refl, refl), tt)
+
+latency_too : (s : Scene) (a b : Bool) → MayLeaveLatency a s.version s.latency → AreLines (latency_lines a s.latency) → AreLines (latency_lines b s.latency)
+latency_too s a false left h = tt
+latency_too s true true left h = h
+latency_too s false true left h = subst (λ n. AreLines (latency_lines true n)) (sym left) latency_is_line
+
+scene_too : (s : Scene) (a b l m : Bool) (given wanted : List Bool) → MayLeaveRoom a s → MayLeaveLatency l s.version s.latency → MayLeaveBesides given s.frames → AreLines (spelled_lines a l given s) → AreLines (spelled_lines b m wanted s)
+scene_too s a b l m given wanted room latency left h =
     let end = frames_lines s.names given s.frames ++ (codes "done" ∷ []) ∷ [] in
-    let head = lines_apart (head_lines a s) end h in
+    let head = lines_apart (head_lines a l s) end h in
+    let more = lines_apart (room_lines a s.room) (latency_lines l s.latency) head.0.1.1.1 in
     let frames = lines_apart (frames_lines s.names given s.frames) ((codes "done" ∷ []) ∷ []) head.1 in
-    let front : AreLines (head_lines b s) = (head.0.0, (head.0.1.0, (head.0.1.1.0, room_too s.room a b room head.0.1.1.1))) in
-    lines_joined (head_lines b s) (frames_lines s.names wanted s.frames ++ (codes "done" ∷ []) ∷ []) front
+    let front : AreLines (head_lines b m s) = (head.0.0, (head.0.1.0, (head.0.1.1.0, lines_joined (room_lines b s.room) (latency_lines m s.latency) (room_too s.room a b room more.0) (latency_too s l m latency more.1)))) in
+    lines_joined (head_lines b m s) (frames_lines s.names wanted s.frames ++ (codes "done" ∷ []) ∷ []) front
     (lines_joined (frames_lines s.names wanted s.frames) ((codes "done" ∷ []) ∷ []) (frames_too s.names given wanted s.frames left frames.0) frames.1)
 
 -- ---- the law
 
-text_spells : (s : Scene) (text : List ℕ) → Spells text s → (with_room : Bool) (besides : List Bool) → MayLeaveRoom with_room s → MayLeaveBesides besides s.frames → Spells (scene_text with_room besides s) s
-text_spells s text k with_room besides room left =
-    let own : AreLines (spelled_lines k.1.with_room k.1.besides s) = subst AreLines k.1.spelled (lines_of_text text) in
-    let lines = scene_too s k.1.with_room with_room k.1.besides besides k.1.room_left k.1.besides_left own in
-    let t = text_of_lines (spelled_lines with_room besides s) lines in
-    (t.0, record { with_room = with_room; besides = besides; room_left = room; besides_left = left; spelled = t.1 })
+text_spells : (s : Scene) (text : List ℕ) → Spells text s → (with_room with_latency : Bool) (besides : List Bool) → MayLeaveRoom with_room s → MayLeaveLatency with_latency s.version s.latency → MayLeaveBesides besides s.frames → Spells (scene_text with_room with_latency besides s) s
+text_spells s text k with_room with_latency besides room latency left =
+    let own : AreLines (spelled_lines k.1.with_room k.1.with_latency k.1.besides s) = subst AreLines k.1.spelled (lines_of_text text) in
+    let lines = scene_too s k.1.with_room with_room k.1.with_latency with_latency k.1.besides besides k.1.room_left k.1.latency_left k.1.besides_left own in
+    let t = text_of_lines (spelled_lines with_room with_latency besides s) lines in
+    (t.0, record { with_room = with_room; with_latency = with_latency; besides = besides; room_left = room; latency_left = latency; besides_left = left; spelled = t.1 })
 
 -- `beside` is written where lines follow it
 written_left : (frames : List SceneFrame) → MayLeaveBesides (map has_beside frames) frames
@@ -71,9 +81,19 @@ written_left (f ∷ frames) = (by (length f.beside == 0) refl, written_left fram
     by true h e = nil_from_length f.beside (eqb-true _ _ h)
     by false h e = absurd (cc e)
 
+-- `latency` is written wherever it may stand: where it may not, the text that is read has none, and so the latency is 1
+written_latency : (s : Scene) (b : Bool) → MayLeaveLatency b s.version s.latency → MayLeaveLatency (says_latency s.version) s.version s.latency
+written_latency s b left = by (says_latency s.version) refl b left
+  where
+    by : (c : Bool) → says_latency s.version ≡ c → (b : Bool) → MayLeaveLatency b s.version s.latency → MayLeaveLatency c s.version s.latency
+    by true says b left = says
+    by false says false left = left
+    by false says true left = absurd (cc (sym left ∙ says))
+
 pub writing-law : WritingLaw
 writing-law s r =
     let spells = ((reading-law s r.0).0 r.1).1 in (
-      λ with_room besides room left. (reading-law s (scene_text with_room besides s)).1 (r, text_spells s r.0 spells with_room besides room left),
-      (reading-law s (scene_text true (map has_beside s.frames) s)).1 (r, text_spells s r.0 spells true (map has_beside s.frames) (λ e. absurd (cc e)) (written_left s.frames)),
+      λ with_room with_latency besides room latency left. (reading-law s (scene_text with_room with_latency besides s)).1 (r, text_spells s r.0 spells with_room with_latency besides room latency left),
+      (reading-law s (scene_text true (says_latency s.version) (map has_beside s.frames) s)).1
+          (r, text_spells s r.0 spells true (says_latency s.version) (map has_beside s.frames) (λ e. absurd (cc e)) (written_latency s spells.1.with_latency spells.1.latency_left) (written_left s.frames)),
     )

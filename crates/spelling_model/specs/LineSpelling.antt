@@ -91,11 +91,17 @@ abbrev pub room_lines : Bool → Room → List (List Field)
 room_lines false room = []
 room_lines true room = (codes "room" ∷ decimal room.items ∷ decimal room.bytes ∷ decimal room.uniforms ∷ []) ∷ []
 
--- the lines in front of the frames
-abbrev pub head_lines : Bool → Scene → List (List Field)
-head_lines with_room s =
-    (codes "scene" ∷ codes "1" ∷ []) ∷ (codes "size" ∷ decimal s.width ∷ decimal s.height ∷ []) ∷ (codes "encoders" ∷ decimal s.encoders ∷ []) ∷ room_lines with_room s.room
+-- the `latency` line, where it is written
+abbrev pub latency_lines : Bool → ℕ → List (List Field)
+latency_lines false latency = []
+latency_lines true latency = (codes "latency" ∷ decimal latency ∷ []) ∷ []
 
--- all lines of a scene, with or without its `room` line and its `beside` lines
-abbrev pub spelled_lines : Bool → List Bool → Scene → List (List Field)
-spelled_lines with_room besides s = head_lines with_room s ++ (frames_lines s.names besides s.frames ++ (codes "done" ∷ []) ∷ [])
+-- the lines in front of the frames
+abbrev pub head_lines : (with_room with_latency : Bool) → Scene → List (List Field)
+head_lines with_room with_latency s =
+    (codes "scene" ∷ decimal s.version ∷ []) ∷ (codes "size" ∷ decimal s.width ∷ decimal s.height ∷ []) ∷ (codes "encoders" ∷ decimal s.encoders ∷ [])
+    ∷ (room_lines with_room s.room ++ latency_lines with_latency s.latency)
+
+-- all lines of a scene, with or without its `room` line, its `latency` line and its `beside` lines
+abbrev pub spelled_lines : (with_room with_latency : Bool) → List Bool → Scene → List (List Field)
+spelled_lines with_room with_latency besides s = head_lines with_room with_latency s ++ (frames_lines s.names besides s.frames ++ (codes "done" ∷ []) ∷ [])

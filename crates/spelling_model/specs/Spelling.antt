@@ -1,8 +1,8 @@
 -- Which text is which scene, said by what its lines spell; and that it is just what the reader takes.
-use Rattle.std.specs.Prelude.{◌≡◌, ◌↔◌, ℕ, Bool, false, not, List, [], ◌∷◌, ◌++◌, map, filter, Ok, ⊤}
+use Rattle.std.specs.Prelude.{◌≡◌, ◌↔◌, ℕ, Bool, true, false, not, List, [], ◌∷◌, ◌++◌, map, filter, Ok, ⊤}
 use Rattle.scene_model.specs.Scene.{SceneFrame, Scene}
 use Rattle.scene_model.specs.Field.{split_at}
-use Rattle.scene_model.specs.Grammar.{Field, is_skipped, plain_room, scene_of, whole_language}
+use Rattle.scene_model.specs.Grammar.{Field, is_skipped, plain_room, says_latency, scene_of, whole_language}
 use Rattle.spelling_model.specs.LineSpelling.{spelled_lines}
 
 -- the fields of each line that is not skipped
@@ -17,6 +17,11 @@ IsEnded bytes = (lines : List (List ℕ)) × (split_at 10 bytes ≡ lines ++ [] 
 abbrev pub MayLeaveRoom : Bool → Scene → Type 0
 MayLeaveRoom with_room s = with_room ≡ false → s.room ≡ plain_room
 
+-- a `latency` line stands where the version says latency, and may be left out where the latency is 1
+abbrev pub MayLeaveLatency : Bool → (version latency : ℕ) → Type 0
+MayLeaveLatency true version latency = says_latency version ≡ true
+MayLeaveLatency false version latency = latency ≡ 1
+
 -- one choice for each frame; a `beside` line may be left out where no line follows it
 abbrev pub MayLeaveBesides : List Bool → List SceneFrame → Type 0
 MayLeaveBesides [] [] = ⊤
@@ -26,10 +31,12 @@ MayLeaveBesides _ _ = ⊥
 -- the lines are those of the scene
 pub record IsSpelling (s : Scene) (lines : List (List Field)) : Type 0 where
   pub with_room : Bool
+  pub with_latency : Bool
   pub besides : List Bool
   pub room_left : MayLeaveRoom with_room s
+  pub latency_left : MayLeaveLatency with_latency s.version s.latency
   pub besides_left : MayLeaveBesides besides s.frames
-  pub spelled : lines ≡ spelled_lines with_room besides s
+  pub spelled : lines ≡ spelled_lines with_room with_latency besides s
 
 -- the bytes spell the scene: between skipped lines they have its lines
 abbrev pub Spells : List ℕ → Scene → Type 0

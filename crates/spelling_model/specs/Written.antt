@@ -1,9 +1,9 @@
 -- The bytes of a scene's lines, and that they are read as the scene again.
 use Rattle.std.specs.Prelude.{◌≡◌, ℕ, Bool, true, not, ◌==◌, List, [], ◌∷◌, ◌++◌, map, flat_map, length, Ok, codes}
 use Rattle.scene_model.specs.Scene.{SceneFrame, Scene}
-use Rattle.scene_model.specs.Grammar.{Field, scene_of, whole_language}
+use Rattle.scene_model.specs.Grammar.{Field, says_latency, scene_of, whole_language}
 use Rattle.spelling_model.specs.LineSpelling.{spelled_lines}
-use Rattle.spelling_model.specs.Spelling.{MayLeaveRoom, MayLeaveBesides, IsReadable}
+use Rattle.spelling_model.specs.Spelling.{MayLeaveRoom, MayLeaveLatency, MayLeaveBesides, IsReadable}
 
 -- a line's fields with one blank between them, ended by a newline
 abbrev pub line_text : List Field → List ℕ
@@ -11,19 +11,19 @@ line_text [] = codes "\n"
 line_text (f ∷ []) = f ++ codes "\n"
 line_text (f ∷ g ∷ fs) = f ++ (codes " " ++ line_text (g ∷ fs))
 
--- the text of a scene, with or without its `room` line and its `beside` lines
-abbrev pub scene_text : Bool → List Bool → Scene → List ℕ
-scene_text with_room besides s = flat_map line_text (spelled_lines with_room besides s)
+-- the text of a scene, with or without its `room` line, its `latency` line and its `beside` lines
+abbrev pub scene_text : (with_room with_latency : Bool) → List Bool → Scene → List ℕ
+scene_text with_room with_latency besides s = flat_map line_text (spelled_lines with_room with_latency besides s)
 
 abbrev pub has_beside : SceneFrame → Bool
 has_beside f = not (length f.beside == 0)
 
--- the text that is written: the `room` line always, `beside` only where lines follow it, and no skipped lines
+-- the text that is written: the `room` line always, `latency` wherever it may stand, `beside` only where lines follow it, and no skipped lines
 abbrev pub written : Scene → List ℕ
-written s = scene_text true (map has_beside s.frames) s
+written s = scene_text true (says_latency s.version) (map has_beside s.frames) s
 
 -- each text of a readable scene is read as that scene, the written one too
 abbrev pub WritingLaw : Type 0
 WritingLaw = (s : Scene) → IsReadable s
-    → ((with_room : Bool) (besides : List Bool) → MayLeaveRoom with_room s → MayLeaveBesides besides s.frames → scene_of whole_language (scene_text with_room besides s) ≡ Ok s)
+    → ((with_room with_latency : Bool) (besides : List Bool) → MayLeaveRoom with_room s → MayLeaveLatency with_latency s.version s.latency → MayLeaveBesides besides s.frames → scene_of whole_language (scene_text with_room with_latency besides s) ≡ Ok s)
     × (scene_of whole_language (written s) ≡ Ok s)
