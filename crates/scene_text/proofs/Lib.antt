@@ -3,9 +3,12 @@ pub mod Pairs
 pub mod Found
 pub mod Lasts
 pub mod Lines
-pub mod TableDigits
+pub mod HexDigits
+pub mod JournalLines
+pub mod FaultPlaces
 pub mod WordTables
 pub mod LineParts
 pub mod Fronts
 pub mod LineTails
 pub mod WrittenScenes
+pub mod Bounded

@@ -4,7 +4,7 @@ use Rattle.std.proofs.lemmas.Slice.Eq.{bytes_eq-Decides}
 use Rattle.scene_model.specs.Field.{find_word}
 use Rattle.scene_model.specs.Grammar.{Word}
 use Rattle.scene_model.specs.Grammar.{words}
-use Rattle.scene_text.specs.LineWords.{encoder_words, word_of}
+use Rattle.scene_text.specs.LineWords.{resource_words, encoder_words, word_of}
 
 -- each word of a table has its meaning of the whole one
 abbrev pub AreRows : List (List ℕ × Word) → List (List ℕ × Word) → Type 0
@@ -26,3 +26,11 @@ encoder_rows = (refl, (refl, (refl, (refl, (refl, (refl, (refl, (refl, (refl, (r
 pub encoder_word_of : (f : List ℕ) (w : Word) → find_word encoder_words f ≡ Some w → word_of f ≡ Some w
 unfolding word_of
 encoder_word_of f w e = found_in encoder_words words f w encoder_rows e
+
+resource_rows : AreRows resource_words words
+resource_rows = (refl, (refl, (refl, (refl, (refl, (refl, (refl, (refl, (refl, (refl, (refl, (refl, tt))))))))))))
+
+-- a word of a resource or view line is that word
+pub resource_word_of : (f : List ℕ) (w : Word) → find_word resource_words f ≡ Some w → word_of f ≡ Some w
+unfolding word_of
+resource_word_of f w e = found_in resource_words words f w resource_rows e

@@ -5,7 +5,7 @@ use Rattle.std.proofs.lemmas.List.{append_assoc, append-nil}
 use Rattle.std.proofs.lemmas.List.Folds.{flat_map-map}
 use Rattle.std.proofs.lemmas.Grind.{flat_map-append}
 use Rattle.std.specs.Fmt.{decimal}
-use Rattle.scene_model.specs.Grammar.{Field}
+use Rattle.scene_model.specs.Grammar.{Field, says_latency}
 use Rattle.spelling_model.specs.LineSpelling.{resource_fields, encoder_fields, block_lines, beside_lines, frame_lines, frames_lines, head_lines}
 use Rattle.spelling_model.specs.Written.{line_text, has_beside, written}
 use Rattle.scene_text.specs.declared.scene.ResLine.{ResLine}
@@ -57,18 +57,18 @@ frames names (f ∷ fs) =
     ∙ ap (λ t. t ++ flat_map line_text (frames_lines names (map has_beside (map frame_seen fs)) (map frame_seen fs))) (frame names f)
     ∙ ap (λ t. frame_text names f ++ t) (frames names fs)
 
--- four pieces behind a text
-pub four_pieces : (old t u v w a b c d : List ℕ) → t ≡ old ++ a → u ≡ t ++ b → v ≡ u ++ c → w ≡ v ++ d → w ≡ old ++ (a ++ (b ++ (c ++ (d ++ []))))
-four_pieces old t u v w a b c d e f g h =
-    h ∙ ap (λ x. x ++ d) (g ∙ ap (λ x. x ++ c) (f ∙ ap (λ x. x ++ b) e)) ∙ regroup
+-- five pieces behind a text
+pub five_pieces : (old t u v w x a b c d e : List ℕ) → t ≡ old ++ a → u ≡ t ++ b → v ≡ u ++ c → w ≡ v ++ d → x ≡ w ++ e → x ≡ old ++ (a ++ (b ++ (c ++ (d ++ e))))
+five_pieces old t u v w x a b c d e f g h k l =
+    l ∙ ap (λ y. y ++ e) (k ∙ ap (λ y. y ++ d) (h ∙ ap (λ y. y ++ c) (g ∙ ap (λ y. y ++ b) f))) ∙ regroup
   where
-    regroup : (((old ++ a) ++ b) ++ c) ++ d ≡ old ++ (a ++ (b ++ (c ++ (d ++ []))))
-    regroup = simp (append_assoc, append-nil)
+    regroup : ((((old ++ a) ++ b) ++ c) ++ d) ++ e ≡ old ++ (a ++ (b ++ (c ++ (d ++ e))))
+    regroup = simp append_assoc
 
 -- the head, the frames and the last line are the whole text
-pub whole_text : (s : Scene) (t u v : List ℕ) → t ≡ flat_map line_text (head_lines true (scene_seen s)) → u ≡ t ++ flat_map (frame_text (map name_seen s.names)) s.frames → v ≡ u ++ line_text (codes "done" ∷ []) → v ≡ written (scene_seen s)
+pub whole_text : (s : Scene) (t u v : List ℕ) → t ≡ flat_map line_text (head_lines true (says_latency s.version) (scene_seen s)) → u ≡ t ++ flat_map (frame_text (map name_seen s.names)) s.frames → v ≡ u ++ line_text (codes "done" ∷ []) → v ≡ written (scene_seen s)
 whole_text s t u v e f g =
-    let head = head_lines true (scene_seen s) in
+    let head = head_lines true (says_latency s.version) (scene_seen s) in
     let middle = frames_lines (map name_seen s.names) (map has_beside (map frame_seen s.frames)) (map frame_seen s.frames) in
     let last = line_text (codes "done" ∷ []) in
     g ∙ ap (λ x. x ++ last) (f ∙ ap (λ x. x ++ flat_map (frame_text (map name_seen s.names)) s.frames) e)

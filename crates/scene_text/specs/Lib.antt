@@ -10,3 +10,5 @@ pub mod Names
 pub mod SeenNames
 pub mod Spelled
 pub mod WrittenParts
+pub mod Bounds
+pub mod Journals

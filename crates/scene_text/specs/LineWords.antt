@@ -13,12 +13,12 @@ after_parts r fs = after_fields whole_language r fs (word_of (field fs 0))
 
 -- the words of the order of lines
 abbrev pub order_words : List (List ℕ × Word)
-order_words = take 9 words
+order_words = take 10 words
 
 -- the words of resource and view lines
 abbrev pub resource_words : List (List ℕ × Word)
-resource_words = take 12 (drop 9 words)
+resource_words = take 12 (drop 10 words)
 
 -- the words of encoder lines
 abbrev pub encoder_words : List (List ℕ × Word)
-encoder_words = drop 21 words
+encoder_words = drop 22 words

@@ -61,7 +61,7 @@ abbrev pub encoder_line_seen : EncLine → model.EncoderLine
 encoder_line_seen (lines.State word) = model.state_line word
 encoder_line_seen (lines.Stencil front back) = model.stencil_line front back
 encoder_line_seen (lines.Scissor rect) = model.scissor_line (rect_seen rect)
-encoder_line_seen (lines.Transform transform) = model.transform_line (affine_seen transform)
+encoder_line_seen (lines.Transform transform) = model.transform_line (affine_seen transform.value)
 encoder_line_seen (lines.Vertices buffer first count) = model.vertices_line buffer first count
 encoder_line_seen (lines.Indices buffer first count) = model.indices_line buffer first count
 encoder_line_seen (lines.TransientVertices layout bytes) = model.transient_vertices_line layout bytes
@@ -83,10 +83,12 @@ name_seen n = n.text
 
 abbrev pub scene_seen : Scene → model.Scene
 scene_seen s = record {
+  version = s.version;
   width = s.width;
   height = s.height;
   encoders = s.encoders;
   room = room_seen s.room;
+  latency = s.latency;
   names = map name_seen s.names;
   frames = map frame_seen s.frames;
 }

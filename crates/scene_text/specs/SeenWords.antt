@@ -10,6 +10,7 @@ word_seen words.Scene = model.scene_word
 word_seen words.Size = model.size_word
 word_seen words.Encoders = model.encoders_word
 word_seen words.Room = model.room_word
+word_seen words.Latency = model.latency_word
 word_seen words.Frame = model.frame_word
 word_seen words.Encoder = model.encoder_word
 word_seen words.Beside = model.beside_word

@@ -1,7 +1,8 @@
 // Bytes and colours.
-ghost use Rattle.std.specs.Prelude.{◌≡◌, drop};
+ghost use Rattle.std.specs.Prelude.{◌≡◌, ◌*◌, length};
+ghost use Rattle.std.specs.List.{list_all};
 ghost use Rattle.scene_model.specs.Field.{hex_byte, hex_pairs, hex_bytes, color_field, source_field};
-ghost use Rattle.scene_text.specs.Digits.{digit_or_none};
+ghost use Rattle.scene_text.specs.Digits.{is_hex, digit_of, pair_of, pairs_of};
 ghost use Rattle.scene_text.specs.Gives.{Gives, MayGive};
 ghost use Rattle.scene_text.specs.Seen.{source_seen};
 
@@ -11,45 +12,45 @@ use crate::sequence::Sequence;
 use crate::words::is;
 use std::alloc::Global;
 
-// The values of the digits of sixteen, and 255 for every other byte.
-static DIGITS: [u8; 256] = [
-    255, 255, 255, 255, 255, 255, 255, 255, 255, 255, 255, 255, 255, 255, 255, 255, 255, 255, 255,
-    255, 255, 255, 255, 255, 255, 255, 255, 255, 255, 255, 255, 255, 255, 255, 255, 255, 255, 255,
-    255, 255, 255, 255, 255, 255, 255, 255, 255, 255, 0, 1, 2, 3, 4, 5, 6, 7, 8, 9, 255, 255, 255,
-    255, 255, 255, 255, 255, 255, 255, 255, 255, 255, 255, 255, 255, 255, 255, 255, 255, 255, 255,
-    255, 255, 255, 255, 255, 255, 255, 255, 255, 255, 255, 255, 255, 255, 255, 255, 255, 10, 11,
-    12, 13, 14, 15, 255, 255, 255, 255, 255, 255, 255, 255, 255, 255, 255, 255, 255, 255, 255, 255,
-    255, 255, 255, 255, 255, 255, 255, 255, 255, 255, 255, 255, 255, 255, 255, 255, 255, 255, 255,
-    255, 255, 255, 255, 255, 255, 255, 255, 255, 255, 255, 255, 255, 255, 255, 255, 255, 255, 255,
-    255, 255, 255, 255, 255, 255, 255, 255, 255, 255, 255, 255, 255, 255, 255, 255, 255, 255, 255,
-    255, 255, 255, 255, 255, 255, 255, 255, 255, 255, 255, 255, 255, 255, 255, 255, 255, 255, 255,
-    255, 255, 255, 255, 255, 255, 255, 255, 255, 255, 255, 255, 255, 255, 255, 255, 255, 255, 255,
-    255, 255, 255, 255, 255, 255, 255, 255, 255, 255, 255, 255, 255, 255, 255, 255, 255, 255, 255,
-    255, 255, 255, 255, 255, 255, 255, 255, 255, 255, 255, 255, 255, 255, 255, 255, 255, 255, 255,
-    255, 255, 255, 255,
-];
-
+/// Whether a byte is a digit of sixteen: 0 to 9 or a to f.
 #[inline(always)]
-fn hex_digit(byte: u8) -> u8
-    ensures { result ≡ digit_or_none byte }
+fn is_hex(byte: u8) -> bool
+    ensures { result ≡ is_hex byte }
 {
-    DIGITS[byte as usize]
+    (byte >= b'0' && byte <= b'9') || (byte >= b'a' && byte <= b'f')
+}
+
+/// The value of a digit.
+#[inline(always)]
+fn digit_of(byte: u8) -> u8
+    ensures { result ≡ digit_of byte }
+{
+    if byte <= b'9' {
+        byte.saturating_sub(48)
+    } else {
+        byte.saturating_sub(87)
+    }
 }
 
 /// The byte of two digits.
 #[inline(always)]
+fn pair_of(a: u8, b: u8) -> u8
+    ensures { result ≡ pair_of a b }
+{
+    digit_of(a).wrapping_mul(16).wrapping_add(digit_of(b))
+}
+
+/// The byte of two digits, if they are digits.
 fn hex_pair(a: u8, b: u8) -> Result<u8, Cause>
     ensures { Gives (λ v. v) result (hex_byte a b) }
 {
-    let high = hex_digit(a);
-    let low = hex_digit(b);
-    if high >= 16 {
+    if !is_hex(a) {
         return Err(Cause::Misspelt);
     }
-    if low >= 16 {
+    if !is_hex(b) {
         return Err(Cause::Misspelt);
     }
-    Ok(16 * high + low)
+    Ok(pair_of(a, b))
 }
 
 /// Eight digits: red, green, blue and alpha.
@@ -66,20 +67,39 @@ pub fn color_field(field: &[u8]) -> Result<[u8; 4], Cause>
     Ok([red, green, blue, alpha])
 }
 
+/// Whether each byte is a digit. It does not stop early, so that the loop goes by vectors.
+fn all_hex(digits: &[u8]) -> bool
+    ensures { result ≡ list_all is_hex digits.now }
+{
+    let mut all = true;
+    for byte in digits {
+        all &= is_hex(*byte);
+    }
+    all
+}
+
+/// Puts the bytes of pairs of digits in their places.
+fn put_pairs(digits: &[u8], bytes: &mut [u8])
+    requires { length digits.now ≡ 2 * length bytes.old }
+    ensures { bytes.new ≡ pairs_of digits.now }
+{
+    for place in 0..bytes.len() {
+        bytes[place] = pair_of(digits[2 * place], digits[2 * place + 1]);
+    }
+}
+
 /// The bytes of pairs of digits.
 fn pairs(alloc: Global, digits: &[u8]) -> Result<Vec<u8>, LineFault>
     ensures { MayGive (λ v. v.items) result (hex_pairs digits.now) }
 {
-    let mut bytes = Vec::with_capacity(alloc, digits.len() / 2)?;
-    let mut rest = digits;
-    while let [a, b, after @ ..] = rest {
-        let byte = hex_pair(*a, *b)?;
-        bytes.push(byte)?;
-        rest = after;
-    }
-    if !rest.is_empty() {
+    if digits.len() % 2 == 1 {
         return Err(LineFault::Bad(Cause::Misspelt));
     }
+    if !all_hex(digits) {
+        return Err(LineFault::Bad(Cause::Misspelt));
+    }
+    let mut bytes = vec![in alloc; 0u8; digits.len() / 2]?;
+    put_pairs(digits, &mut bytes);
     Ok(bytes)
 }
 

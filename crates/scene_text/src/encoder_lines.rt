@@ -48,11 +48,12 @@ fn scissor(names: &Names, fields: &[&[u8]]) -> Result<EncLine, Cause>
 }
 
 /// `transform` and twelve numbers
-fn model_transform(names: &Names, fields: &[&[u8]]) -> Result<EncLine, Cause>
-    ensures { Gives encoder_line_seen result (encoder_form names.now (texts fields.now) model.transform_word) }
+fn model_transform(alloc: Global, names: &Names, fields: &[&[u8]]) -> Result<EncLine, LineFault>
+    ensures { MayGive encoder_line_seen result (encoder_form names.now (texts fields.now) model.transform_word) }
 {
     has_count(fields, 13)?;
-    let transform = transform(fields, 1)?;
+    let numbers = transform(fields, 1)?;
+    let transform = Box::new(alloc, numbers)?;
     Ok(EncLine::Transform { transform })
 }
 
@@ -214,7 +215,7 @@ pub fn encoder_line(
         Word::State => state(names, fields)?,
         Word::Stencil => stencil(names, fields)?,
         Word::Scissor => scissor(names, fields)?,
-        Word::Transform => model_transform(names, fields)?,
+        Word::Transform => model_transform(alloc, names, fields)?,
         Word::Vertices => vertices(names, fields)?,
         Word::Indices => indices(names, fields)?,
         Word::TransientVertices => transient_vertices(alloc, names, fields)?,

@@ -1,5 +1,5 @@
 // The scene at the front of a text.
-ghost use Rattle.std.specs.Prelude.{◌≤◌, length};
+ghost use Rattle.std.specs.Prelude.{◌≤◌, length, IfOk};
 ghost use Rattle.scene_model.specs.Grammar.{front_of};
 ghost use Rattle.scene_text.specs.Reads.{ReadsFront};
 ghost use Rattle.scene_model.specs.Grammar.{whole_language};
@@ -13,10 +13,15 @@ use crate::text::{at, at_last_piece, scene};
 use std::alloc::Global;
 
 /// The scene up to its `done` line, and how many bytes that takes; what follows is not read. Or the first line that
-/// fails, counted from 1, with its first cause.
+/// fails, counted from 1, with its first cause. The bytes are at most 4,294,967,294.
+///
+/// # Errors
+///
+/// As `read`.
 pub fn read_front(alloc: Global, bytes: &[u8]) -> Result<(Scene, usize), SceneFault>
     requires { length bytes.now ≤ 4294967294 }
     ensures exact { ReadsFront result (front_of whole_language bytes.now) }
+    ensures within { IfOk result (λ found. found.1 ≤ length bytes.now) }
 {
     let mut reading = Reading::new(alloc);
     let mut fields = Vec::new(alloc);

@@ -9,6 +9,9 @@ mod fields;
 mod frames;
 mod front;
 mod journal;
+mod journal_reading;
+mod journal_writing;
+mod lawful;
 mod lists;
 mod names;
 mod numbers;
@@ -31,7 +34,10 @@ mod write_resource_lines;
 
 pub use fault::SceneFault;
 pub use front::read_front;
-pub use journal::{Journal, JournalEntry};
+pub use journal::{Journal, JournalEntry, JournalFault};
+pub use journal_reading::read_journal;
+pub use journal_writing::write_journal;
+pub use lawful::fault_place;
 pub use scene::{
     EncBlock, EncLine, LayoutPart, ResLine, Room, Scene, SceneFrame, SceneName, TexSource,
 };
@@ -40,5 +46,7 @@ pub use sequence::Sequence;
 pub use text::read;
 pub use view_table::Clear;
 
+#[cfg(test)]
+mod journal_tests;
 #[cfg(test)]
 mod tests;

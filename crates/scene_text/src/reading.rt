@@ -1,7 +1,8 @@
 // The state of reading, and what each line does to it.
-ghost use Rattle.std.specs.Prelude.{◌≡◌, true, map, IfOk, option_map};
+ghost use Rattle.std.specs.Prelude.{◌≡◌, ◌≤◌, true, map, IfOk, option_map};
 ghost use Rattle.std.specs.List.{list_all};
 ghost use Rattle.scene_model.specs.Field.{split_at};
+ghost use Rattle.scene_model.specs.Scene.{views_in};
 ghost use Rattle.scene_model.specs.Grammar as model;
 ghost use Rattle.scene_text.specs.Fields.{texts};
 ghost use Rattle.scene_text.specs.Gives.{Gives, MayGive};
@@ -24,14 +25,19 @@ use crate::stages::{Stage, can_stand};
 use crate::words::{Word, is, line_word};
 use std::alloc::{AllocError, Global};
 
+/// The newest version of scenes that is read.
+const NEWEST: u8 = 2;
+
 /// What was read so far.
 #[derive(Drop)]
 pub struct Reading {
     pub stage: Stage,
+    pub version: u8,
     pub width: u16,
     pub height: u16,
     pub encoders: u8,
     pub room: Room,
+    pub latency: u8,
     pub names: Names,
     pub frames: Vec<SceneFrame>,
 }
@@ -45,13 +51,28 @@ fn is_other_version(fields: &[&[u8]]) -> bool
             if !is(b"scene", word) {
                 return false;
             }
-            match number(version, 2, 255) {
+            match number(version, u32::from(NEWEST) + 1, 255) {
                 Ok(_) => true,
                 Err(_) => false,
             }
         }
         _ => false,
     }
+}
+
+/// Whether scenes of a version may say their latency.
+pub fn says_latency(version: u8) -> bool
+    ensures { result ≡ model.says_latency version }
+{
+    version != 1
+}
+
+/// How many views a scene of a version has.
+fn view_count(version: u8) -> usize
+    ensures value { result ≡ views_in version }
+    ensures few { result ≤ 512 }
+{
+    if version == 1 { 256 } else { 512 }
 }
 
 fn follows(encoder: u8, last: Option<u8>) -> bool
@@ -83,18 +104,20 @@ fn is_next_encoder(encoders: u8, frames: &[SceneFrame], field: &[u8]) -> bool
 
 fn is_in_place(
     stage: Stage,
+    version: u8,
     encoders: u8,
     frames: &[SceneFrame],
     fields: &[&[u8]],
     word: Word,
 ) -> bool
-    ensures { result ≡ model.is_in_place_at (stage_seen stage) encoders (model.last_encoder (model.blocks_of_last (map frame_seen frames.now))) (word_seen word) (texts fields.now) }
+    ensures { result ≡ model.is_in_place_at (stage_seen stage) version encoders (model.last_encoder (model.blocks_of_last (map frame_seen frames.now))) (word_seen word) (texts fields.now) }
 {
     if !can_stand(stage, word) {
         return false;
     }
     match word {
         Word::Encoder => is_next_encoder(encoders, frames, field(fields, 1)),
+        Word::Latency => says_latency(version),
         _ => true,
     }
 }
@@ -130,6 +153,7 @@ impl Reading {
     {
         Reading {
             stage: Stage::AtFront,
+            version: 1,
             width: 0,
             height: 0,
             encoders: 0,
@@ -138,6 +162,7 @@ impl Reading {
                 bytes: 262_144,
                 uniforms: 4096,
             },
+            latency: 1,
             names: Names::new(alloc),
             frames: Vec::new(alloc),
         }
@@ -148,7 +173,8 @@ impl Reading {
         ensures { Gives (λ _. reading_seen self.new) result (model.after_word whole_language (reading_seen self.old) (texts fields.now) model.scene_word) }
     {
         has_count(fields, 2)?;
-        number(field(fields, 1), 1, 1)?;
+        let version = number(field(fields, 1), 1, u32::from(NEWEST))?;
+        self.version = version as u8;
         self.stage = Stage::AtSize;
         Ok(())
     }
@@ -183,6 +209,17 @@ impl Reading {
     {
         let room = room(fields)?;
         self.room = room;
+        self.stage = Stage::AtLatency;
+        Ok(())
+    }
+
+    #[tactic(auto, unfolding(scene_model::specs::Grammar::after_word))]
+    fn after_latency(&mut self, fields: &[&[u8]]) -> Result<(), Cause>
+        ensures { Gives (λ _. reading_seen self.new) result (model.after_word whole_language (reading_seen self.old) (texts fields.now) model.latency_word) }
+    {
+        has_count(fields, 2)?;
+        let latency = number(field(fields, 1), 1, 3)?;
+        self.latency = latency as u8;
         self.stage = Stage::AtFirstFrame;
         Ok(())
     }
@@ -248,7 +285,8 @@ impl Reading {
     ) -> Result<(), LineFault>
         ensures { MayGive (λ _. reading_seen self.new) result (model.after_resource whole_language (reading_seen self.old) (texts fields.now) (word_seen word)) }
     {
-        let line = resource_line(alloc, &mut self.names, fields, word)?;
+        let views = view_count(self.version);
+        let line = resource_line(alloc, views, &mut self.names, fields, word)?;
         self.add_resource(line)?;
         Ok(())
     }
@@ -277,6 +315,7 @@ impl Reading {
             Word::Size => self.after_size(fields)?,
             Word::Encoders => self.after_encoders(fields)?,
             Word::Room => self.after_room(fields)?,
+            Word::Latency => self.after_latency(fields)?,
             Word::Frame => self.after_frame(alloc, fields)?,
             Word::Encoder => self.after_encoder(alloc, fields)?,
             Word::Beside => self.after_beside(fields)?,
@@ -326,7 +365,14 @@ impl Reading {
         if is_other_version(fields) {
             return Err(LineFault::Bad(Cause::UnknownVersion));
         }
-        if !is_in_place(self.stage, self.encoders, &self.frames, fields, word) {
+        if !is_in_place(
+            self.stage,
+            self.version,
+            self.encoders,
+            &self.frames,
+            fields,
+            word,
+        ) {
             return Err(LineFault::Bad(Cause::MisplacedWord));
         }
         are_filled_before(fields, word)?;
@@ -394,7 +440,7 @@ pub fn all_text(line: &[u8]) -> bool
 }
 
 /// Whether a line is empty or begins with `#`.
-fn is_skipped(line: &[u8]) -> bool
+pub fn is_skipped(line: &[u8]) -> bool
     ensures { result ≡ model.is_skipped line.now }
 {
     match line {

@@ -1,4 +1,5 @@
 // Resource and view lines.
+ghost use Rattle.std.specs.Prelude.{◌≤◌};
 ghost use Rattle.scene_model.specs.Grammar.{resource_form};
 ghost use Rattle.scene_text.specs.Fields.{texts};
 ghost use Rattle.scene_text.specs.Gives.{MayGive};
@@ -20,11 +21,13 @@ use std::alloc::Global;
 /// A resource or view line, and the names after it.
 pub fn resource_line(
     alloc: Global,
+    views: usize,
     names: &mut Names,
     fields: &[&[u8]],
     word: Word,
 ) -> Result<ResLine, LineFault>
-    ensures { MayGive (λ l. (resource_line_seen l, names.new)) result (resource_form whole_language names.old (texts fields.now) (word_seen word)) }
+    requires { views ≤ 512 }
+    ensures { MayGive (λ l. (resource_line_seen l, names.new)) result (resource_form whole_language views names.old (texts fields.now) (word_seen word)) }
 {
     let line = match word {
         Word::Layout => layout(alloc, names, fields)?,
@@ -38,7 +41,7 @@ pub fn resource_line(
         Word::TexUpdate => texel_update(alloc, names, fields)?,
         Word::Destroy => destroy(names, fields)?,
         Word::View => view(names, fields)?,
-        Word::Order => order(alloc, names, fields)?,
+        Word::Order => order(alloc, views, names, fields)?,
         _ => return Err(LineFault::Bad(Cause::MisplacedWord)),
     };
     Ok(line)

@@ -154,9 +154,9 @@ pub enum EncLine {
     Scissor {
         rect: Rect,
     },
-    /// `transform` and 12 numbers
+    /// `transform` and 12 numbers, on the heap so that they enlarge no other line
     Transform {
-        transform: Affine,
+        transform: Box<Affine>,
     },
     /// `vertices NAME FIRST COUNT`
     Vertices {
@@ -238,10 +238,14 @@ pub struct SceneName {
 /// A scene. The sides are in pixels, 1 to 2,048; there are 1 to 8 encoders and 1 to 1,024 frames.
 #[derive(Debug, Drop)]
 pub struct Scene {
+    /// 1 or 2: a scene of version 1 has 256 views, one of version 2 has 512.
+    pub version: u8,
     pub width: u16,
     pub height: u16,
     pub encoders: u8,
     pub room: Room,
+    /// How many frames may be out: 1 to 3, and 1 in version 1.
+    pub latency: u8,
     /// The names in the order in which lines first bind them; a line holds a name as its place here.
     pub names: Sequence<SceneName>,
     pub frames: Sequence<SceneFrame>,

@@ -1,13 +1,14 @@
 // How a scene is written.
 ghost use Rattle.std.specs.Prelude.{◌≡◌, ◌++◌, ◌∷◌, [], map, flat_map, true, codes, Ok, IfOk};
 ghost use Rattle.std.specs.Fmt.{decimal};
-ghost use Rattle.scene_model.specs.Grammar.{scene_of, whole_language};
-ghost use Rattle.spelling_model.specs.LineSpelling.{head_lines};
+ghost use Rattle.scene_model.specs.Grammar.{scene_of, whole_language, says_latency};
+ghost use Rattle.spelling_model.specs.LineSpelling.{head_lines, latency_lines};
 ghost use Rattle.spelling_model.specs.Spelling.{IsReadable};
 ghost use Rattle.spelling_model.specs.Written.{line_text, written};
 ghost use Rattle.scene_text.specs.Seen.{name_seen, scene_seen};
 ghost use Rattle.scene_text.specs.WrittenParts.{resource_text, encoder_text, block_text, beside_text, frame_text};
 
+use crate::reading::says_latency;
 use crate::scene::{EncBlock, EncLine, ResLine, Room, Scene, SceneFrame, SceneName};
 use crate::spelled::{Spelled, put_line};
 use crate::write_encoder_lines::put_encoder_line;
@@ -114,6 +115,12 @@ fn put_frames<'a>(
     Ok(())
 }
 
+fn put_version(text: &mut Vec<u8>, version: u8) -> Result<(), AllocError>
+    ensures { IfOk result (λ _. text.new.items ≡ text.old.items ++ line_text (codes "scene" ∷ decimal version ∷ [])) }
+{
+    put_line(text, b"scene", &[Spelled::Number(u64::from(version))])
+}
+
 fn put_size(text: &mut Vec<u8>, width: u16, height: u16) -> Result<(), AllocError>
     ensures { IfOk result (λ _. text.new.items ≡ text.old.items ++ line_text (codes "size" ∷ decimal width ∷ decimal height ∷ [])) }
 {
@@ -141,20 +148,37 @@ fn put_room(text: &mut Vec<u8>, room: &Room) -> Result<(), AllocError>
     put_line(text, b"room", &numbers)
 }
 
-/// The lines in front of the frames.
-fn put_head(text: &mut Vec<u8>, scene: &Scene) -> Result<(), AllocError>
-    ensures { IfOk result (λ _. text.new.items ≡ text.old.items ++ flat_map line_text (head_lines true (scene_seen scene.now))) }
+/// The `latency` line, where scenes of the version may say it.
+fn put_latency(text: &mut Vec<u8>, version: u8, latency: u8) -> Result<(), AllocError>
+    ensures { IfOk result (λ _. text.new.items ≡ text.old.items ++ flat_map line_text (latency_lines (says_latency version) latency)) }
 {
-    put_line(text, b"scene 1", &[])?;
-    put_size(text, scene.width, scene.height)?;
-    put_encoders(text, scene.encoders)?;
-    put_room(text, &scene.room)?;
+    if says_latency(version) {
+        put_line(text, b"latency", &[Spelled::Number(u64::from(latency))])?;
+    }
     Ok(())
 }
 
-/// The text of a scene: the `room` line always, `beside` only where lines follow it, and no skipped lines.
+/// The lines in front of the frames.
+fn put_head(text: &mut Vec<u8>, scene: &Scene) -> Result<(), AllocError>
+    ensures { IfOk result (λ _. text.new.items ≡ text.old.items ++ flat_map line_text (head_lines true (says_latency scene.now.version) (scene_seen scene.now))) }
+{
+    put_version(text, scene.version)?;
+    put_size(text, scene.width, scene.height)?;
+    put_encoders(text, scene.encoders)?;
+    put_room(text, &scene.room)?;
+    put_latency(text, scene.version, scene.latency)?;
+    Ok(())
+}
+
+/// The text of a scene: the `room` line always, the `latency` line in version 2 always, `beside` only where lines follow
+/// it, and no skipped lines.
 ///
-/// A scene that some text stands for is read again from it.
+/// A scene that some text stands for, so each that `read` answers, is read again from what is written. Any other, as one
+/// with a side of 0, is spelled alike, and nothing is said of how that is read.
+///
+/// # Errors
+///
+/// `AllocError` where no memory is left for the text.
 pub fn write(alloc: Global, scene: &Scene) -> Result<Vec<u8>, AllocError>
     ensures text { IfOk result (λ v. v.items ≡ written (scene_seen scene.now)) }
     ensures again { IfOk result (λ v. IsReadable (scene_seen scene.now) → scene_of whole_language v.items ≡ Ok (scene_seen scene.now)) }

@@ -1,5 +1,5 @@
 // Lists in public types.
-ghost use Rattle.std.specs.Prelude.{◌≡◌, [], ◌∷◌, ◌++◌, IfOk};
+ghost use Rattle.std.specs.Prelude.{◌≡◌, [], ◌∷◌, ◌++◌, IfOk, OnErr};
 
 use std::alloc::{AllocError, Global};
 use std::marker::Model;
@@ -42,9 +42,10 @@ impl<T: Drop> Sequence<T> {
         &self.all
     }
 
-    /// One more item at the end.
+    /// One more item at the end. Without memory for it the list stays as it is.
     pub fn push(&mut self, item: T) -> Result<(), AllocError>
-        ensures { IfOk result (λ _. self.new ≡ self.old ++ item ∷ []) }
+        ensures more { IfOk result (λ _. self.new ≡ self.old ++ item ∷ []) }
+        ensures same { OnErr result (self.new ≡ self.old) }
     {
         self.all.push(item)?;
         Ok(())

@@ -29,7 +29,7 @@ pub enum Spelled<'a> {
     Part(LayoutPart),
 }
 
-fn put_number(text: &mut Vec<u8>, number: u64) -> Result<(), AllocError>
+pub fn put_number(text: &mut Vec<u8>, number: u64) -> Result<(), AllocError>
     ensures { IfOk result (λ _. text.new.items ≡ text.old.items ++ decimal number) }
 {
     let mut buffer = Buffer::new();

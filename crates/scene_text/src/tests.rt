@@ -68,9 +68,9 @@ static CAUSES: [Row; 19] = [
     (2, b"size 02 2", 2, 6),
     (2, b"size 2049 2", 2, 7),
     (5, b"view 0 clear 1 ff0000f 0 0", 5, 11),
-    (1, b"scene 2", 1, 12),
     (1, b"scene 3", 1, 12),
-    (2, b"scene 2", 2, 12),
+    (1, b"scene 0", 1, 7),
+    (2, b"scene 255", 2, 12),
     (8, b"done\ntouch 0", 9, 4),
     (8, b"done\nfoo", 9, 3),
     (7, b"j 0:0", 7, 4),
@@ -125,6 +125,100 @@ static FORMS: [Row; 20] = [
     (7, b"transform 0 0 0 0 0 0 0 0 0 0 0 2147483648", 7, 7),
     (7, b"set u 1 2", 7, 5),
 ];
+
+/// Whole texts, with the line and the cause that are wanted.
+static VERSIONS: [(&[u8], u32, u8); 10] = [
+    (b"scene 2\nsize 1 1\nencoders 1\nframe\ndone\n", 0, 0),
+    (
+        b"scene 2\nsize 1 1\nencoders 1\nlatency 3\nframe\ndone\n",
+        0,
+        0,
+    ),
+    (
+        b"scene 2\nsize 1 1\nencoders 1\nroom 1 0 0\nlatency 1\nframe\ndone\n",
+        0,
+        0,
+    ),
+    (
+        b"scene 2\nsize 1 1\nencoders 1\nlatency 1\nroom 1 0 0\nframe\ndone\n",
+        5,
+        4,
+    ),
+    (
+        b"scene 2\nsize 1 1\nencoders 1\nlatency 0\nframe\ndone\n",
+        4,
+        7,
+    ),
+    (
+        b"scene 2\nsize 1 1\nencoders 1\nlatency 4\nframe\ndone\n",
+        4,
+        7,
+    ),
+    (
+        b"scene 2\nsize 1 1\nencoders 1\nlatency\nframe\ndone\n",
+        4,
+        5,
+    ),
+    (
+        b"scene 2\nsize 1 1\nencoders 1\nframe\nlatency 1\ndone\n",
+        5,
+        4,
+    ),
+    (
+        b"scene 1\nsize 1 1\nencoders 1\nlatency 1\nframe\ndone\n",
+        4,
+        4,
+    ),
+    (
+        b"scene 3\nsize 1 1\nencoders 1\nlatency 1\nframe\ndone\n",
+        1,
+        12,
+    ),
+];
+
+/// A frame whose `order` line has as many numbers.
+fn order(alloc: Global, head: &[u8], numbers: u32) -> Result<Vec<u8>, AllocError> {
+    let mut text = Vec::from_slice(alloc, head)?;
+    text.extend_from_slice(b"\nsize 1 1\nencoders 1\nframe\norder")?;
+    for _ in 0..numbers {
+        text.extend_from_slice(b" 0")?;
+    }
+    text.extend_from_slice(b"\ndone\n")?;
+    Ok(text)
+}
+
+#[test]
+fn versions_have_their_lines(rt: HostRuntime) -> Result<(), Fail> {
+    let alloc = rt.alloc();
+    for (text, line, cause) in VERSIONS {
+        assert_eq!(rt; fault(alloc, text), Some((line, cause)));
+    }
+    let few = order(alloc, b"scene 1", 256)?;
+    assert_eq!(rt; fault(alloc, &few), Some((0, 0)));
+    let more = order(alloc, b"scene 1", 257)?;
+    assert_eq!(rt; fault(alloc, &more), Some((5, 5)));
+    let most = order(alloc, b"scene 2", 512)?;
+    assert_eq!(rt; fault(alloc, &most), Some((0, 0)));
+    let above = order(alloc, b"scene 2", 513)?;
+    assert_eq!(rt; fault(alloc, &above), Some((5, 5)));
+    Ok(())
+}
+
+#[test]
+fn a_latency_is_always_written_in_version_2(rt: HostRuntime) -> Result<(), Fail> {
+    let alloc = rt.alloc();
+    let scene = read_small(
+        alloc,
+        b"scene 2\nsize 1 1\nencoders 1\nframe\nbeside\ndone\n",
+    )?;
+    assert_eq!(rt; (scene.version, scene.latency), (2, 1));
+    let written = write(alloc, &scene)?;
+    assert_eq!(rt; written.as_slice(), WRITTEN_AGAIN);
+    Ok(())
+}
+
+static WRITTEN_AGAIN: &[u8] =
+    b"scene 2\nsize 1 1\nencoders 1\nroom 8191 262144 4096\nlatency 1\nframe\ndone\n";
 
 static LIMITS: [Row; 11] = [
     (0, b"", 0, 0),

@@ -2,6 +2,7 @@
 ghost use Rattle.std.specs.Prelude.{◌≡◌, ◌≤◌, length, IfOk};
 ghost use Rattle.scene_model.specs.Grammar.{scene_of};
 ghost use Rattle.scene_model.specs.Grammar as model;
+ghost use Rattle.scene_text.specs.Bounds.{IsBounded};
 ghost use Rattle.scene_text.specs.Reads.{Reads, at};
 ghost use Rattle.scene_text.specs.Seen.{scene_seen};
 ghost use Rattle.scene_text.specs.SeenReading.{reading_seen};
@@ -34,10 +35,12 @@ pub fn scene(alloc: Global, reading: Reading) -> Result<Scene, AllocError>
 {
     let names = reading.names.into_names(alloc)?;
     Ok(Scene {
+        version: reading.version,
         width: reading.width,
         height: reading.height,
         encoders: reading.encoders,
         room: reading.room,
+        latency: reading.latency,
         names: Sequence::from_vec(names),
         frames: Sequence::from_vec(reading.frames),
     })
@@ -75,10 +78,20 @@ pub fn at_last_piece(
 
 /// The scene that the bytes are, or the first line that fails, counted from 1, with its first cause.
 ///
-/// The lines are those of the scene text of `docs/behaviour.md`. One pass over the bytes, and no line is copied.
+/// The lines are those of the scene text of `docs/formats.md`. One pass over the bytes, and no line is copied. The bytes
+/// are at most 4,294,967,294.
+///
+/// What is read keeps the bounds of a scene: version 1 or 2; sides of 1 to 2,048 pixels; 1 to 8 encoders, each with room
+/// for 1 to 8,191 items, so a frame has at most 65,528; a latency of 1 to 3, and of 1 in version 1; 1 to 1,024 frames,
+/// whose blocks have ascending numbers below the number of encoders.
+///
+/// # Errors
+///
+/// `SceneFault::At` where the bytes are no scene, and `SceneFault::OutOfMemory` where no memory is left for it.
 pub fn read(alloc: Global, bytes: &[u8]) -> Result<Scene, SceneFault>
     requires { length bytes.now ≤ 4294967294 }
     ensures exact { Reads result (scene_of whole_language bytes.now) }
+    ensures bounds { IfOk result (λ s. IsBounded (scene_seen s)) }
 {
     let mut reading = Reading::new(alloc);
     let mut fields = Vec::new(alloc);

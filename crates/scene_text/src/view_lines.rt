@@ -1,4 +1,5 @@
 // The forms of view lines and of the order of views.
+ghost use Rattle.std.specs.Prelude.{◌≤◌};
 ghost use Rattle.view_table.specs.Seen.{clear_seen};
 ghost use Rattle.scene_model.specs.Grammar.{clear_fields, setting_form, view_form, order_form};
 ghost use Rattle.scene_text.specs.Fields.{texts};
@@ -92,11 +93,17 @@ pub fn view(names: &Names, fields: &[&[u8]]) -> Result<ResLine, Cause>
     Ok(line)
 }
 
-/// `order V ..`
-pub fn order(alloc: Global, names: &Names, fields: &[&[u8]]) -> Result<ResLine, LineFault>
-    ensures { MayGive (λ l. (resource_line_seen l, names.now)) result (order_form names.now (texts fields.now)) }
+/// `order V ..`, with at most as many numbers as there are views
+pub fn order(
+    alloc: Global,
+    most: usize,
+    names: &Names,
+    fields: &[&[u8]],
+) -> Result<ResLine, LineFault>
+    requires { most ≤ 512 }
+    ensures { MayGive (λ l. (resource_line_seen l, names.now)) result (order_form most names.now (texts fields.now)) }
 {
-    has_count_from(fields, 1, 257)?;
+    has_count_from(fields, 1, 1 + most)?;
     let views = views(alloc, fields, 1)?;
     Ok(ResLine::Order { views })
 }

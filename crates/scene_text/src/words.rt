@@ -20,6 +20,7 @@ pub enum Word {
     Size,
     Encoders,
     Room,
+    Latency,
     Frame,
     Encoder,
     Beside,
@@ -87,6 +88,9 @@ fn order_word(field: &[u8]) -> Option<Word>
     }
     if is(b"room", field) {
         return Some(Word::Room);
+    }
+    if is(b"latency", field) {
+        return Some(Word::Latency);
     }
     if is(b"frame", field) {
         return Some(Word::Frame);

@@ -142,7 +142,7 @@ pub fn put_encoder_line<'a>(
         }
         EncLine::Scissor { rect } => put_scissor(text, *rect),
         EncLine::Transform { transform } => {
-            put_integer_line(text, b"transform", &[], &transform.m)
+            put_integer_line(text, b"transform", &[], &transform.as_ref().m)
         }
         EncLine::Vertices {
             buffer,

@@ -1,17 +1,14 @@
-use Rattle.std.proofs.Common.{◌∙◌}
-use Rattle.std.proofs.lemmas.List.{take_rest}
-use Rattle.std.proofs.lemmas.Result.{err_from_is_err_and}
-use Rattle.scene_text.proofs.Pairs.{pairs_more, pairs_stop}
-use Rattle.scene_text.specs.declared.fault.LineFault.TheVariants as faults
+use Rattle.std.proofs.Common.{◌≡◌, ◌%◌, length, ap, sym, ◌∙◌, Ok, arith}
+use Rattle.scene_text.proofs.HexDigits.{odd_wrong, some_wrong, all_right, written_whole}
 use Rattle.scene_text.proofs.bytes.pairs.Goals as goal
 
-pub loop-rest-preserved : goal.loop-rest-preserved
-loop-rest-preserved c =
-    rw (take_rest c.loop-rest.rest.now 2, c.in_ok-push.ensures.items)
-    (c.loop-rest.invariant ∙ pairs_more c.loop-rest.bytes.items c.loop-rest.rest.now c.in_ok-byte.byte c.in-len2-up.len_at_least c.in_ok-byte.ensures)
+pub returns-then-digits-eq1 : goal.returns-then-digits-eq1
+returns-then-digits-eq1 c = odd_wrong c.args.digits.now c.if-digits-eq1.true
 
-pub returns-in_err-byte : goal.returns-in_err-byte
-returns-in_err-byte c =
-    let p = err_from_is_err_and c.from_residual-in_err-byte.result c.from_residual-in_err-byte.ensures.1 in
-    rw (p.1, p.2, c.loop-rest.invariant)
-    (pairs_stop c.loop-rest.bytes.items c.loop-rest.rest.now (faults.Bad c.in_err-byte.field-0.0) c.in-len2-up.len_at_least c.in_err-byte.ensures)
+pub returns-then-not-all_hex : goal.returns-then-not-all_hex
+returns-then-not-all_hex c = some_wrong c.args.digits.now (sym c.all_hex.ensures ∙ c.if-not-all_hex.true)
+
+pub returns : goal.returns
+returns c =
+    let even : length c.args.digits.now % 2 ≡ 0 = omega (arith, c.if-digits-eq1.false) in
+    all_right c.args.digits.now (sym c.all_hex.ensures ∙ c.if-not-all_hex.false) even ∙ ap Ok (sym c.put_pairs.ensures ∙ sym (written_whole c.put_pairs.new.bytes c.in_ok-bytes.bytes.items c.in_ok-bytes.bytes.len (omega (arith, c.put_pairs.auto.bytes, c.deref_mut.ensures.len)) (omega (arith, c.in_ok-bytes.bytes.ok.0))))

@@ -20,9 +20,11 @@ loop-n-preserved c =
 pub returns-in-Err : goal.returns-in-Err
 returns-in-Err c = record {
   exact = rw c.at.ensures (front_stops whole_language c.in-Err.fault c.loop-n.line (length c.args.bytes.now - length c.loop-n.rest.now) (reading_seen c.loop-n.reading) (take c.in-Some.n c.loop-n.rest.now) c.loop-n.rest.now (drop (c.in-Some.n + 1) c.loop-n.rest.now) _ (sym c.loop-n-test.ensures) c.loop-n.invariant.left c.in-Some.ensures.cases.1 c.in-Err.ensures);
+  within = tt;
 }
 
 pub returns : goal.returns
 returns c = record {
   exact = front_ends whole_language c.loop-n.line (length c.args.bytes.now - length c.loop-n.rest.now) (reading_seen c.loop-n.reading) c.loop-n.rest.now _ _ (sym c.loop-n-test.ensures) c.loop-n.invariant.left c.in_ok-scene-2.ensures;
+  within = omega arith;
 }
