@@ -14,59 +14,31 @@ import sys
 LARGE = {"room-of-items-full", "too-long-input", "generated-scene-one-frame", "generated-scene-eight-frames"}
 
 HEAD = '''-- Worked rows by computation: the bytes of a scene, and the status, pictures and notes of a run.
-use Rattle.std.specs.Prelude.{◌≡◌, ℕ, Bool, true, false, List, [], ◌∷◌, ◌++◌, length, drop, Option, Some, None, Result, Ok, Err, refl, codes}
+use Rattle.std.specs.Prelude.{◌≡◌, ℕ, Bool, true, false, List, [], ◌∷◌, ◌++◌, refl, codes}
 use Rattle.std.specs.Fmt.{digits}
 use Rattle.scene_model.specs.Scene.{Scene}
 use Rattle.scene_model.specs.Field.{i32_number, word_in, hex_value, hex_byte, skip_piece, attribute_piece, part_field}
-use Rattle.scene_model.specs.Grammar.{Fault, scene_of, front_of, whole_language, after_word, after_resource, after_encoder_line}
-use Rattle.scene_model.specs.Fold.{plans}
-use Rattle.scene_model.specs.Journal.{Entry, Journal, fault_place, serial}
-use Rattle.scene_model.specs.JournalText.{journal_of}
-use Rattle.scene_model.specs.Output.{pictures_text, notes, scene_line, journal_refusal_line}
+use Rattle.scene_model.specs.Grammar.{after_word, after_resource, after_encoder_line}
+use Rattle.scene_model.specs.Journal.{Entry, Journal, serial}
+use Rattle.scene_model.specs.Run.{Run, status_number, played, replayed}
 
-record Run : Type 0 where
+-- what a run shows: its status's number, its pictures and its notes
+record Told : Type 0 where
   status : ℕ
   pictures : List ℕ
   noted : List ℕ
 
-abbrev refused : Fault → Run
-refused f = record { status = 2; pictures = []; noted = scene_line f.line f.cause }
+abbrev told : Run → Told
+told r = record { status = status_number r.ending; pictures = r.pictures; noted = r.noted }
 
-abbrev shown : Bool → Scene → Journal → Run
-shown flag s j = record { status = 0; pictures = pictures_text s j; noted = notes s j flag }
-
--- a run on one thread, or one whose numbers were drawn in the order of a journal
-abbrev played : Bool → Result Scene Fault → Run
-played flag (Ok s) = shown flag s (serial s)
-played flag (Err f) = refused f
-
-abbrev played_by : Journal → Bool → Result Scene Fault → Run
-played_by j flag (Ok s) = shown flag s j
-played_by j flag (Err f) = refused f
-
--- a run by the journal that follows the scene
-abbrev unlawful : ℕ → Run
-unlawful place = record { status = 7; pictures = []; noted = journal_refusal_line place }
-
-abbrev lawful_or : Bool → Scene → Journal → Option ℕ → Run
-lawful_or flag s j None = shown flag s j
-lawful_or flag s j (Some place) = unlawful place
-
-abbrev replayed_by : Bool → Scene → Result Journal ℕ → Run
-replayed_by flag s (Ok j) = lawful_or flag s j (fault_place (plans s) j)
-replayed_by flag s (Err place) = unlawful place
-
-abbrev replayed_front : Bool → List ℕ → Result (Scene × ℕ) Fault → Run
-replayed_front flag bytes (Ok x) = replayed_by flag x.0 (journal_of (drop x.1 bytes) (length x.0.frames))
-replayed_front flag bytes (Err f) = refused f
-
-abbrev replayed : Bool → List ℕ → Run
-replayed flag bytes = replayed_front flag bytes (front_of whole_language bytes)
+-- numbers drawn in the order of a journal
+abbrev by : Journal → Scene → Journal
+by j s = j
 
 abbrev entry : ℕ → ℕ → Entry
 entry e o = record { encoder = e; ordinal = o }
 
-abbrev run : ℕ → (pictures noted : List ℕ) → Run
+abbrev run : ℕ → (pictures noted : List ℕ) → Told
 run status pictures noted = record { status = status; pictures = pictures; noted = noted }
 '''
 
@@ -128,11 +100,11 @@ def rows_of(folder, row):
     lemmas = []
     for suffix, out, noted in answers:
         if words[0] == "replay":
-            left = f"replayed {flag} ({literal(scene)})"
+            left = f"told (replayed {flag} ({literal(scene)}))"
         elif len(answers) == 2:
-            left = f"played_by ({journal_of_notes(noted)}) {flag} (scene_of whole_language ({literal(scene)}))"
+            left = f"told (played {flag} (by ({journal_of_notes(noted)})) ({literal(scene)}))"
         else:
-            left = f"played {flag} (scene_of whole_language ({literal(scene)}))"
+            left = f"told (played {flag} serial ({literal(scene)}))"
         lemmas.append(lemma(name + suffix, left, status, out, noted))
     return lemmas
 

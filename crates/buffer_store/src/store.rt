@@ -1,10 +1,10 @@
 // The store.
-ghost use Rattle.std.specs.Prelude.{◌≡◌, ◌+◌, ◌<◌, ◌≤◌, length, Some, None, IfOk, IfSome, IsSome, nat_lt, MatchResult, option_map};
-ghost use Rattle.std.specs.Option.{option_and_then};
+ghost use Rattle.std.specs.Prelude.{◌≡◌, ◌+◌, ◌<◌, ◌≤◌, length, false, Some, None, IfOk, IfSome, IsSome, nat_lt, MatchOption, MatchResult, option_map};
+ghost use Rattle.gfx_model.specs.Words.{layout_kind, vertex_buffer_kind, index_buffer_kind, uniform_kind, greatest};
 ghost use Rattle.gfx_model.specs.Resources.{bad_range};
 ghost use Rattle.gfx_words.specs.Seen.{kind_seen, uniform_seen, value_seen, refusal_seen};
 ghost use Rattle.store_model.specs.Slots.{at, filled_at, changed_at};
-ghost use Rattle.store_model.specs.Buffers.{no_buffers, bytes_at, layout_at, updated as updated_by, destroyed, new_vertices, new_uniform, with_slot_value, newest_slot};
+ghost use Rattle.store_model.specs.Buffers.{no_buffers, bytes_at, layout_at, updated as updated_by, destroyed, new_vertices, new_uniform, with_slot_value, IsBuffers, IsNewest, HasNoneNamed, has_thing};
 
 use crate::bytes::{Bytes, write_indices};
 use crate::uniform::{Uniform, newest, set_value};
@@ -42,16 +42,23 @@ impl BufferStore {
         ensures { IfOk result (λ store. store ≡ no_buffers) }
     {
         Ok(BufferStore {
-            layouts: Row::new(alloc, 64)?,
-            vertices: Row::new(alloc, 1024)?,
-            indices: Row::new(alloc, 1024)?,
-            uniforms: Row::new(alloc, 256)?,
+            layouts: Row::new(alloc, Kind::Layout.greatest())?,
+            vertices: Row::new(alloc, Kind::VertexBuffer.greatest())?,
+            indices: Row::new(alloc, Kind::IndexBuffer.greatest())?,
+            uniforms: Row::new(alloc, Kind::Uniform.greatest())?,
         })
+    }
+
+    /// Does nothing. It tells how many slots the store has for each kind.
+    pub fn tell_facts(&self)
+        ensures { IsBuffers self.now }
+    {
+        let _ = &self.layouts;
     }
 
     /// Makes a layout. The index is below 64 and has no layout.
     pub fn create_layout(&mut self, index: u16, layout: VertexLayout)
-        requires below { index < 64 }
+        requires below { index < greatest layout_kind }
         requires free { at self.old.layouts index ≡ None }
         ensures { self.new ≡ record self.old { layouts = filled_at index layout self.old.layouts } }
     {
@@ -61,7 +68,7 @@ impl BufferStore {
     /// Makes a vertex buffer, which keeps a copy of its layout. The index is below 1,024 and has no vertex buffer;
     /// the layout is there.
     pub fn create_vertices(&mut self, index: u16, layout: u16, bytes: Vec<u8>)
-        requires below { index < 1024 }
+        requires below { index < greatest vertex_buffer_kind }
         requires free { at self.old.vertices index ≡ None }
         requires there { IsSome (at self.old.layouts layout) }
         ensures { IfSome (at self.old.layouts layout) (λ l. self.new ≡ record self.old { vertices = filled_at index (new_vertices l bytes.items) self.old.vertices }) }
@@ -74,7 +81,7 @@ impl BufferStore {
 
     /// Makes an index buffer. The index is below 1,024 and has no index buffer.
     pub fn create_indices(&mut self, index: u16, bytes: Vec<u8>)
-        requires below { index < 1024 }
+        requires below { index < greatest index_buffer_kind }
         requires free { at self.old.indices index ≡ None }
         ensures { self.new ≡ record self.old { indices = filled_at index bytes.items self.old.indices } }
     {
@@ -83,7 +90,7 @@ impl BufferStore {
 
     /// Makes a uniform with zeros. The index is below 256 and has no uniform.
     pub fn create_uniform(&mut self, index: u16, serial: u32, kind: UniformKind, name: Vec<u8>)
-        requires below { index < 256 }
+        requires below { index < greatest uniform_kind }
         requires free { at self.old.uniforms index ≡ None }
         ensures { self.new ≡ record self.old { uniforms = filled_at index (new_uniform serial (uniform_seen kind) name.items) self.old.uniforms } }
     {
@@ -133,6 +140,13 @@ impl BufferStore {
 
     /// Takes a thing out. Where it is not there, nothing changes.
     pub fn destroy(&mut self, kind: Kind, index: u16)
+        ensures taken { self.new ≡ destroyed (kind_seen kind) index self.old }
+        ensures nothing { has_thing (kind_seen kind) index self.old ≡ false → self.new ≡ self.old }
+    {
+        self.take(kind, index);
+    }
+
+    fn take(&mut self, kind: Kind, index: u16)
         ensures { self.new ≡ destroyed (kind_seen kind) index self.old }
     {
         match kind {
@@ -185,7 +199,8 @@ impl BufferStore {
 
     /// Gives a uniform a value. Where it is not there, nothing changes.
     pub fn set_uniform(&mut self, index: u16, value: UniformValue)
-        ensures { self.new ≡ record self.old { uniforms = changed_at (with_slot_value (value_seen value)) index self.old.uniforms } }
+        ensures set { self.new ≡ record self.old { uniforms = changed_at (with_slot_value (value_seen value)) index self.old.uniforms } }
+        ensures nothing { at self.old.uniforms index ≡ None → self.new ≡ self.old }
     {
         set_value(&mut self.uniforms, index, value);
     }
@@ -200,10 +215,10 @@ impl BufferStore {
         }
     }
 
-    /// The uniform of a name and a kind with the greatest serial. None exactly where there is none.
+    /// The uniform of a name and a kind with the greatest serial; where two have one serial, the one with the greater
+    /// index. None exactly where no uniform has that name and that kind.
     pub fn newest_named(&self, name: &[u8], kind: UniformKind) -> Option<u16>
-        ensures newest { option_and_then (λ index. at self.now.uniforms index) result ≡ newest_slot name.now (uniform_seen kind) self.now.uniforms }
-        ensures found { IfSome result (λ index. IsSome (at self.now.uniforms index)) }
+        ensures { MatchOption result (HasNoneNamed name.now (uniform_seen kind) self.now.uniforms) (λ index. IsNewest name.now (uniform_seen kind) self.now.uniforms index) }
     {
         newest(&self.uniforms, name, kind)
     }

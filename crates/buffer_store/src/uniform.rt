@@ -1,12 +1,13 @@
 // A uniform.
-ghost use Rattle.std.specs.Prelude.{◌≡◌, length, Some, None, IfSome, IsSome};
-ghost use Rattle.std.specs.Option.{option_and_then};
-ghost use Rattle.store_model.specs.Slots.{at, changed_at};
-ghost use Rattle.gfx_model.specs.Words.{value_kind, is_uniform_kind};
+ghost use Rattle.std.specs.Prelude.{◌≡◌, length, MatchOption};
+ghost use Rattle.gfx_model.specs.Words.{uniform_kind, greatest, value_kind, is_uniform_kind};
+ghost use Rattle.gfx_model.specs.Resources.{zero_value};
 ghost use Rattle.gfx_words.specs.Seen.{uniform_seen, value_seen};
-ghost use Rattle.store_model.specs.Buffers.{new_uniform, with_slot_value, zeros as zeros_of, newest_slot, is_named as is_named_of, better as better_of, newer as newer_of};
+ghost use Rattle.store_model.specs.Slots.{at, changed_at};
+ghost use Rattle.store_model.specs.Buffers.{new_uniform, with_slot_value, is_named as is_named_of, IsNewest, HasNoneNamed};
+ghost use Rattle.buffer_store.specs.Search.{found_at, is_as_new as is_as_new_of, takes_over as takes_over_of};
 
-use gfx_words::{UniformKind, UniformValue};
+use gfx_words::{Kind, UniformKind, UniformValue};
 use slot_row::Row;
 use std::marker::Model;
 
@@ -28,7 +29,7 @@ impl Model for Uniform {
 }
 
 fn zeros(kind: UniformKind) -> UniformValue
-    ensures { value_seen result ≡ zeros_of (uniform_seen kind) }
+    ensures { value_seen result ≡ zero_value (uniform_seen kind) }
 {
     match kind {
         UniformKind::Vec4 => UniformValue::Vec4([0; 4]),
@@ -94,58 +95,42 @@ pub(crate) fn set_value(uniforms: &mut Row<Uniform>, index: u16, value: UniformV
 
 /// The uniform of a name and a kind with the greatest serial.
 pub(crate) fn newest(uniforms: &Row<Uniform>, name: &[u8], kind: UniformKind) -> Option<u16>
-    requires { length uniforms.now ≡ 256 }
-    ensures newest { option_and_then (λ i. at uniforms.now i) result ≡ newest_slot name.now (uniform_seen kind) uniforms.now }
-    ensures found { IfSome result (λ i. IsSome (at uniforms.now i)) }
+    requires { length uniforms.now ≡ greatest uniform_kind }
+    ensures { MatchOption result (HasNoneNamed name.now (uniform_seen kind) uniforms.now) (λ i. IsNewest name.now (uniform_seen kind) uniforms.now i) }
 {
     let mut best = None;
-    for index in 0..256u16 {
-        best = better(uniforms, name, kind, best, index);
+    for index in 0..Kind::Uniform.greatest() {
+        if takes_over(uniforms, name, kind, best, index) {
+            best = Some(index);
+        }
     }
     best
 }
 
-// The newer of the best so far and the uniform at an index.
-fn better(
+// Whether the uniform at an index takes the place of the best so far.
+fn takes_over(
     uniforms: &Row<Uniform>,
     name: &[u8],
     kind: UniformKind,
     best: Option<u16>,
     index: u16,
-) -> Option<u16>
-    requires { IfSome best (λ i. IsSome (at uniforms.now i)) }
-    ensures better { option_and_then (λ i. at uniforms.now i) result ≡ better_of name.now (uniform_seen kind) (option_and_then (λ i. at uniforms.now i) best) (at uniforms.now index) }
-    ensures found { IfSome result (λ i. IsSome (at uniforms.now i)) }
+) -> bool
+    ensures { result ≡ takes_over_of name.now (uniform_seen kind) (found_at uniforms.now best) (at uniforms.now index) }
 {
     match uniforms.get(index) {
-        Some(uniform) => {
-            if uniform.is_named(name, kind) {
-                newer(uniforms, best, index, uniform)
-            } else {
-                best
-            }
-        }
-        None => best,
+        Some(uniform) => uniform.is_named(name, kind) && is_as_new(uniforms, best, uniform),
+        None => false,
     }
 }
 
-fn newer(uniforms: &Row<Uniform>, best: Option<u16>, index: u16, uniform: &Uniform) -> Option<u16>
-    requires here { at uniforms.now index ≡ Some uniform.now }
-    requires there { IfSome best (λ i. IsSome (at uniforms.now i)) }
-    ensures newer { option_and_then (λ i. at uniforms.now i) result ≡ newer_of (option_and_then (λ i. at uniforms.now i) best) uniform.now }
-    ensures found { IfSome result (λ i. IsSome (at uniforms.now i)) }
+fn is_as_new(uniforms: &Row<Uniform>, best: Option<u16>, uniform: &Uniform) -> bool
+    ensures { result ≡ is_as_new_of (found_at uniforms.now best) uniform.now }
 {
     match best {
-        Some(old) => match uniforms.get(old) {
-            Some(other) => {
-                if other.serial() <= uniform.serial() {
-                    Some(index)
-                } else {
-                    best
-                }
-            }
-            None => Some(index),
+        Some(best) => match uniforms.get(best) {
+            Some(best) => best.serial() <= uniform.serial(),
+            None => true,
         },
-        None => Some(index),
+        None => true,
     }
 }

@@ -11,9 +11,9 @@ use Rattle.gfx_model.specs.Vertex.{Attribute, position_attribute, normal_attribu
 use Rattle.gfx_model.specs.Commands.{Command, create_layout_command, create_vertex_buffer_command, create_index_buffer_command, create_texture_command, create_frame_buffer_command, create_program_command, create_uniform_command, update_buffer_command, update_texture_command, destroy_command, u16_bytes, u32_bytes, attribute_bytes, command_bytes, buffer_bytes}
 use Rattle.vertex_layout.specs.Placed.{is_addable}
 use Rattle.vertex_layout.specs.Layouts.{is_layout}
-use Rattle.vertex_layout.proofs.ListLaws.{good_more}
+use Rattle.vertex_layout.proofs.ListLaws.{good_more, at_most_seven}
 use Rattle.cmd_buffer.specs.Bytes.{attribute_of_number, component_of_number, placed_of, placed_in, next_attribute, attributes_from, with_stride, layout_in, with_rest, of_length, layout_form, vertex_buffer_form, index_buffer_form, texture_form, frame_buffer_form, program_form, uniform_form, update_buffer_form, update_texture_form, destroy_form, decoded, commands_for, commands_in}
-use Rattle.cmd_buffer.specs.Rows.{Fits, AllFit, IsRow, IsBuffer}
+use Rattle.cmd_buffer.specs.Rows.{Fits, FewBytes, AllFit, IsRow, IsBuffer}
 use Rattle.cmd_buffer.proofs.Shorter.{commands_some}
 
 -- ---- numbers
@@ -214,3 +214,24 @@ no_commands bytes e = ap commands_in e
 
 pub no_row : (bytes : List ℕ) → bytes ≡ [] → IsRow bytes
 no_row bytes e = record { commands = []; fit = tt; is = e }
+
+-- ---- how many bytes there are
+
+pub few_bytes : FewBytes
+few_bytes (create_layout_command index l) f = omega (arith, length_layout l.attributes l.stride, at_most_seven l.attributes (good_of l f.1))
+few_bytes (create_vertex_buffer_command index layout payload) f = omega arith
+few_bytes (create_index_buffer_command index payload) f = omega arith
+few_bytes (create_texture_command index width height format blit_destination source value) f = omega arith
+few_bytes (create_frame_buffer_command index color depth) f = omega arith
+few_bytes (create_program_command index kind) f = omega arith
+few_bytes (create_uniform_command index serial kind payload) f = omega arith
+few_bytes (update_buffer_command kind index offset payload) f = omega arith
+few_bytes (update_texture_command index x y w h payload) f = omega arith
+few_bytes (destroy_command kind index) f = omega arith
+
+pub fitting : (bytes : List ℕ) → IsRow bytes → AllFit (commands_in bytes)
+fitting bytes r = rw (commands_are bytes r) r.fit
+
+pub fitting_buffer : (bytes : List ℕ) → IsBuffer bytes → AllFit (commands_in bytes)
+unfolding commands_for
+fitting_buffer bytes r = rw (ap commands_in r.is ∙ row_again r.commands (0 ∷ []) r.fit ∙ append-nil r.commands) r.fit

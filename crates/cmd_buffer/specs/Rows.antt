@@ -1,5 +1,5 @@
 -- Rows of commands as bytes, and a row that is being written.
-use Rattle.std.specs.Prelude.{◌≡◌, ℕ, ◌<◌, true, List, [], ◌∷◌}
+use Rattle.std.specs.Prelude.{◌≡◌, ℕ, ◌<◌, ◌≤◌, true, List, [], ◌∷◌, length}
 use Rattle.std.specs.List.{flat_map}
 use Rattle.gfx_model.specs.Commands.{Command, create_layout_command, create_vertex_buffer_command, create_index_buffer_command, create_texture_command, create_frame_buffer_command, create_program_command, create_uniform_command, update_buffer_command, update_texture_command, destroy_command, command_bytes, buffer_bytes}
 use Rattle.vertex_layout.specs.Layouts.{is_layout}
@@ -43,3 +43,7 @@ pub record IsBuffer (bytes : List ℕ) : Type 0 where
   pub commands : List Command
   pub fit : AllFit commands
   pub is : bytes ≡ buffer_bytes commands
+
+-- a command whose fields fit has few bytes: a layout has at most seven attributes
+abbrev pub FewBytes : Type 0
+FewBytes = (c : Command) → Fits c → length (command_bytes c) ≤ 33

@@ -1,9 +1,17 @@
 // What is done to things.
+ghost use Rattle.std.specs.Prelude.{◌≡◌, ◌≤◌, length};
+ghost use Rattle.gfx_model.specs.Commands.{command_bytes};
+ghost use Rattle.cmd_buffer.specs.Rows.{FewBytes};
+ghost use Rattle.cmd_buffer.specs.Seen.{command_seen};
+
 use vertex_layout::VertexLayout;
+
+/// How many bytes a command has at most: a layout of seven attributes.
+pub const MOST_COMMAND_BYTES: u32 = 33;
 
 /// What is done to the thing of an index. Kinds, formats and program kinds are given by their numbers, and a
 /// payload by its place in the frame's list of payloads, from 0.
-#[derive(Clone, Copy)]
+#[derive(Clone, Copy, Debug)]
 pub enum Command {
     CreateLayout {
         index: u16,
@@ -64,3 +72,26 @@ pub enum Command {
         index: u16,
     },
 }
+
+impl Command {
+    /// How many bytes this command has in a row, at most 33.
+    pub fn size(&self) -> u32
+        ensures size { result ≡ length (command_bytes (command_seen self.now)) }
+        ensures most { result ≤ MOST_COMMAND_BYTES }
+    {
+        match self {
+            Command::CreateLayout { layout, .. } => 5 + 4 * layout.attributes().len() as u32,
+            Command::CreateProgram { .. } | Command::Destroy { .. } => 4,
+            Command::CreateIndexBuffer { .. } | Command::CreateFrameBuffer { .. } => 7,
+            Command::CreateVertexBuffer { .. } => 9,
+            Command::CreateUniform { .. } | Command::UpdateBuffer { .. } => 12,
+            Command::CreateTexture { .. } => 14,
+            Command::UpdateTexture { .. } => 15,
+        }
+    }
+}
+
+/// A command whose fields fit their bytes has at most 33 of them.
+pub fn few_bytes()
+    ensures { FewBytes }
+{}

@@ -6,7 +6,7 @@ mod decode;
 mod read;
 mod write;
 
-pub use command::Command;
+pub use command::{Command, MOST_COMMAND_BYTES, few_bytes};
 pub use read::{CmdBytes, CmdReader};
 pub use write::CmdBuffer;
 

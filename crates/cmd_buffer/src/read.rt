@@ -2,7 +2,7 @@
 ghost use Rattle.std.specs.Prelude.{◌≡◌, [], ◌∷◌, MatchOption};
 ghost use Rattle.gfx_model.specs.Commands.{buffer_bytes};
 ghost use Rattle.cmd_buffer.specs.Bytes.{commands_in};
-ghost use Rattle.cmd_buffer.specs.Rows.{IsBuffer};
+ghost use Rattle.cmd_buffer.specs.Rows.{AllFit, IsBuffer};
 ghost use Rattle.cmd_buffer.specs.Seen.{command_seen};
 
 use crate::command::Command;
@@ -34,6 +34,13 @@ impl CmdBytes {
         ensures { result ≡ commands_in bytes.items }
     {
         CmdBytes { bytes }
+    }
+
+    /// What every finished row keeps: each field of its commands fits its bytes.
+    pub fn tell_facts(&self)
+        ensures { AllFit self.now }
+    {
+        let _ = &self.bytes;
     }
 
     /// The bytes: each command's number in one byte and its fields in order, and the end word 0.

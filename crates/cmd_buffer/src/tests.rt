@@ -1,5 +1,5 @@
 // Command bytes from outside, and every command written and read back.
-use crate::{CmdBuffer, CmdBytes, CmdReader, Command};
+use crate::{CmdBuffer, CmdBytes, CmdReader, Command, MOST_COMMAND_BYTES};
 use std::alloc::{AllocError, Global};
 use std::test::Fail;
 use vertex_layout::{Attr, AttrType, LayoutBuilder, VertexLayout};
@@ -216,5 +216,32 @@ fn reserved_bytes_are_enough(rt: HostRuntime) -> Result<(), Fail> {
     assert!(rt; buffer.write(Command::Destroy { kind: 5, index: 3 }).is_ok());
     let bytes = buffer.finish()?;
     assert_eq!(rt; bytes.as_slice().len(), 9);
+    Ok(())
+}
+
+#[test]
+fn sizes_of_commands(rt: HostRuntime) -> Result<(), Fail> {
+    let Some(layout) = halves() else {
+        return Ok(());
+    };
+    let commands = [
+        Command::CreateLayout { index: 1, layout },
+        Command::UpdateTexture {
+            index: 1,
+            x: 2,
+            y: 3,
+            w: 4,
+            h: 5,
+            payload: 6,
+        },
+        Command::CreateProgram { index: 3, kind: 2 },
+    ];
+    let mut sum = 1;
+    for command in &commands {
+        assert!(rt; command.size() <= MOST_COMMAND_BYTES);
+        sum += command.size() as usize;
+    }
+    assert_eq!(rt; bytes_of(rt.alloc(), &commands)?.as_slice().len(), sum);
+    assert_eq!(rt; sum, 33);
     Ok(())
 }

@@ -1,10 +1,10 @@
 // Writes rows of commands.
-ghost use Rattle.std.specs.Prelude.{◌≡◌, ◌+◌, ◌*◌, ◌≤◌, ◌++◌, ◌∷◌, [], ◌%◌, ◌/◌, length, map, true, vec_len, vec_capacity, IfOk, IsOk, OnErr, OnOk, MatchResult};
-ghost use Rattle.gfx_model.specs.Commands.{command_bytes, attribute_bytes, create_layout_command, create_vertex_buffer_command, create_index_buffer_command, create_frame_buffer_command, create_texture_command, create_uniform_command, update_buffer_command, update_texture_command, buffer_bytes};
+ghost use Rattle.std.specs.Prelude.{◌≡◌, ◌+◌, ◌*◌, ◌≤◌, ◌++◌, ◌∷◌, [], length, map, true, vec_len, vec_capacity, IfOk, IsOk, OnErr, OnOk, MatchResult};
+ghost use Rattle.gfx_model.specs.Commands.{command_bytes, attribute_bytes, create_layout_command, create_vertex_buffer_command, create_index_buffer_command, create_frame_buffer_command, create_texture_command, create_program_command, create_uniform_command, update_buffer_command, update_texture_command, destroy_command, buffer_bytes};
 ghost use Rattle.std.specs.List.{flat_map};
 ghost use Rattle.vertex_layout.specs.Placed.{placed_seen};
 ghost use Rattle.vertex_layout.specs.Layouts.{is_layout};
-ghost use Rattle.cmd_buffer.specs.Rows.{Fits, IsRow, IsBuffer};
+ghost use Rattle.cmd_buffer.specs.Rows.{AllFit, Fits, IsRow, IsBuffer};
 ghost use Rattle.cmd_buffer.specs.Seen.{command_seen};
 
 use crate::command::Command;
@@ -29,42 +29,6 @@ impl Model for CmdBuffer {
     ghost view = { λ s. record { commands = commands_in s.bytes.items; spare = vec_capacity s.bytes - vec_len s.bytes } };
 
     ghost invariant = { λ s. IsRow s.bytes.items };
-}
-
-fn low(n: u16) -> u8
-    ensures { result ≡ n % 256 }
-{
-    (n % 256) as u8
-}
-
-fn high(n: u16) -> u8
-    ensures { result ≡ n / 256 % 256 }
-{
-    (n / 256) as u8
-}
-
-fn byte_0(n: u32) -> u8
-    ensures { result ≡ n % 256 }
-{
-    (n % 256) as u8
-}
-
-fn byte_1(n: u32) -> u8
-    ensures { result ≡ n / 256 % 256 }
-{
-    (n / 256 % 256) as u8
-}
-
-fn byte_2(n: u32) -> u8
-    ensures { result ≡ n / 65536 % 256 }
-{
-    (n / 65536 % 256) as u8
-}
-
-fn byte_3(n: u32) -> u8
-    ensures { result ≡ n / 16777216 % 256 }
-{
-    (n / 16777216) as u8
 }
 
 // The bytes of a layout's attributes; there is room for them.
@@ -95,7 +59,8 @@ fn put_layout(bytes: &mut Vec<u8>, index: u16, layout: &VertexLayout) -> Result<
     let attributes = layout.attributes();
     let count = attributes.len();
     bytes.try_reserve(5 + 4 * count)?;
-    let head = [1, low(index), high(index), count as u8];
+    let i = index.to_le_bytes();
+    let head = [1, i[0], i[1], count as u8];
     bytes.extend_from_slice(&head).unwrap();
     put_attributes(bytes, attributes);
     bytes.push(layout.stride()).unwrap();
@@ -105,31 +70,18 @@ fn put_layout(bytes: &mut Vec<u8>, index: u16, layout: &VertexLayout) -> Result<
 fn vertex_buffer_bytes(index: u16, layout: u16, payload: u32) -> [u8; 9]
     ensures { result ≡ command_bytes (create_vertex_buffer_command index layout payload) }
 {
-    [
-        2,
-        low(index),
-        high(index),
-        low(layout),
-        high(layout),
-        byte_0(payload),
-        byte_1(payload),
-        byte_2(payload),
-        byte_3(payload),
-    ]
+    let i = index.to_le_bytes();
+    let l = layout.to_le_bytes();
+    let p = payload.to_le_bytes();
+    [2, i[0], i[1], l[0], l[1], p[0], p[1], p[2], p[3]]
 }
 
 fn index_buffer_bytes(index: u16, payload: u32) -> [u8; 7]
     ensures { result ≡ command_bytes (create_index_buffer_command index payload) }
 {
-    [
-        3,
-        low(index),
-        high(index),
-        byte_0(payload),
-        byte_1(payload),
-        byte_2(payload),
-        byte_3(payload),
-    ]
+    let i = index.to_le_bytes();
+    let p = payload.to_le_bytes();
+    [3, i[0], i[1], p[0], p[1], p[2], p[3]]
 }
 
 fn texture_bytes(
@@ -143,95 +95,72 @@ fn texture_bytes(
 ) -> [u8; 14]
     ensures { result ≡ command_bytes (create_texture_command index width height format blit_dst source value) }
 {
+    let i = index.to_le_bytes();
+    let w = width.to_le_bytes();
+    let h = height.to_le_bytes();
+    let v = value.to_le_bytes();
     [
-        4,
-        low(index),
-        high(index),
-        low(width),
-        high(width),
-        low(height),
-        high(height),
-        format,
-        blit_dst,
-        source,
-        byte_0(value),
-        byte_1(value),
-        byte_2(value),
-        byte_3(value),
+        4, i[0], i[1], w[0], w[1], h[0], h[1], format, blit_dst, source, v[0], v[1], v[2], v[3],
     ]
 }
 
 fn frame_buffer_bytes(index: u16, color: u16, depth: u16) -> [u8; 7]
     ensures { result ≡ command_bytes (create_frame_buffer_command index color depth) }
 {
-    [
-        5,
-        low(index),
-        high(index),
-        low(color),
-        high(color),
-        low(depth),
-        high(depth),
-    ]
+    let i = index.to_le_bytes();
+    let c = color.to_le_bytes();
+    let d = depth.to_le_bytes();
+    [5, i[0], i[1], c[0], c[1], d[0], d[1]]
+}
+
+fn program_bytes(index: u16, kind: u8) -> [u8; 4]
+    ensures { result ≡ command_bytes (create_program_command index kind) }
+{
+    let i = index.to_le_bytes();
+    [6, i[0], i[1], kind]
+}
+
+fn destroy_bytes(kind: u8, index: u16) -> [u8; 4]
+    ensures { result ≡ command_bytes (destroy_command kind index) }
+{
+    let i = index.to_le_bytes();
+    [10, kind, i[0], i[1]]
 }
 
 fn uniform_bytes(index: u16, serial: u32, kind: u8, payload: u32) -> [u8; 12]
     ensures { result ≡ command_bytes (create_uniform_command index serial kind payload) }
 {
+    let i = index.to_le_bytes();
+    let s = serial.to_le_bytes();
+    let p = payload.to_le_bytes();
     [
-        7,
-        low(index),
-        high(index),
-        byte_0(serial),
-        byte_1(serial),
-        byte_2(serial),
-        byte_3(serial),
-        kind,
-        byte_0(payload),
-        byte_1(payload),
-        byte_2(payload),
-        byte_3(payload),
+        7, i[0], i[1], s[0], s[1], s[2], s[3], kind, p[0], p[1], p[2], p[3],
     ]
 }
 
 fn update_buffer_bytes(kind: u8, index: u16, offset: u32, payload: u32) -> [u8; 12]
     ensures { result ≡ command_bytes (update_buffer_command kind index offset payload) }
 {
+    let i = index.to_le_bytes();
+    let o = offset.to_le_bytes();
+    let p = payload.to_le_bytes();
     [
-        8,
-        kind,
-        low(index),
-        high(index),
-        byte_0(offset),
-        byte_1(offset),
-        byte_2(offset),
-        byte_3(offset),
-        byte_0(payload),
-        byte_1(payload),
-        byte_2(payload),
-        byte_3(payload),
+        8, kind, i[0], i[1], o[0], o[1], o[2], o[3], p[0], p[1], p[2], p[3],
     ]
 }
 
 fn update_texture_bytes(index: u16, x: u16, y: u16, w: u16, h: u16, payload: u32) -> [u8; 15]
     ensures { result ≡ command_bytes (update_texture_command index x y w h payload) }
 {
+    let i = index.to_le_bytes();
+    let left = x.to_le_bytes();
+    let top = y.to_le_bytes();
+    let width = w.to_le_bytes();
+    let height = h.to_le_bytes();
+    let p = payload.to_le_bytes();
     [
-        9,
-        low(index),
-        high(index),
-        low(x),
-        high(x),
-        low(y),
-        high(y),
-        low(w),
-        high(w),
-        low(h),
-        high(h),
-        byte_0(payload),
-        byte_1(payload),
-        byte_2(payload),
-        byte_3(payload),
+        9, i[0], i[1], left[0], left[1], top[0], top[1], width[0], width[1], height[0], height[1],
+        p[0], p[1], p[2], p[3],
     ]
 }
 
@@ -298,10 +227,7 @@ fn append(bytes: &mut Vec<u8>, command: &Command) -> Result<(), AllocError>
             color,
             depth,
         } => put(bytes, &frame_buffer_bytes(*index, *color, *depth)),
-        Command::CreateProgram { index, kind } => put(
-            bytes,
-            &[6, low(*index), high(*index), *kind],
-        ),
+        Command::CreateProgram { index, kind } => put(bytes, &program_bytes(*index, *kind)),
         Command::CreateUniform {
             index,
             serial,
@@ -325,7 +251,7 @@ fn append(bytes: &mut Vec<u8>, command: &Command) -> Result<(), AllocError>
             h,
             payload,
         } => put_texture_update(bytes, *index, *x, *y, *w, *h, *payload),
-        Command::Destroy { kind, index } => put(bytes, &[10, *kind, low(*index), high(*index)]),
+        Command::Destroy { kind, index } => put(bytes, &destroy_bytes(*kind, *index)),
     }
 }
 
@@ -337,6 +263,13 @@ impl CmdBuffer {
         CmdBuffer {
             bytes: Vec::new(alloc),
         }
+    }
+
+    /// What every row keeps: each field of its commands fits its bytes.
+    pub fn tell_facts(&self)
+        ensures { AllFit self.now.commands }
+    {
+        let _ = &self.bytes;
     }
 
     /// Makes room for so many bytes more. It succeeds where the spare is enough. After want of memory the buffer is

@@ -1,22 +1,24 @@
 -- What was named stays named, and what a call asks of its handles stays true.
 use Rattle.std.proofs.Common.{◌≡◌, ℕ, ◌<◌, inl, inr, Bool, true, false, if◌then◌else◌, List, [], ◌∷◌, ◌++◌, length, Option, Some, None, Result, Ok, Err, MatchResult, IsTrue, refl, ap, sym, ◌∙◌, subst, arith, length-append}
 use Rattle.std.specs.List.{AllByRecursion}
-use Rattle.schedule_model.proofs.Lists.{all-map, all-snoc, all-set}
+use Rattle.schedule_model.proofs.Lists.{all-map, all-snoc, all-set, ascends-snoc}
 use Rattle.gfx_model.specs.Number.{is_bit_set}
 use Rattle.gfx_model.specs.Words.{Handle, program_kind, is_kind, place_of_handle, is_usable_in}
+use Rattle.gfx_model.specs.Views.{IsViewCount}
 use Rattle.gfx_model.specs.World.{VertexSet, no_vertices, stored_vertices, transient_vertices, IndexSet, no_indices, stored_indices, transient_indices, UniformSet, Item, draw_item, touch_item, blit_item}
 use Rattle.gfx_model.specs.Recorder as calls
+use Rattle.gfx_model.specs.Resources.{Refusal as ModelRefusal, first_refusal, or_refusal}
 use Rattle.gfx_words.specs.declared.refusals.Refusal.{Refusal}
 use Rattle.gfx_words.specs.declared.refusals.Refusal.TheVariants as refusals
-use Rattle.hold_table.specs.Views.{SeatView, Asked, asks, drawn, HasAsked, IsWordSince}
-use Rattle.draw_encoder.specs.Calls.{EncoderView}
-use Rattle.draw_encoder.specs.Names.{IsNamedIn, HasNamed, FitsVertices, FitsIndices, FitsTexture, FitsUniform, FitsItem, FitsRecorder}
+use Rattle.hold_table.specs.Views.{SeatView, Asked, asks, drawn, HasAsked, IsNamedIn, HasNamed, IsWordSince}
+use Rattle.draw_encoder.specs.Calls.{EncoderView, Answers}
+use Rattle.draw_encoder.specs.Names.{FitsVertices, FitsIndices, FitsTexture, FitsUniform, FitsItem, FitsRecorder}
 use Rattle.draw_encoder.specs.TapeViews.{TapeView, with_call, with_set, with_item}
 use Rattle.draw_encoder.specs.Encoders.{IsOf}
 
 -- ---- names
 
-named_more : (frame : ℕ) (h : Handle) (asked more : List Asked) → IsNamedIn frame h asked → IsNamedIn frame h (asked ++ more)
+pub named_more : (frame : ℕ) (h : Handle) (asked more : List Asked) → IsNamedIn frame h asked → IsNamedIn frame h (asked ++ more)
 named_more frame h [] more n = absurd n
 named_more frame h (a ∷ rest) more (inl n) = inl n
 named_more frame h (a ∷ rest) more (inr n) = inr (named_more frame h rest more n)
@@ -28,32 +30,32 @@ named_now frame h (a ∷ rest) w usable = inr (named_now frame h rest w usable)
 -- ---- what fits one list of names fits a longer one
 
 module _ (N M : Handle → Type 0) (more : (h : Handle) → N h → M h) where
-  vertices_fit : (v : VertexSet) → FitsVertices N v → FitsVertices M v
+  pub vertices_fit : (v : VertexSet) → FitsVertices N v → FitsVertices M v
   vertices_fit no_vertices f = tt
   vertices_fit (stored_vertices h first count) f = (more h f.0, f.1)
   vertices_fit (transient_vertices h bytes) f = (more h f.0, f.1)
 
-  indices_fit : (v : IndexSet) → FitsIndices N v → FitsIndices M v
+  pub indices_fit : (v : IndexSet) → FitsIndices N v → FitsIndices M v
   indices_fit no_indices f = tt
   indices_fit (stored_indices h first count) f = (more h f.0, f.1)
   indices_fit (transient_indices bytes) f = tt
 
-  texture_fits : (t : Option Handle) → FitsTexture N t → FitsTexture M t
+  pub texture_fits : (t : Option Handle) → FitsTexture N t → FitsTexture M t
   texture_fits None f = tt
   texture_fits (Some h) f = (more h f.0, f.1)
 
-  uniforms_fit : (ss : List UniformSet) → AllByRecursion (FitsUniform N) ss → AllByRecursion (FitsUniform M) ss
+  pub uniforms_fit : (ss : List UniformSet) → AllByRecursion (FitsUniform N) ss → AllByRecursion (FitsUniform M) ss
   uniforms_fit = all-map (FitsUniform N) (FitsUniform M) (λ s f. (more s.uniform f.0, f.1))
 
-  textures_fit : (ts : List (Option Handle)) → AllByRecursion (FitsTexture N) ts → AllByRecursion (FitsTexture M) ts
+  pub textures_fit : (ts : List (Option Handle)) → AllByRecursion (FitsTexture N) ts → AllByRecursion (FitsTexture M) ts
   textures_fit = all-map (FitsTexture N) (FitsTexture M) texture_fits
 
-  item_fits : (views : ℕ) (i : Item) → FitsItem N views i → FitsItem M views i
+  pub item_fits : (views : ℕ) (i : Item) → FitsItem N views i → FitsItem M views i
   item_fits views (draw_item d) f = (f.0, (more d.program f.1.0, f.1.1), vertices_fit d.vertices f.2, indices_fit d.indices f.3, textures_fit d.textures f.4, uniforms_fit d.values f.5)
   item_fits views (touch_item t) f = (f.0, uniforms_fit t.values f.1)
   item_fits views (blit_item b) f = (f.0, more b.destination f.1, more b.source f.2, f.3, f.4)
 
-  recorder_fits : (e : calls.Recorder) → FitsRecorder N e → FitsRecorder M e
+  pub recorder_fits : (e : calls.Recorder) → FitsRecorder N e → FitsRecorder M e
   recorder_fits e f = record {
     vertices = vertices_fit e.current.vertices f.vertices;
     indices = indices_fit e.current.indices f.indices;
@@ -63,12 +65,13 @@ module _ (N M : Handle → Type 0) (more : (h : Handle) → N h → M h) where
   }
 
 -- the seat asked once more
-pub of_asks : (views p w : ℕ) (v : SeatView) (t : TapeView) → IsOf views v t → IsOf views (asks p w v) t
-of_asks views p w v t o =
+pub of_asks : (p w : ℕ) (v : SeatView) (t : TapeView) → IsOf v t → IsOf (asks p w v) t
+of_asks p w v t o =
     let more : (h : Handle) → HasNamed v h → HasNamed (asks p w v) h = λ h n. named_more v.frame h v.asked (record { place = p; word = w } ∷ []) n in
     record {
       frame = o.frame;
-      views_are = o.views_are;
+      views = o.views;
+      ascends = o.ascends;
       numbers = o.numbers;
       count = o.count;
       most = o.most;
@@ -146,13 +149,23 @@ limits_after e (calls.submit v h depth flags) = (refl, refl, refl)
 limits_after e (calls.touch v) = (refl, refl, refl)
 limits_after e (calls.blit b) = (refl, refl, refl)
 
-module _ (views : ℕ) (v : SeatView) (t : TapeView) (o : IsOf views v t) where
-  pub of_call : (c : calls.EncoderCall) (u : TapeView) → u ≡ with_call c t → (calls.after t.recorder c).items ≡ t.recorder.items → FitsCall (HasNamed v) t.recorder c → IsOf views v u
+-- an answered call leaves the number of views
+views_by : (e d : calls.Recorder) (c : calls.EncoderCall) (o : Option ModelRefusal) → or_refusal (calls.after e c) o ≡ Ok d → d.view_count ≡ e.view_count
+views_by e d c None is = let same : calls.after e c ≡ d = cc is in ap (λ r. r.view_count) (sym same) ∙ (limits_after e c).1
+views_by e d c (Some r) is = cc is
+
+pub views_stay : (old new : EncoderView) (c : calls.EncoderCall) (r : Result (Unit {0}) Refusal) → Answers old new c r → new.recorder.view_count ≡ old.recorder.view_count
+views_stay old new c (Ok u) a = views_by old.recorder new.recorder c (first_refusal (calls.refusals old.recorder a.words c)) a.outcome.0
+views_stay old new c (Err x) a = ap (λ e. e.view_count) a.outcome.1
+
+module _ (v : SeatView) (t : TapeView) (o : IsOf v t) where
+  pub of_call : (c : calls.EncoderCall) (u : TapeView) → u ≡ with_call c t → (calls.after t.recorder c).items ≡ t.recorder.items → FitsCall (HasNamed v) t.recorder c → IsOf v u
   of_call c u e same fits =
       let l = limits_after t.recorder c in
-      subst (IsOf views v) (sym e) (record {
+      subst (IsOf v) (sym e) (record {
         frame = l.0 ∙ o.frame;
-        views_are = l.1 ∙ o.views_are;
+        views = subst IsViewCount (sym l.1) o.views;
+        ascends = o.ascends;
         numbers = o.numbers;
         count = o.count ∙ ap length (sym same);
         most = let r = ap (λ r. r.items) l.2 in let m = o.most in omega arith;
@@ -160,10 +173,11 @@ module _ (views : ℕ) (v : SeatView) (t : TapeView) (o : IsOf views v t) where
         sets = o.sets;
       })
 
-  pub of_set : (h : Handle) (x : UniformSet) (u : TapeView) → u ≡ with_set x (calls.set_uniform x.uniform x.value) t → FitsUniform (HasNamed v) x → IsOf views v u
-  of_set h x u e fits = subst (IsOf views v) (sym e) (record {
+  pub of_set : (h : Handle) (x : UniformSet) (u : TapeView) → u ≡ with_set x (calls.set_uniform x.uniform x.value) t → FitsUniform (HasNamed v) x → IsOf v u
+  of_set h x u e fits = subst (IsOf v) (sym e) (record {
     frame = o.frame;
-    views_are = o.views_are;
+    views = o.views;
+    ascends = o.ascends;
     numbers = o.numbers;
     count = o.count;
     most = o.most;
@@ -171,14 +185,15 @@ module _ (views : ℕ) (v : SeatView) (t : TapeView) (o : IsOf views v t) where
     sets = all-snoc (FitsUniform (HasNamed v)) t.sets x o.sets fits;
   })
 
-  pub of_item : (n : ℕ) (c : calls.EncoderCall) (i : Item) (u : TapeView) (w : SeatView) → u ≡ with_item n c t → w ≡ drawn n v → (calls.after t.recorder c).items ≡ t.recorder.items ++ i ∷ [] → FitsCall (HasNamed v) t.recorder c → IsOf views w u
-  of_item n c i u w e f same fits =
+  pub of_item : (n : ℕ) (c : calls.EncoderCall) (i : Item) (u : TapeView) (w : SeatView) → u ≡ with_item n c t → w ≡ drawn n v → AllByRecursion (λ m. m < n) v.numbers → (calls.after t.recorder c).items ≡ t.recorder.items ++ i ∷ [] → FitsCall (HasNamed v) t.recorder c → IsOf w u
+  of_item n c i u w e f above same fits =
       let l = limits_after t.recorder c in
       let longer = length-append t.numbers (n ∷ []) in
       let more = ap length same ∙ length-append t.recorder.items (i ∷ []) in
-      subst (λ (x : SeatView × TapeView). IsOf views x.0 x.1) (λ j. (sym f j, sym e j)) (record {
+      subst (λ (x : SeatView × TapeView). IsOf x.0 x.1) (λ j. (sym f j, sym e j)) (record {
         frame = l.0 ∙ o.frame;
-        views_are = l.1 ∙ o.views_are;
+        views = subst IsViewCount (sym l.1) o.views;
+        ascends = ascends-snoc v.numbers n o.ascends above;
         numbers = ap (λ (ns : List ℕ). ns ++ n ∷ []) o.numbers;
         count = let c = o.count in omega arith;
         most = let r = ap (λ r. r.items) l.2 in let m = o.most in omega arith;

@@ -3,6 +3,7 @@ use Rattle.std.specs.Prelude.{◌≡◌, ◌≤◌, ℕ, List, [], length}
 use Rattle.std.specs.List.{AllByRecursion}
 use Rattle.atomic_table.specs.Seated.{TableId}
 use Rattle.gfx_model.specs.World.{Item}
+use Rattle.schedule_model.specs.Held.{Ascends}
 use Rattle.hold_table.specs.declared.table.EncSeat.{EncSeat}
 use Rattle.hold_table.specs.Seats.{enc_view}
 use Rattle.draw_encoder.specs.declared.items.Recording.{Recording}
@@ -17,12 +18,13 @@ no_table = record { words = 0; slots = 0; views_name = 0; atom = 0; block = 0; o
 abbrev pub items_of : Recording → List Item
 items_of r = items_seen r.bytes r.uniforms r.items
 
--- a recording and its seat: the encoder's number, the frame and the draw numbers are the seat's, each range lies within the bytes or the values,
+-- a recording and its seat: the encoder's number, the frame and the draw numbers are the seat's, the numbers ascend, each range lies within the bytes or the values,
 -- each handle is of a thing that the seat named and of the kind that its call asked, and each view is below the number of views
 pub record BelongTogether (views : ℕ) (r : Recording) (seat : EncSeat) : Type 0 where
   pub encoder : r.encoder ≡ (enc_view seat).encoder
   pub frame : r.frame ≡ (enc_view seat).frame
   pub numbers : numbers_of r.items ≡ (enc_view seat).numbers
+  pub ascends : Ascends (numbers_of r.items)
   pub few : length r.items ≤ 8191
   pub within : AllByRecursion (HasRangesWithin (length r.bytes) (length r.uniforms)) r.items
   pub items : AllByRecursion (FitsItem (HasNamed (enc_view seat)) views) (items_of r)

@@ -1,5 +1,6 @@
 -- How an encoder answers a call.
 use Rattle.std.specs.Prelude.{◌≡◌, ℕ, ◌+◌, Bool, true, false, if◌then◌else◌, List, [], ◌∷◌, length, Result, Ok, MatchResult, ⊤}
+use Rattle.atomic_table.specs.Seated.{TableId}
 use Rattle.gfx_model.specs.Words.{Handle, place_of_handle}
 use Rattle.gfx_model.specs.Resources.{Refusal as ModelRefusal, stale}
 use Rattle.gfx_model.specs.Recorder.{Recorder, EncoderCall, submit, touch, blit, refusals, asked, answer}
@@ -11,6 +12,11 @@ use Rattle.hold_table.specs.Views.{SeatView, asks, drawn, IsWordSince}
 pub record EncoderView : Type 0 where
   pub recorder : Recorder
   pub seat : SeatView
+
+-- the state of a recorder under an encoder, and the table of its seat
+pub record RecorderView : Type 0 where
+  pub table : TableId
+  pub state : EncoderView
 
 -- ---- the words that a call loads
 

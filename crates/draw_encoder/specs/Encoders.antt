@@ -1,14 +1,17 @@
--- The encoder's fields as its view, and what they keep.
+-- What a recorder's fields keep.
 use Rattle.std.specs.Prelude.{◌≡◌, ◌≤◌, ℕ, length}
 use Rattle.std.specs.List.{AllByRecursion}
+use Rattle.gfx_model.specs.Views.{IsViewCount}
+use Rattle.schedule_model.specs.Held.{Ascends}
 use Rattle.hold_table.specs.Views.{SeatView}
 use Rattle.draw_encoder.specs.TapeViews.{TapeView}
 use Rattle.draw_encoder.specs.Names.{HasNamed, FitsUniform, FitsRecorder}
 
--- what is recorded is of the seat's frame and numbers, and of handles that the seat named
-pub record IsOf (views : ℕ) (v : SeatView) (t : TapeView) : Type 0 where
+-- what is recorded is of the seat's frame and numbers, which ascend, and of handles that the seat named
+pub record IsOf (v : SeatView) (t : TapeView) : Type 0 where
   pub frame : t.recorder.frame ≡ v.frame
-  pub views_are : t.recorder.view_count ≡ views
+  pub views : IsViewCount t.recorder.view_count
+  pub ascends : Ascends v.numbers
   pub numbers : t.numbers ≡ v.numbers
   pub count : length t.numbers ≡ length t.recorder.items
   pub most : t.recorder.room.items ≤ 8191

@@ -4,16 +4,7 @@ use Rattle.std.specs.List.{AllByRecursion}
 use Rattle.gfx_model.specs.Words.{Handle, layout_kind, vertex_buffer_kind, index_buffer_kind, program_kind, uniform_kind, is_kind, place_of_handle, is_usable_in}
 use Rattle.gfx_model.specs.World.{VertexSet, no_vertices, stored_vertices, transient_vertices, IndexSet, no_indices, stored_indices, transient_indices, UniformSet, Item, draw_item, touch_item, blit_item}
 use Rattle.gfx_model.specs.Recorder.{Recorder, format_of, is_rgba8_option, same_formats, is_blit_destination_in, takes_value}
-use Rattle.hold_table.specs.Views.{SeatView, Asked}
-
--- a place of the list was the handle's, and its word had the handle's serial usable in the frame
-abbrev pub IsNamedIn : ℕ → Handle → List Asked → Type 0
-IsNamedIn frame h [] = ⊥
-IsNamedIn frame h (a ∷ rest) = ((a.place ≡ place_of_handle h) × IsTrue (is_usable_in frame a.word h.serial)) ⊎ IsNamedIn frame h rest
-
--- the seat asked the handle's place, and found its thing usable
-abbrev pub HasNamed : SeatView → Handle → Type 0
-HasNamed v h = IsNamedIn v.frame h v.asked
+pub use Rattle.hold_table.specs.Views.{IsNamedIn, HasNamed}
 
 -- ---- each handle is named, and is of the kind that its call asks
 

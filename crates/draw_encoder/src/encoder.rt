@@ -1,58 +1,48 @@
-// Recording.
-ghost use Rattle.std.specs.Prelude.{◌≡◌, ◌<◌, ◌≤◌, ◌⊎◌, ℕ, [], length, true, false, Ok, Some, None, nat_le, nat_lt, IfOk, IfErr, MatchResult, not};
-ghost use Rattle.gfx_model.specs.Words.{place_of_handle, is_usable_in, is_kind};
+// Recording on a named table, by an encoder that ends into the queue.
+ghost use Rattle.std.specs.Prelude.{◌≡◌, [], length, Ok, IfOk, IfErr};
 ghost use Rattle.gfx_model.specs.Recorder as calls;
-ghost use Rattle.gfx_words.specs.Seen.{kind_seen, value_seen};
-ghost use Rattle.gfx_words.specs.declared.refusals.Refusal.TheVariants as refusals;
+ghost use Rattle.gfx_words.specs.Seen.{value_seen};
 ghost use Rattle.fix_math.specs.Seen.{rect_seen, affine_seen};
-ghost use Rattle.hold_table.specs.Views.{SeatView, HasAsked, drawn, recorder};
 ghost use Rattle.hold_table.specs.Seats.{enc_table, enc_view};
 ghost use Rattle.draw_encoder.specs.Seen.{room_seen, copy_seen};
 ghost use Rattle.draw_encoder.specs.TapeViews.{IsRoom};
 ghost use Rattle.draw_encoder.specs.Calls.{EncoderView, Answers};
 
 use crate::bundle::Bundle;
-use crate::handles::{
-    differ_in_format, is_no_blit_destination, is_no_color_texture, is_no_uniform_for, is_not_of,
-};
-use crate::items::{BlitCall, Room, UniformSet};
+use crate::items::{BlitCall, Room};
 use crate::naming::Naming;
+use crate::recorder::Recorder;
 use crate::shared::Shared;
-use crate::tape::Tape;
 use fix_math::{Affine, Rect};
-use gfx_words::{Handle, Kind, Refusal, StateWord, StencilWord, UniformValue};
+use gfx_words::{Handle, Refusal, UniformValue};
 use hold_table::EncSeat;
 use std::alloc::Global;
 use std::marker::{Model, PhantomData};
 use std::sync::Wait;
 
-/// It records draws, touches and blits of one frame, and is spent by `end`. Contracts see an `EncoderView`.
+/// A recorder on the named table, with the named number of views, which is spent by `end`. Each call is the `Recorder`'s, which
+/// says when it is refused. Contracts see an `EncoderView`.
 #[derive(Drop)]
 pub struct Encoder<'t, C: Naming> {
     shared: &'t Shared<C>,
-    seat: EncSeat,
-    number: u8,
-    tape: Tape,
+    recorder: Recorder,
 }
 
 impl<'t, C: Naming> Model for Encoder<'t, C> {
     ghost use Rattle.std.specs.Prelude.{◌≡◌};
     ghost use Rattle.draw_encoder.specs.Calls.{EncoderView};
-    ghost use Rattle.hold_table.specs.Seats.{enc_table, enc_view};
-    ghost use Rattle.draw_encoder.specs.Encoders.{IsOf};
 
     ghost Value = { EncoderView };
 
-    ghost view = { λ e. record { recorder = e.tape.recorder; seat = enc_view e.seat } };
+    ghost view = { λ e. e.recorder.state };
 
-    ghost invariant = { λ e. (enc_table e.seat ≡ C.table) × (e.number ≡ (enc_view e.seat).encoder) × IsOf C.views (enc_view e.seat) e.tape };
+    ghost invariant = { λ e. (e.recorder.table ≡ C.table) × (e.recorder.state.recorder.view_count ≡ C.views) };
 }
 
 impl<'t, C: Naming> Encoder<'t, C> {
-    ghost use Rattle.draw_encoder.specs.Names.{HasNamed};
-
-    /// Starts an encoder over its seat, which was split in this frame and has drawn and asked nothing. It makes all the room
-    /// that the encoder will need. `Err` only for want of memory; the seat comes back, so that it can be joined.
+    /// Starts an encoder over its seat of the named table, which was split in this frame and has drawn and asked nothing.
+    /// `views` is the named number of views. It makes all the room that the encoder will need. `Err` only for want of memory;
+    /// the seat comes back, so that it can be joined.
     pub fn start(
         alloc: Global,
         shared: &'t Shared<C>,
@@ -70,213 +60,107 @@ impl<'t, C: Naming> Encoder<'t, C> {
         ensures ok { IfOk result (λ e. e ≡ record { recorder = calls.begun frame views (room_seen room); seat = enc_view seat }) }
         ensures err { IfErr result (λ s. s ≡ seat) }
     {
-        match Tape::new(alloc, frame, views, room) {
-            Ok(tape) => Ok(Encoder {
-                shared,
-                seat,
-                number,
-                tape,
-            }),
-            Err(_) => Err(seat),
-        }
+        let recorder = Recorder::start(alloc, seat, number, frame, room, views)?;
+        Ok(Encoder { shared, recorder })
     }
 
     /// The number of the encoder.
     pub fn number(&self) -> u8
         ensures { result ≡ self.now.seat.encoder }
     {
-        self.number
+        self.recorder.number()
     }
 
     /// The frame that is recorded.
     pub fn frame(&self) -> u32
         ensures { result ≡ self.now.recorder.frame }
     {
-        self.tape.frame()
+        self.recorder.frame()
     }
 
     /// How many items are recorded.
     pub fn items(&self) -> u32
         ensures { result ≡ length self.now.recorder.items }
     {
-        self.tape.item_count()
+        self.recorder.items()
     }
 
-    fn lacks_view(&self, view: u16) -> bool
-        ensures { result ≡ (calls.is_no_view self.now.recorder view).0 }
-    {
-        self.tape.lacks_view(view)
-    }
-
-    fn lacks_room(&self) -> bool
-        ensures { result ≡ (calls.lacks_room self.now.recorder).0 }
-    {
-        self.tape.lacks_room()
-    }
-
-    fn lacks_values(&self) -> bool
-        ensures { result ≡ nat_le self.now.recorder.room.uniforms self.now.recorder.used_uniforms }
-    {
-        self.tape.lacks_values()
-    }
-
-    fn lacks_bytes(&self, bytes: &[u8]) -> bool
-        ensures { result ≡ (calls.lacks_bytes self.now.recorder bytes.now).0 }
-    {
-        self.tape.lacks_bytes(bytes)
-    }
-
-    // Loads the word of the handle's place, and judges by it.
-    fn name(&mut self, h: Handle) -> Result<(), Refusal>
-        ensures same { self.new.recorder ≡ self.old.recorder }
-        ensures asked { (word : ℕ) × HasAsked self.old.seat self.new.seat (place_of_handle h) word × MatchResult result (λ _. (is_usable_in self.old.recorder.frame word h.serial ≡ true) × HasNamed self.new.seat h) (λ e. (is_usable_in self.old.recorder.frame word h.serial ≡ false) × (e ≡ refusals.Stale word)) }
-    {
-        self.shared.table().name(&mut self.seat, h)
-    }
-
-    /// Sets the state word of the next draws: the channels written, the depth test, blending, culling, the primitive.
-    /// `BadState` exactly where the word is not admitted.
+    /// Sets the state word of the next draws.
     pub fn set_state(&mut self, word: u64) -> Result<(), Refusal>
         ensures { Answers self.old self.new (calls.set_state word) result }
     {
-        let state = StateWord::read(word)?;
-        self.tape.set_state(state);
-        Ok(())
+        self.recorder.set_state(word)
     }
 
-    /// Sets the stencil words for triangles that face to the front and to the back; 0 is no stencil.
-    /// `BadState` exactly where one of them is not admitted.
+    /// Sets the stencil words for both faces.
     pub fn set_stencil(&mut self, front: u32, back: u32) -> Result<(), Refusal>
         ensures { Answers self.old self.new (calls.set_stencil front back) result }
     {
-        let front = StencilWord::read(front)?;
-        let back = StencilWord::read(back)?;
-        self.tape.set_stencil(front, back);
-        Ok(())
+        self.recorder.set_stencil(front, back)
     }
 
-    /// Sets the scissor in pixels; with both sides 0 there is none.
+    /// Sets the scissor.
     pub fn set_scissor(&mut self, rect: Rect)
         ensures { Answers self.old self.new (calls.set_scissor (rect_seen rect)) (Ok tt) }
     {
-        self.tape.set_scissor(rect);
+        self.recorder.set_scissor(rect);
     }
 
-    /// Sets the transform from the vertices to the view, in units of 1/65536.
+    /// Sets the transform.
     pub fn set_transform(&mut self, model: Affine)
         ensures { Answers self.old self.new (calls.set_transform (affine_seen model)) (Ok tt) }
     {
-        self.tape.set_transform(model);
+        self.recorder.set_transform(model);
     }
 
-    /// Takes vertices of a buffer, `count` from number `first` on. `WrongKind` where the handle is no vertex buffer,
-    /// then `Stale` by the word that it loads.
+    /// Takes vertices of a buffer.
     pub fn set_vertices(&mut self, buffer: Handle, first: u32, count: u32) -> Result<(), Refusal>
         ensures { Answers self.old self.new (calls.set_vertices buffer first count) result }
     {
-        if is_not_of(&buffer, Kind::VertexBuffer) {
-            return Err(Refusal::WrongKind);
-        }
-        self.name(buffer)?;
-        self.tape.set_vertices(buffer, first, count);
-        Ok(())
+        self.recorder
+            .set_vertices(self.shared.table(), buffer, first, count)
     }
 
-    /// Takes indices of a buffer, `count` from number `first` on. `WrongKind` where the handle is no index buffer,
-    /// then `Stale` by the word that it loads.
+    /// Takes indices of a buffer.
     pub fn set_indices(&mut self, buffer: Handle, first: u32, count: u32) -> Result<(), Refusal>
         ensures { Answers self.old self.new (calls.set_indices buffer first count) result }
     {
-        if is_not_of(&buffer, Kind::IndexBuffer) {
-            return Err(Refusal::WrongKind);
-        }
-        self.name(buffer)?;
-        self.tape.set_indices(buffer, first, count);
-        Ok(())
+        self.recorder
+            .set_indices(self.shared.table(), buffer, first, count)
     }
 
-    /// Takes a copy of bytes as vertices of a layout. `WrongKind` where the handle is no layout, then `Stale` by the word that
-    /// it loads, then `BytesFull` where the bytes used and these pass the room.
+    /// Takes a copy of bytes as vertices of a layout.
     pub fn set_transient_vertices(&mut self, layout: Handle, bytes: &[u8]) -> Result<(), Refusal>
         ensures { Answers self.old self.new (calls.set_transient_vertices layout bytes.now) result }
     {
-        if is_not_of(&layout, Kind::Layout) {
-            return Err(Refusal::WrongKind);
-        }
-        self.name(layout)?;
-        if self.lacks_bytes(bytes) {
-            return Err(Refusal::BytesFull);
-        }
-        self.tape.set_transient_vertices(layout, bytes);
-        Ok(())
+        self.recorder
+            .set_transient_vertices(self.shared.table(), layout, bytes)
     }
 
-    /// Takes a copy of bytes as indices of two bytes each. `BytesFull` where the bytes used and these pass the room.
+    /// Takes a copy of bytes as indices.
     pub fn set_transient_indices(&mut self, bytes: &[u8]) -> Result<(), Refusal>
         ensures { Answers self.old self.new (calls.set_transient_indices bytes.now) result }
     {
-        if self.lacks_bytes(bytes) {
-            return Err(Refusal::BytesFull);
-        }
-        self.tape.set_transient_indices(bytes);
-        Ok(())
+        self.recorder.set_transient_indices(bytes)
     }
 
-    /// Puts a texture on stage 0 or 1, or takes it off. `WrongKind` where the handle is no texture of colours, then `Stale` by
-    /// the word that it loads, then `BadRange` where the stage is over 1.
+    /// Puts a texture on a stage, or takes it off.
     pub fn set_texture(&mut self, stage: u8, texture: Option<Handle>) -> Result<(), Refusal>
         ensures { Answers self.old self.new (calls.set_texture stage texture) result }
     {
-        match texture {
-            Some(h) => self.bind(stage, h),
-            None => self.unbind(stage),
-        }
+        self.recorder
+            .set_texture(self.shared.table(), stage, texture)
     }
 
-    fn bind(&mut self, stage: u8, texture: Handle) -> Result<(), Refusal>
-        ensures { Answers self.old self.new (calls.set_texture stage (Some texture)) result }
-    {
-        if is_no_color_texture(&texture) {
-            return Err(Refusal::WrongKind);
-        }
-        self.name(texture)?;
-        if is_no_stage(stage) {
-            return Err(Refusal::BadRange);
-        }
-        self.tape.set_texture(stage, Some(texture));
-        Ok(())
-    }
-
-    fn unbind(&mut self, stage: u8) -> Result<(), Refusal>
-        ensures { Answers self.old self.new (calls.set_texture stage None) result }
-    {
-        if is_no_stage(stage) {
-            return Err(Refusal::BadRange);
-        }
-        self.tape.set_texture(stage, None);
-        Ok(())
-    }
-
-    /// Sets a value of a uniform, which belongs to the next draw or touch. `WrongKind` where the handle is no uniform or the value is
-    /// of the other kind, then `Stale` by the word that it loads, then `RoomFull` where the values' room is used up.
+    /// Sets a value of a uniform.
     pub fn set_uniform(&mut self, uniform: Handle, value: UniformValue) -> Result<(), Refusal>
         ensures { Answers self.old self.new (calls.set_uniform uniform (value_seen value)) result }
     {
-        if is_no_uniform_for(&uniform, &value) {
-            return Err(Refusal::WrongKind);
-        }
-        self.name(uniform)?;
-        if self.lacks_values() {
-            return Err(Refusal::RoomFull);
-        }
-        self.tape.set_uniform(UniformSet { uniform, value });
-        Ok(())
+        self.recorder
+            .set_uniform(self.shared.table(), uniform, value)
     }
 
-    /// Puts down a draw with the current state and the pending uniform values, and resets the parts that the discard flags name:
-    /// 1 both stages, 2 the indices, 8 the state words and the scissor, 16 the transform, 32 the vertices.
-    /// `BadView` where there is no such view, then `WrongKind` where the handle is no program, then `Stale` by the word that it
-    /// loads, then `RoomFull` where the items' room is used up.
+    /// Puts down a draw.
     pub fn submit(
         &mut self,
         view: u16,
@@ -286,75 +170,31 @@ impl<'t, C: Naming> Encoder<'t, C> {
     ) -> Result<(), Refusal>
         ensures { Answers self.old self.new (calls.submit view program depth discard) result }
     {
-        if self.lacks_view(view) {
-            return Err(Refusal::BadView);
-        }
-        if is_not_of(&program, Kind::Program) {
-            return Err(Refusal::WrongKind);
-        }
-        self.name(program)?;
-        if self.lacks_room() {
-            return Err(Refusal::RoomFull);
-        }
-        let number = self.shared.table().draw_number(&mut self.seat);
-        self.tape.submit(view, number, program, depth, discard);
-        Ok(())
+        self.recorder
+            .submit(self.shared.table(), view, program, depth, discard)
     }
 
-    /// Puts down an empty primitive with the pending uniform values, and resets all parts of the state.
-    /// `BadView` where there is no such view, then `RoomFull` where the items' room is used up.
+    /// Puts down an empty primitive.
     pub fn touch(&mut self, view: u16) -> Result<(), Refusal>
         ensures { Answers self.old self.new (calls.touch view) result }
     {
-        if self.lacks_view(view) {
-            return Err(Refusal::BadView);
-        }
-        if self.lacks_room() {
-            return Err(Refusal::RoomFull);
-        }
-        let number = self.shared.table().draw_number(&mut self.seat);
-        self.tape.touch(view, number);
-        Ok(())
+        self.recorder.touch(self.shared.table(), view)
     }
 
-    /// Puts down a copy of a region between textures. It takes no uniform values and resets nothing.
-    /// `BadView` where there is no such view, then `WrongKind` where one is no texture or the formats differ, then `Stale` by the
-    /// words that it loads for the destination and for the source, then `NotBlitDst` where the destination was not made as one,
-    /// then `RoomFull` where the items' room is used up.
+    /// Puts down a copy of a region between textures.
     pub fn blit(&mut self, view: u16, copy: BlitCall) -> Result<(), Refusal>
         ensures { Answers self.old self.new (calls.blit (copy_seen view copy)) result }
     {
-        if self.lacks_view(view) {
-            return Err(Refusal::BadView);
-        }
-        if differ_in_format(&copy.dst, &copy.src) {
-            return Err(Refusal::WrongKind);
-        }
-        self.name(copy.dst)?;
-        self.name(copy.src)?;
-        if is_no_blit_destination(&copy.dst) {
-            return Err(Refusal::NotBlitDst);
-        }
-        if self.lacks_room() {
-            return Err(Refusal::RoomFull);
-        }
-        let number = self.shared.table().draw_number(&mut self.seat);
-        self.tape.blit(view, number, copy);
-        Ok(())
+        self.recorder.blit(self.shared.table(), view, copy)
     }
 
     /// Ends the recording: the bundle goes into the queue, where it waits to be collected. `dropped` is the caller's own number.
-    /// Uniform values that no draw or touch took are given up. Where the queue is full, it tries again.
+    /// Where the queue is full, it tries again.
     pub fn end<R: Wait>(self, rt: &R, dropped: u32)
         requires admitted { C.admits self.seat.encoder self.seat.frame self.recorder.items dropped }
     {
-        let Encoder {
-            shared,
-            seat,
-            number,
-            tape,
-        } = self;
-        let recording = tape.into_recording(number, dropped);
+        let Encoder { shared, recorder } = self;
+        let (recording, seat) = recorder.end(dropped);
         let of = PhantomData;
         shared.put(
             rt,
@@ -365,11 +205,4 @@ impl<'t, C: Naming> Encoder<'t, C> {
             },
         );
     }
-}
-
-// There are two stages.
-fn is_no_stage(stage: u8) -> bool
-    ensures { result ≡ nat_lt 1 stage }
-{
-    stage > 1
 }

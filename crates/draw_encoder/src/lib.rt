@@ -7,6 +7,7 @@ mod handles;
 mod items;
 mod lists;
 mod naming;
+mod recorder;
 mod shared;
 mod states;
 mod tape;
@@ -18,6 +19,7 @@ pub use items::{
 };
 pub use lists::{Bytes, Items, UniformSets};
 pub use naming::Naming;
+pub use recorder::Recorder;
 pub use shared::Shared;
 
 #[cfg(test)]

@@ -37,6 +37,14 @@ impl<C: Naming> Shared<C> {
         &self.table
     }
 
+    /// The hold table, at the end. What waits in the queue is given up, and the seats in it stay off.
+    pub fn into_table(self) -> HoldTable
+        ensures { table_of result ≡ C.table }
+    {
+        let Shared { table, queue: _ } = self;
+        table
+    }
+
     /// Takes a bundle out of the queue, and waits until there is one.
     pub fn collect<R: Wait>(&self, rt: &R) -> Bundle<C> {
         let backoff = Backoff::new();

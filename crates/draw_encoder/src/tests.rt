@@ -1,5 +1,6 @@
 // What no clause says: rooms filled to their ends, words of things that come and go, and recorders that run at once.
 ghost use Rattle.std.specs.Prelude.{◌≡◌, ◌+◌, ◌<◌, ◌≤◌, ℕ, List, [], length, IfSome};
+ghost use Rattle.gfx_model.specs.Views.{fewest_views};
 ghost use Rattle.gfx_model.specs.World.{Item as SeenItem};
 ghost use Rattle.schedule_model.specs.Held.{count_of};
 ghost use Rattle.hold_table.specs.Views.{first_view, lent};
@@ -16,6 +17,9 @@ use std::sync::atomic::{AtomicU32, Ordering};
 use std::test::Fail;
 use std::thread;
 use std::thread::Threads;
+
+// The number of views in the first version.
+const VIEWS: u16 = 256;
 
 const ROOM: Room = Room {
     items: 8191,
@@ -34,12 +38,12 @@ fn begun<'t, C: Naming>(
     requires frame { (api_view api.old).frame ≡ 0 }
     requires number { (number < 8) × (count_of number (api_view api.old).off ≡ 0) }
     requires room { length (api_view api.old).off + (api_view api.old).joined < 8 }
-    requires views { C.views ≡ 256 }
+    requires views { C.views ≡ fewest_views }
     ensures table { api_table api.new ≡ C.table }
     ensures api { api_view api.new ≡ lent number (api_view api.old) }
 {
     let seat = shared.table().split(api, number);
-    match Encoder::start(alloc, shared, seat, number, 0, ROOM, 256) {
+    match Encoder::start(alloc, shared, seat, number, 0, ROOM, VIEWS) {
         Ok(enc) => Some(enc),
         Err(_) => None,
     }
@@ -51,7 +55,7 @@ fn fill<C: Naming>(
     mut api: ApiSeat,
 ) -> Option<(u32, Result<(), Refusal>)>
     requires table { (table_of table ≡ C.table) × (api_table api ≡ C.table) × (api_view api ≡ first_view 0) }
-    requires views { C.views ≡ 256 }
+    requires views { C.views ≡ fewest_views }
 {
     let Ok(shared) = Shared::<C>::new(alloc, table) else {
         return None;
@@ -80,7 +84,7 @@ fn rooms<C: Naming>(
     mut api: ApiSeat,
 ) -> Option<((Answer, Answer, Answer), (Answer, Answer, Answer))>
     requires table { (table_of table ≡ C.table) × (api_table api ≡ C.table) × (api_view api ≡ first_view 0) }
-    requires views { C.views ≡ 256 }
+    requires views { C.views ≡ fewest_views }
 {
     let Ok(shared) = Shared::<C>::new(alloc, table) else {
         return None;
@@ -121,7 +125,7 @@ fn late<C: Naming, R: Wait>(
     mut api: ApiSeat,
 ) -> Option<((Answer, Answer, Recording), (Answer, u32))>
     requires table { (table_of table ≡ C.table) × (api_table api ≡ C.table) × (api_view api ≡ first_view 0) }
-    requires views { C.views ≡ 256 }
+    requires views { C.views ≡ fewest_views }
     requires admits { (e f d : ℕ) (items : List SeenItem) → C.admits e f items d }
 {
     let Ok(shared) = Shared::<C>::new(alloc, table) else {
@@ -138,7 +142,7 @@ fn late<C: Naming, R: Wait>(
     shared.table().join(&mut api, seat);
     shared.table().advance(&mut api);
     let seat = shared.table().split(&mut api, 0);
-    let Ok(mut enc) = Encoder::start(alloc, &shared, seat, 0, 1, ROOM, 256) else {
+    let Ok(mut enc) = Encoder::start(alloc, &shared, seat, 0, 1, ROOM, VIEWS) else {
         return None;
     };
     let dead = enc.submit(0, program, 0, 255);
@@ -199,7 +203,7 @@ fn two<C: Naming + Send + Sync, R: Threads + Wait + Sync>(
     mut api: ApiSeat,
 ) -> Option<((bool, bool), Recording, Recording)>
     requires table { (table_of table ≡ C.table) × (api_table api ≡ C.table) × (api_view api ≡ first_view 0) }
-    requires views { C.views ≡ 256 }
+    requires views { C.views ≡ fewest_views }
     requires admits { (e f d : ℕ) (items : List SeenItem) → C.admits e f items d }
 {
     let Ok(shared) = Shared::<C>::new(alloc, table) else {
@@ -270,7 +274,7 @@ fn eight<C: Naming + Send + Sync, R: Threads + Wait + Sync>(
     mut api: ApiSeat,
 ) -> Option<u32>
     requires table { (table_of table ≡ C.table) × (api_table api ≡ C.table) × (api_view api ≡ first_view 0) }
-    requires views { C.views ≡ 256 }
+    requires views { C.views ≡ fewest_views }
     requires admits { (e f d : ℕ) (items : List SeenItem) → C.admits e f items d }
 {
     let Ok(shared) = Shared::<C>::new(alloc, table) else {

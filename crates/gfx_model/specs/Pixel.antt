@@ -84,6 +84,7 @@ blend state source stored =
 abbrev pub stored_channels : ℕ → Color → Color → Color
 stored_channels mask new stored = map (λ k. if is_bit_set mask k then slice_index new k else slice_index stored k) (0 ∷ 1 ∷ 2 ∷ 3 ∷ [])
 
+-- the colour after blending, in the channels that the write mask names; the others stay
 abbrev pub stored_color : ℕ → Color → Color → Color
 stored_color state source stored = stored_channels (write_mask state) (blend state source stored) stored
 
@@ -94,6 +95,7 @@ abbrev pub passes_stencil : ℕ → ℕ → Bool
 passes_stencil word stencil =
     (word == 0) || compares (stencil_test_of word) (bit_and (stencil_reference word) (stencil_mask word)) (bit_and stencil (stencil_mask word))
 
+-- the stencil after an operation of a stencil word; without a stencil word it stays
 abbrev pub stencil_by : ℕ → ℕ → ℕ → ℕ
 stencil_by word op stencil = if word == 0 then stencil else stencil_after op stencil (stencil_reference word)
 

@@ -10,6 +10,7 @@ use Rattle.gfx_model.specs.World.{Content, layout_content, vertex_content, index
 
 -- ---- refusals
 
+-- why a call is refused
 pub data Refusal : Type 0 where
   full : Refusal
   stale : (word : ℕ) → Refusal
@@ -74,6 +75,7 @@ pub record Thing : Type 0 where
   pub content : Content
   pub references : ℕ
 
+-- the state of the API thread's calls: the books by kind, the things in the order of their births, the next serial and the views
 pub record Resources : Type 0 where
   pub latency : ℕ
   pub frame : ℕ
@@ -93,12 +95,15 @@ opening view_count latency frame serial = record {
   views = new_views view_count;
 }
 
+-- whether a thing stands at an index of a kind
 abbrev pub is_at : Kind → ℕ → Thing → Bool
 is_at k index t = is_kind t.handle.kind k && (t.handle.index == index)
 
+-- whether a thing was not destroyed
 abbrev pub is_live : Thing → Bool
 is_live t = is_none t.death
 
+-- the place word of a serial that lives, or that dies in a frame
 abbrev pub word_of_death : ℕ → Option ℕ → ℕ
 word_of_death serial None = live_word serial
 word_of_death serial (Some death) = dying_word serial death
@@ -112,39 +117,47 @@ word_of_thing (Some t) = word_of_death t.handle.serial t.death
 abbrev pub word_of : Resources → Handle → ℕ
 word_of r h = word_of_thing (find (is_at h.kind h.index) r.things)
 
+-- whether a handle's place has its serial live
 abbrev pub is_live_handle : Resources → Handle → Bool
 is_live_handle r h = is_live_in (word_of r h) h.serial
 
+-- the book of a kind
 abbrev pub book_of : Resources → Kind → Book
 book_of r k = slice_index_or r.books (kind_number k) (record { free = []; waiting = [] })
 
+-- the state with another book of a kind
 abbrev pub with_book : Kind → Book → Resources → Resources
 with_book k b r = record r { books = slice_set r.books (kind_number k) b }
 
+-- the state with other things
 abbrev pub with_things : List Thing → Resources → Resources
 with_things things r = record r { things = things }
 
+-- the state with other views
 abbrev pub with_views : Views → Resources → Resources
 with_views vs r = record r { views = vs }
 
--- the live uniform of a name
+-- whether a content is a uniform of a name
 abbrev pub has_name : List ℕ → Content → Bool
 has_name name (uniform_content n v) = bytes_eq n name
 has_name name _ = false
 
+-- the live uniform of a name, if there is one
 abbrev pub named_uniform : Resources → List ℕ → Option Thing
 named_uniform r name = find (λ t. is_live t && has_name name t.content) r.things
 
+-- the kind of a uniform's value
 abbrev pub uniform_kind_in : Content → UniformKind
 uniform_kind_in (uniform_content n v) = value_kind v
 uniform_kind_in _ = int
 
--- the live frame buffers that hold a texture, by the least index
+-- whether a content is a frame buffer that holds the texture of a serial
 abbrev pub holds_texture : ℕ → Content → Bool
 holds_texture serial (frame_buffer_content color None) = color == serial
 holds_texture serial (frame_buffer_content color (Some depth)) = (color == serial) || (depth == serial)
 holds_texture serial _ = false
 
+-- the live frame buffers that hold a handle's texture
 abbrev pub holders : Resources → Handle → List Handle
 holders r h = map (λ t. t.handle) (filter (λ t. is_live t && holds_texture h.serial t.content) r.things)
 
@@ -153,14 +166,17 @@ abbrev pub lesser_index : Handle → Option Handle → Option Handle
 lesser_index h None = Some h
 lesser_index h (Some g) = if nat_le h.index g.index then Some h else Some g
 
+-- the handle of least index, if there is one
 abbrev pub least_index : List Handle → Option Handle
 least_index [] = None
 least_index (h ∷ hs) = lesser_index h (least_index hs)
 
+-- how many texels a content has
 abbrev pub texel_count : Content → ℕ
 texel_count (texture_content f t) = t.width * t.height
 texel_count _ = 0
 
+-- how many bytes a buffer's content has
 abbrev pub byte_count : Content → ℕ
 byte_count (vertex_content l bytes) = length bytes
 byte_count (index_content bytes) = length bytes
@@ -168,10 +184,12 @@ byte_count _ = 0
 
 -- ---- calls
 
+-- where a new texture's texels come from: one texel for all, or bytes of four a texel
 pub data TexelSource : Type 0 where
   fill_source : Color → TexelSource
   bytes_source : List ℕ → TexelSource
 
+-- the calls on things and views
 pub data ResourceCall : Type 0 where
   create_layout : Layout → ResourceCall
   create_vertex_buffer : (layout : Handle) → (bytes : List ℕ) → ResourceCall
@@ -194,25 +212,31 @@ pub data ResourceCall : Type 0 where
 
 -- ---- which call is refused
 
+-- the last serial that is given
 abbrev pub greatest_serial : ℕ
 greatest_serial = 4294967295
 
+-- how many references a uniform can have
 abbrev pub greatest_references : ℕ
 greatest_references = 65535
 
+-- how many texels all textures that are live or waiting can have
 abbrev pub greatest_texels : ℕ
 greatest_texels = 33554432
 
+-- how many bytes a buffer can have
 abbrev pub greatest_bytes : ℕ
 greatest_bytes = 524288
 
--- no index is left, and no serial is
+-- no index of a kind is left
 abbrev pub lacks_index : Resources → Kind → Bool × Refusal
 lacks_index r k = (length (book_of r k).free == 0, full)
 
+-- no serial is left
 abbrev pub lacks_serial : Resources → Bool × Refusal
 lacks_serial r = (nat_lt greatest_serial r.next_serial, serials_spent)
 
+-- a handle is of another kind
 abbrev pub is_not_kind : Kind → Handle → Bool × Refusal
 is_not_kind k h = (not (is_kind h.kind k), wrong_kind)
 
@@ -220,12 +244,15 @@ is_not_kind k h = (not (is_kind h.kind k), wrong_kind)
 abbrev pub is_not_live : Resources → Handle → Bool × Refusal
 is_not_live r h = (not (is_live_handle r h), stale (word_of r h))
 
+-- there is no view of that number
 abbrev pub is_no_view : Resources → ℕ → Bool × Refusal
 is_no_view r v = (nat_le (view_count r.views) v, bad_view)
 
+-- whether a texture's side is within its range
 abbrev pub is_size : ℕ → Bool
 is_size n = nat_le 1 n && nat_le n 2048
 
+-- whether a source has as many texels as the sides say
 abbrev pub source_fits : ℕ → ℕ → TexelSource → Bool
 source_fits width height (fill_source c) = true
 source_fits width height (bytes_source bytes) = length bytes == 4 * (width * height)
@@ -235,9 +262,11 @@ abbrev pub sides_in : Format → Info → Option (ℕ × ℕ)
 sides_in f (texture_info g d width height) = if is_format f g then Some (width, height) else None
 sides_in f _ = None
 
+-- the sides that a handle tells of a texture of a format; none for any other handle
 abbrev pub texture_sides : Format → Handle → Option (ℕ × ℕ)
 texture_sides f h = if is_kind h.kind texture_kind then sides_in f h.info else None
 
+-- whether there are two pairs of sides and they are equal
 abbrev pub same_sides : Option (ℕ × ℕ) → Option (ℕ × ℕ) → Bool
 same_sides (Some a) (Some b) = (a.0 == b.0) && (a.1 == b.1)
 same_sides _ _ = false
@@ -247,10 +276,12 @@ abbrev pub can_attach : Handle → Option Handle → Bool
 can_attach color None = is_some (texture_sides rgba8 color)
 can_attach color (Some depth) = same_sides (texture_sides rgba8 color) (texture_sides Rattle.gfx_model.specs.Words.d24s8 depth)
 
+-- a handle, if one is given, is not live
 abbrev pub not_live_option : Resources → Option Handle → List (Bool × Refusal)
 not_live_option r None = []
 not_live_option r (Some h) = is_not_live r h ∷ []
 
+-- whether a handle is of a vertex or index buffer
 abbrev pub is_buffer : Handle → Bool
 is_buffer h = is_kind h.kind vertex_buffer_kind || is_kind h.kind index_buffer_kind
 
@@ -259,6 +290,7 @@ abbrev pub bytes_of_thing : Option Thing → ℕ
 bytes_of_thing None = 0
 bytes_of_thing (Some t) = byte_count t.content
 
+-- how many bytes the buffer at a handle's place holds
 abbrev pub held_bytes : Resources → Handle → ℕ
 held_bytes r h = bytes_of_thing (find (is_at h.kind h.index) r.things)
 
@@ -267,6 +299,7 @@ abbrev pub passes_side : Rect → Info → Bool
 passes_side rect (texture_info f d width height) = nat_lt width (rect.x + rect.w) || nat_lt height (rect.y + rect.h)
 passes_side rect _ = true
 
+-- a holder, if there is one, keeps its texture from being destroyed
 abbrev pub attached_by : Option Handle → List (Bool × Refusal)
 attached_by None = []
 attached_by (Some h) = (true, attached h) ∷ []
@@ -316,6 +349,7 @@ refusals r (set_view_order ids) =
     ∷ (nat_lt (view_count r.views) (length ids) || not (is_without_repeat ids), bad_range) ∷ []
 refusals r (reset_view v) = is_no_view r v ∷ []
 
+-- the refusal of a call, if it is refused
 abbrev pub refusal_of : Resources → ResourceCall → Option Refusal
 refusal_of r c = first_refusal (refusals r c)
 
@@ -327,26 +361,33 @@ pub record Effect : Type 0 where
   pub made : Option Handle
   pub changes : List Change
 
+-- an effect on the state alone
 abbrev pub no_change : Resources → Effect
 no_change r = record { after = r; made = None; changes = [] }
 
+-- an effect that changes one view's settings
 abbrev pub changed_views : Resources → ℕ → (View → View) → Effect
 changed_views r v f = no_change (with_views (set_view r.views v f) r)
 
+-- the views with another order
 abbrev pub with_order : List ℕ → Views → Views
 with_order ids vs = record vs { order = ids }
 
+-- the next index of a stack
 abbrev pub top_index : List ℕ → ℕ
 top_index [] = 0
 top_index (i ∷ rest) = i
 
+-- a stack without its next index
 abbrev pub without_top : List ℕ → List ℕ
 without_top [] = []
 without_top (i ∷ rest) = rest
 
+-- a book whose next index was given
 abbrev pub without_top_index : Book → Book
 without_top_index b = record b { free = without_top b.free }
 
+-- the state with one serial given
 abbrev pub with_next_serial : Resources → Resources
 with_next_serial r = record r { next_serial = r.next_serial + 1 }
 
@@ -361,10 +402,12 @@ make k info content r =
       changes = create_thing r.next_serial content ∷ [];
     }
 
+-- the texels of a new texture
 abbrev pub texels_from : ℕ → ℕ → TexelSource → Texels
 texels_from width height (fill_source c) = record { width = width; height = height; texels = replicate (width * height) c }
 texels_from width height (bytes_source bytes) = record { width = width; height = height; texels = map (texel_in bytes) (range_with_len 0 (width * height)) }
 
+-- the value of a new uniform
 abbrev pub zero_value : UniformKind → UniformValue
 zero_value vec4 = vec4_value (pos 0 ∷ pos 0 ∷ pos 0 ∷ pos 0 ∷ [])
 zero_value int = int_value (pos 0)
@@ -374,15 +417,15 @@ abbrev pub change_of_serial : (Thing → Thing) → ℕ → List Thing → List 
 change_of_serial f serial [] = []
 change_of_serial f serial (t ∷ rest) = if t.handle.serial == serial then f t ∷ rest else t ∷ change_of_serial f serial rest
 
+-- a thing with its references changed
 abbrev pub with_references : (ℕ → ℕ) → Thing → Thing
 with_references f t = record t { references = f t.references }
 
+-- a thing that dies in a frame
 abbrev pub with_death : ℕ → Thing → Thing
 with_death frame t = record t { death = Some frame }
 
-abbrev pub with_content_change : (Content → Content) → Thing → Thing
-with_content_change f t = record t { content = f t.content }
-
+-- the state with the thing of a serial changed
 abbrev pub on_thing : (Thing → Thing) → ℕ → Resources → Resources
 on_thing f serial r = with_things (change_of_serial f serial r.things) r
 
@@ -390,6 +433,7 @@ on_thing f serial r = with_things (change_of_serial f serial r.things) r
 abbrev pub no_layout : Layout
 no_layout = record { attributes = []; stride = 0 }
 
+-- the layout that a content is; the layout of nothing for any other
 abbrev pub layout_of_content : Content → Layout
 layout_of_content (layout_content l) = l
 layout_of_content _ = no_layout
@@ -399,9 +443,11 @@ abbrev pub layout_in : Option Thing → Layout
 layout_in (Some t) = layout_of_content t.content
 layout_in None = no_layout
 
+-- the layout at a handle's place
 abbrev pub layout_of_handle : Resources → Handle → Layout
 layout_of_handle r h = layout_in (find (is_at h.kind h.index) r.things)
 
+-- the references of a thing, if there is one
 abbrev pub references_of : Option Thing → ℕ
 references_of None = 0
 references_of (Some t) = t.references
@@ -411,6 +457,7 @@ abbrev pub uniform_effect : Resources → List ℕ → UniformKind → Option Th
 uniform_effect r name k None = make uniform_kind (uniform_info k) (uniform_content name (zero_value k)) r
 uniform_effect r name k (Some t) = record { after = on_thing (with_references (λ n. n + 1)) t.handle.serial r; made = Some t.handle; changes = [] }
 
+-- a book with one index more that waits, and its frame of death
 abbrev pub with_waiting : ℕ → ℕ → Book → Book
 with_waiting index death b = record b { waiting = b.waiting ++ (index, death) ∷ [] }
 
@@ -425,9 +472,11 @@ destroy_effect r h =
     then no_change (on_thing (with_references (λ n. n - 1)) h.serial r)
     else no_change (die h r)
 
+-- the serial of a handle, if there is one
 abbrev pub serial_option : Option Handle → Option ℕ
 serial_option o = option_map (λ h. h.serial) o
 
+-- what a call does where it is accepted
 abbrev pub effect : Resources → ResourceCall → Effect
 effect r (create_layout l) = make layout_kind plain (layout_content l) r
 effect r (create_vertex_buffer l bytes) = make vertex_buffer_kind plain (vertex_content (layout_of_handle r l) bytes) r
@@ -459,6 +508,7 @@ abbrev pub is_kept_death : ℕ → ℕ → Option ℕ → Bool
 is_kept_death latency frame None = true
 is_kept_death latency frame (Some death) = not (is_over latency frame death)
 
+-- whether a thing is kept at a frame's start
 abbrev pub is_kept_thing : ℕ → ℕ → Thing → Bool
 is_kept_thing latency frame t = is_kept_death latency frame t.death
 
@@ -471,6 +521,7 @@ live_target r (Some h) = if is_live_handle r h then Some h else None
 abbrev pub with_live_target : Resources → View → View
 with_live_target r view = record view { target = live_target r view.target }
 
+-- the views, each without a target that is no longer live
 abbrev pub with_live_targets : Resources → Views → Views
 with_live_targets r vs = record vs { settings = map (with_live_target r) vs.settings }
 
@@ -484,10 +535,11 @@ start_frame frame r = record r {
   views = with_live_targets r r.views;
 }
 
--- the serials of the things that died in a frame
+-- whether a death came in a frame
 abbrev pub is_death : ℕ → Option ℕ → Bool
 is_death frame None = false
 is_death frame (Some death) = death == frame
 
+-- the serials of the things that died in a frame, in the order of their births
 abbrev pub deaths_in : ℕ → Resources → List ℕ
 deaths_in frame r = map (λ t. t.handle.serial) (filter (λ t. is_death frame t.death) r.things)

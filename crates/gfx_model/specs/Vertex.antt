@@ -12,6 +12,7 @@ pub record Point : Type 0 where
 
 -- ---- layouts
 
+-- what an attribute of a vertex is for
 pub data Attribute : Type 0 where
   position_attribute : Attribute
   normal_attribute : Attribute
@@ -21,6 +22,7 @@ pub data Attribute : Type 0 where
   texcoord0_attribute : Attribute
   texcoord1_attribute : Attribute
 
+-- the number of an attribute in commands
 abbrev pub attribute_number : Attribute → ℕ
 attribute_number position_attribute = 0
 attribute_number normal_attribute = 1
@@ -30,16 +32,19 @@ attribute_number color1_attribute = 4
 attribute_number texcoord0_attribute = 5
 attribute_number texcoord1_attribute = 6
 
+-- the type of an attribute's components
 pub data ComponentType : Type 0 where
   u8_type : ComponentType
   i16_type : ComponentType
   fixed_type : ComponentType
 
+-- the number of a component's type in commands
 abbrev pub component_number : ComponentType → ℕ
 component_number u8_type = 0
 component_number i16_type = 1
 component_number fixed_type = 2
 
+-- the bytes of one component
 abbrev pub component_size : ComponentType → ℕ
 component_size u8_type = 1
 component_size i16_type = 2
@@ -50,6 +55,7 @@ pub data LayoutPart : Type 0 where
   attribute_part : Attribute → ComponentType → (count : ℕ) → LayoutPart
   skip_part : (bytes : ℕ) → LayoutPart
 
+-- the bytes of a part of a layout
 abbrev pub part_size : LayoutPart → ℕ
 part_size (attribute_part a t count) = component_size t * count
 part_size (skip_part bytes) = bytes
@@ -91,6 +97,7 @@ layout_of_parts parts =
     then Some (record { attributes = placed; stride = stride })
     else None
 
+-- the place of an attribute in a layout, if it has it
 abbrev pub find_attribute : Attribute → List PlacedAttribute → Option PlacedAttribute
 find_attribute a placed = find (λ b. attribute_number a == attribute_number b.attribute) placed
 
@@ -122,9 +129,11 @@ byte_or missing zs k = if nat_lt k (length zs) then byte_of_fixed (int_at zs k) 
 abbrev pub Color : Type 0
 Color = List ℕ
 
+-- a colour of its components as bytes; missing ones are 0, and a missing alpha is 255
 abbrev pub color_of_fixed : List ℤ → Color
 color_of_fixed zs = byte_or 0 zs 0 ∷ byte_or 0 zs 1 ∷ byte_or 0 zs 2 ∷ byte_or 255 zs 3 ∷ []
 
+-- what a vertex's bytes stand for: position, colour and texture position
 pub record Vertex : Type 0 where
   pub position : Point
   pub color : Color
@@ -140,6 +149,7 @@ abbrev pub color_of : Option (List ℤ) → Color
 color_of None = 255 ∷ 255 ∷ 255 ∷ 255 ∷ []
 color_of (Some zs) = color_of_fixed zs
 
+-- a texture position from its components, and zeros without them
 abbrev pub texcoord_of : Option (List ℤ) → List ℤ
 texcoord_of None = pos 0 ∷ pos 0 ∷ []
 texcoord_of (Some zs) = int_at zs 0 ∷ int_at zs 1 ∷ []
@@ -185,6 +195,7 @@ abbrev pub vertices_of : VertexRange → Option IndexRange → List (Option Vert
 vertices_of v None = map (λ i. fetch v.layout v.bytes i) (range_with_len v.first v.count)
 vertices_of v (Some r) = map (λ k. indexed_vertex v (index_at r.bytes k)) (range_with_len r.first r.count)
 
+-- three of anything, as corners in order
 pub record Triangle (V : Type 0) : Type 0 where
   pub a : V
   pub b : V

@@ -30,6 +30,7 @@ pub record World : Type 0 where
   pub back : Surface
   pub things : List (ℕ × Content)
 
+-- texels of zeros
 abbrev pub blank_texels : ℕ → ℕ → Texels
 blank_texels width height = record { width = width; height = height; texels = replicate (width * height) no_color }
 
@@ -37,10 +38,12 @@ blank_texels width height = record { width = width; height = height; texels = re
 abbrev pub first_world : ℕ → ℕ → World
 first_world width height = record { back = record { color = blank_texels width height; depth = Some (blank_texels width height) }; things = [] }
 
+-- the content of a serial, if it is there
 abbrev pub content_in : List (ℕ × Content) → ℕ → Option Content
 content_in [] serial = None
 content_in (t ∷ rest) serial = if t.0 == serial then Some t.1 else content_in rest serial
 
+-- the content of a handle's serial, if it is there
 abbrev pub content_of : World → Handle → Option Content
 content_of w h = content_in w.things h.serial
 
@@ -51,6 +54,7 @@ change_thing f serial (t ∷ rest) = if t.0 == serial then (t.0, f t.1) ∷ rest
 
 -- ---- creates and updates
 
+-- what a create or an update does to the things
 pub data Change : Type 0 where
   create_thing : (serial : ℕ) → Content → Change
   update_bytes : (serial offset : ℕ) → (bytes : List ℕ) → Change
@@ -70,15 +74,18 @@ with_texels_in r bytes t = record t {
   texels = map_from (λ i old. let x = i % t.width in let y = i / t.width in if contains r x y then texel_in bytes ((y - r.y) * r.w + (x - r.x)) else old) 0 t.texels;
 }
 
+-- a buffer's content with bytes replaced from an offset on
 abbrev pub bytes_updated : ℕ → List ℕ → Content → Content
 bytes_updated offset new (vertex_content l bytes) = vertex_content l (with_bytes_at offset new bytes)
 bytes_updated offset new (index_content bytes) = index_content (with_bytes_at offset new bytes)
 bytes_updated offset new c = c
 
+-- a texture's content with the texels of a rectangle replaced
 abbrev pub texels_updated : Rect → List ℕ → Content → Content
 texels_updated r new (texture_content f t) = texture_content f (with_texels_in r new t)
 texels_updated r new c = c
 
+-- the things after a change
 abbrev pub things_after : List (ℕ × Content) → Change → List (ℕ × Content)
 things_after things (create_thing serial c) = things ++ (serial, c) ∷ []
 things_after things (update_bytes serial offset bytes) = change_thing (bytes_updated offset bytes) serial things
@@ -90,16 +97,19 @@ begin_frame gone changes w = record w { things = fold things_after (filter (λ t
 
 -- ---- items
 
+-- where a draw's vertices come from: nothing, a buffer, or bytes of the encoder
 pub data VertexSet : Type 0 where
   no_vertices : VertexSet
   stored_vertices : (buffer : Handle) → (first count : ℕ) → VertexSet
   transient_vertices : (layout : Handle) → (bytes : List ℕ) → VertexSet
 
+-- where a draw's indices come from: nothing, a buffer, or bytes of the encoder
 pub data IndexSet : Type 0 where
   no_indices : IndexSet
   stored_indices : (buffer : Handle) → (first count : ℕ) → IndexSet
   transient_indices : (bytes : List ℕ) → IndexSet
 
+-- a value for a uniform
 pub record UniformSet : Type 0 where
   pub uniform : Handle
   pub value : UniformValue
@@ -119,6 +129,7 @@ pub record Draw : Type 0 where
   pub textures : List (Option Handle)
   pub values : List UniformSet
 
+-- an item that draws nothing, with its values
 pub record Touch : Type 0 where
   pub view : ℕ
   pub values : List UniformSet
@@ -135,31 +146,37 @@ pub record Blit : Type 0 where
   pub w : ℕ
   pub h : ℕ
 
+-- what an encoder puts into a frame
 pub data Item : Type 0 where
   draw_item : Draw → Item
   touch_item : Touch → Item
   blit_item : Blit → Item
 
+-- the view of an item
 abbrev pub view_of_item : Item → ℕ
 view_of_item (draw_item d) = d.view
 view_of_item (touch_item t) = t.view
 view_of_item (blit_item b) = b.view
 
+-- the uniform values that an item takes
 abbrev pub values_of_item : Item → List UniformSet
 values_of_item (draw_item d) = d.values
 values_of_item (touch_item t) = t.values
 values_of_item (blit_item b) = []
 
+-- whether an item is a blit
 abbrev pub is_blit : Item → Bool
 is_blit (blit_item b) = true
 is_blit _ = false
 
 -- ---- uniforms
 
+-- a uniform's content with another value
 abbrev pub with_value : UniformValue → Content → Content
 with_value v (uniform_content name old) = uniform_content name v
 with_value v c = c
 
+-- the world with a uniform's value replaced
 abbrev pub set_uniform : World → UniformSet → World
 set_uniform w s = record w { things = change_thing (with_value s.value) s.uniform.serial w.things }
 
@@ -168,6 +185,7 @@ abbrev pub value_named : List ℕ → UniformKind → Content → Option Uniform
 value_named name kind (uniform_content n v) = if bytes_eq n name && is_uniform_kind kind (value_kind v) then Some v else None
 value_named name kind c = None
 
+-- the first, if it is there, and else the second
 abbrev pub later_of : {A : Type 0} → Option A → Option A → Option A
 later_of (Some x) o = Some x
 later_of None o = o
@@ -187,14 +205,17 @@ abbrev pub sampled_stage : Option UniformValue → ℤ
 sampled_stage (Some (int_value z)) = z
 sampled_stage _ = pos 0
 
+-- the name of the uniform that solid programs paint
 abbrev pub color_name : List ℕ
 color_name = codes "u_color"
 
+-- the name of the uniform that says which stage is sampled
 abbrev pub stage_name : List ℕ
 stage_name = codes "s_tex"
 
 -- ---- targets
 
+-- the texels of a texture's content
 abbrev pub texels_of : Option Content → Option Texels
 texels_of (Some (texture_content f t)) = Some t
 texels_of _ = None
@@ -209,10 +230,12 @@ abbrev pub target_color : World → Option Handle → Option ℕ
 target_color w None = None
 target_color w (Some h) = attached_color (content_of w h)
 
+-- a surface of a colour texture and perhaps a depth texture
 abbrev pub surface_of_parts : Option Texels → Option Texels → Option Surface
 surface_of_parts None d = None
 surface_of_parts (Some c) d = Some (record { color = c; depth = d })
 
+-- the surface of a frame buffer's textures
 abbrev pub attached_surface : List (ℕ × Content) → Option Content → Option Surface
 attached_surface things (Some (frame_buffer_content color None)) = surface_of_parts (texels_of (content_in things color)) None
 attached_surface things (Some (frame_buffer_content color (Some depth))) = surface_of_parts (texels_of (content_in things color)) (texels_of (content_in things depth))
@@ -223,14 +246,17 @@ abbrev pub surface_of : World → Option Handle → Option Surface
 surface_of w None = Some w.back
 surface_of w (Some h) = attached_surface w.things (content_of w h)
 
+-- a texture's content with other texels
 abbrev pub with_texels : Texels → Content → Content
 with_texels t (texture_content f old) = texture_content f t
 with_texels t c = c
 
+-- the things with the depth texture's texels replaced, if there is one
 abbrev pub with_depth_texels : Option ℕ → Option Texels → List (ℕ × Content) → List (ℕ × Content)
 with_depth_texels (Some serial) (Some t) things = change_thing (with_texels t) serial things
 with_depth_texels _ _ things = things
 
+-- the things with a frame buffer's textures replaced by a surface
 abbrev pub with_attached : Surface → Option Content → List (ℕ × Content) → List (ℕ × Content)
 with_attached s (Some (frame_buffer_content color depth)) things = with_depth_texels depth s.depth (change_thing (with_texels s.color) color things)
 with_attached s _ things = things
@@ -255,6 +281,7 @@ on_surface w target change = with_changed w target change (surface_of w target)
 abbrev pub depth_texel : ℕ → Color
 depth_texel word = word % 256 ∷ word / 256 % 256 ∷ word / 65536 % 256 ∷ word / 16777216 ∷ []
 
+-- the four bytes of a depth word, if there is one
 abbrev pub depth_bytes : Option ℕ → Color
 depth_bytes None = no_color
 depth_bytes (Some word) = depth_texel word
@@ -264,12 +291,15 @@ abbrev pub joined_pixels : List Color → Option Texels → List Pixel
 joined_pixels colors None = map (λ c. record { color = c; depth = None }) colors
 joined_pixels colors (Some d) = zip_with (λ c z. record { color = c; depth = Some (u32_at z 0) }) colors d.texels
 
+-- the pixels of a surface, row by row
 abbrev pub pixels_of : Surface → List Pixel
 pixels_of s = joined_pixels s.color.texels s.depth
 
+-- texels of the same sides
 abbrev pub with_texel_list : List Color → Texels → Texels
 with_texel_list texels t = record t { texels = texels }
 
+-- a surface of the same sides with other pixels
 abbrev pub surface_with : List Pixel → Surface → Surface
 surface_with pixels s = record {
   color = with_texel_list (map (λ p. p.color) pixels) s.color;
@@ -282,12 +312,14 @@ on_each_pixel f s = surface_with (map_from (λ i p. f (i % s.color.width) (i / s
 
 -- ---- clears
 
+-- a depth word with the cleared parts replaced
 abbrev pub cleared_depth : Clear → Option ℕ → Option ℕ
 cleared_depth c None = None
 cleared_depth c (Some word) = Some (
     (if is_bit_set c.flags 1 then c.depth else word % 2 ^ 24)
     + 2 ^ 24 * (if is_bit_set c.flags 2 then c.stencil else word / 2 ^ 24))
 
+-- a pixel after a clear
 abbrev pub cleared : Clear → Pixel → Pixel
 cleared c p = record { color = if is_bit_set c.flags 0 then c.color else p.color; depth = cleared_depth c p.depth }
 
@@ -310,6 +342,7 @@ blitted b source d = record d {
   texels = map_from (λ i old. let x = i % d.width in let y = i / d.width in if blit_covers b source x y then texel_at source (b.sx + (x - b.dx)) (b.sy + (y - b.dy)) else old) 0 d.texels;
 }
 
+-- a texture's content after a blit from texels
 abbrev pub blit_from : Blit → Texels → Content → Content
 blit_from b source (texture_content f d) = texture_content f (blitted b source d)
 blit_from b source c = c
@@ -325,6 +358,7 @@ blit_texture w b = copied w b (texels_of (content_of w b.source))
 
 -- ---- draws
 
+-- the vertices of a buffer from a first one on, if it is a vertex buffer
 abbrev pub stored_range : Option Content → ℕ → ℕ → Option VertexRange
 stored_range (Some (vertex_content layout bytes)) first count = Some (record { layout = layout; bytes = bytes; first = first; count = count })
 stored_range _ first count = None
@@ -334,15 +368,18 @@ abbrev pub transient_range : Option Content → List ℕ → Option VertexRange
 transient_range (Some (layout_content layout)) bytes = Some (record { layout = layout; bytes = bytes; first = 0; count = length bytes / layout.stride })
 transient_range _ bytes = None
 
+-- the vertices that a draw reads
 abbrev pub vertex_range : World → VertexSet → Option VertexRange
 vertex_range w no_vertices = None
 vertex_range w (stored_vertices h first count) = stored_range (content_of w h) first count
 vertex_range w (transient_vertices h bytes) = transient_range (content_of w h) bytes
 
+-- the bytes of an index buffer; none of any other
 abbrev pub index_bytes : Option Content → List ℕ
 index_bytes (Some (index_content bytes)) = bytes
 index_bytes _ = []
 
+-- the indices that a draw reads, if it reads any
 abbrev pub index_range : World → IndexSet → Option IndexRange
 index_range w no_indices = None
 index_range w (stored_indices h first count) = Some (record { bytes = index_bytes (content_of w h); first = first; count = count })
@@ -362,6 +399,7 @@ pub record Facing : Type 0 where
 abbrev pub facing_of : ℕ → ℕ → Triangle ScreenVertex → Facing
 facing_of front back t = record { triangle = clockwise t; stencil = if is_front t || (back == 0) then front else back }
 
+-- a triangle, where all three corners are there
 abbrev pub all_three : {V : Type 0} → Option V → Option V → Option V → Option (Triangle V)
 all_three (Some a) (Some b) (Some c) = Some (record { a = a; b = b; c = c })
 all_three _ _ _ = None
@@ -371,9 +409,11 @@ abbrev pub kept_facing : Draw → Option (Triangle ScreenVertex) → Option Faci
 kept_facing d None = None
 kept_facing d (Some t) = if is_kept (cull_of d.state) t then Some (facing_of d.front d.back t) else None
 
+-- a vertex on the screen, if it is there and within the guard range
 abbrev pub placed_vertex : View → Rect → Draw → Option Vertex → Option ScreenVertex
 placed_vertex view rect d v = option_and_then (place d.model view.transform rect) v
 
+-- a triangle on the screen, if it counts
 abbrev pub placed_facing : View → Rect → Draw → Triangle (Option Vertex) → Option Facing
 placed_facing view rect d t =
     kept_facing d (all_three (placed_vertex view rect d t.a) (placed_vertex view rect d t.b) (placed_vertex view rect d t.c))
@@ -391,10 +431,12 @@ pub data Paint : Type 0 where
   paint_sample : Option Texels → Paint
   paint_product : Option Texels → Paint
 
+-- the handle of a stage, if the stage is 0 or 1 and not empty
 abbrev pub bound_handle : List (Option Handle) → ℤ → Option Handle
 bound_handle textures (pos stage) = slice_index_or textures stage None
 bound_handle textures (negsuc n) = None
 
+-- whether a serial is there and is this one
 abbrev pub is_serial : ℕ → Option ℕ → Bool
 is_serial n None = false
 is_serial n (Some s) = n == s
@@ -408,6 +450,7 @@ texels_unless_target w view (Some h) = if is_serial h.serial (target_color w vie
 abbrev pub sampled_texels : World → View → Draw → Option Texels
 sampled_texels w view d = texels_unless_target w view (bound_handle d.textures (sampled_stage (newest_value stage_name int w.things)))
 
+-- what a draw paints with, if its program is there
 abbrev pub paint_of : World → View → Draw → Option Content → Option Paint
 paint_of w view d (Some (program_content solid)) = Some (paint_solid (painted_color (newest_value color_name vec4 w.things)))
 paint_of w view d (Some (program_content vertex_color)) = Some paint_vertex
@@ -420,6 +463,7 @@ abbrev pub sample_of : Option Texels → Fragment → Color
 sample_of None f = no_color
 sample_of (Some t) f = sample t (slice_index_or f.texcoord 0 (pos 0)) (slice_index_or f.texcoord 1 (pos 0))
 
+-- the colour that a fragment is painted
 abbrev pub painted : Paint → Fragment → Color
 painted (paint_solid c) f = c
 painted paint_vertex f = f.color
@@ -459,7 +503,7 @@ draw_on w view d = painted_by w view d (paint_of w view d (content_of w d.progra
 
 -- ---- the frame
 
--- an item and its number within the frame
+-- an item and its number
 pub record Numbered : Type 0 where
   pub number : ℕ
   pub item : Item
@@ -472,6 +516,7 @@ pub record FrameContent : Type 0 where
   pub views : Views
   pub items : List Item
 
+-- the items with their numbers within the frame
 abbrev pub numbered : List Item → List Numbered
 numbered items = map_from (λ n i. record { number = n; item = i }) 0 items
 
@@ -482,12 +527,13 @@ key_of_item vs number (draw_item d) =
 key_of_item vs number (touch_item t) = sort_key (view_at vs t.view).mode (position_of_view vs t.view) 0 511 0 number
 key_of_item vs number (blit_item b) = 0
 
--- an item of a sorted list of items with their keys, put before the first whose key is not less
-abbrev pub insert_by_key : (ℕ × Item) → List (ℕ × Item) → List (ℕ × Item)
+-- something with its key, put into an ascending list before the first whose key is not less
+abbrev pub insert_by_key : {A : Type 0} → (ℕ × A) → List (ℕ × A) → List (ℕ × A)
 insert_by_key x [] = x ∷ []
 insert_by_key x (y ∷ ys) = if nat_le x.0 y.0 then x ∷ y ∷ ys else y ∷ insert_by_key x ys
 
-abbrev pub sorted_by_key : List (ℕ × Item) → List (ℕ × Item)
+-- ascending by key, and at equal keys in their order
+abbrev pub sorted_by_key : {A : Type 0} → List (ℕ × A) → List (ℕ × A)
 sorted_by_key [] = []
 sorted_by_key (x ∷ xs) = insert_by_key x (sorted_by_key xs)
 
@@ -502,6 +548,7 @@ do_item view w (blit_item b) = blit_texture w b
 do_item view w (touch_item t) = fold set_uniform w t.values
 do_item view w (draw_item d) = draw_on (fold set_uniform w d.values) view d
 
+-- whether an item is of a view
 abbrev pub is_of_view : ℕ → Item → Bool
 is_of_view v i = view_of_item i == v
 

@@ -1,7 +1,7 @@
 // Handles: the names of things.
 ghost use Rattle.std.specs.Prelude.{◌≡◌, ◌<◌};
 
-use crate::{Info, Kind};
+use crate::{HandleName, Info, Kind};
 use std::marker::Model;
 
 /// The name of a thing. Serials run from 1 over all kinds and are never given twice, so a handle names one thing for ever.
@@ -30,6 +30,7 @@ impl Model for Handle {
 impl Handle {
     ghost use Rattle.gfx_model.specs.Words.{greatest, place_of_handle};
     ghost use Rattle.gfx_words.specs.Kinds.{kind_seen, info_seen};
+    ghost use Rattle.gfx_words.specs.Names.{handle_word, IsNameOf};
 
     /// The handle of a thing; the index is below the kind's greatest number.
     pub fn of(kind: Kind, index: u16, serial: u32, info: Info) -> Handle
@@ -71,6 +72,31 @@ impl Handle {
         ensures { info_seen result ≡ self.now.info }
     {
         self.info
+    }
+
+    /// What every handle keeps: its index is below its kind's greatest number.
+    pub fn tell_facts(&self)
+        ensures { self.now.index < greatest self.now.kind }
+    {
+        let _ = &self.index;
+    }
+
+    /// What tells this thing from every other.
+    pub fn name(&self) -> HandleName
+        ensures { IsNameOf result self.now }
+    {
+        HandleName {
+            kind: self.kind(),
+            index: self.index(),
+            serial: self.serial(),
+        }
+    }
+
+    /// The name of the thing as a word, for callers that can hold nothing else. What the handle tells beside it is looked up by the name.
+    pub fn word(&self) -> u64
+        ensures { result ≡ handle_word self.now }
+    {
+        self.name().word()
     }
 
     /// The place of the thing's word in the table of place words.

@@ -4,6 +4,7 @@
 mod flags;
 mod handles;
 mod kinds;
+mod names;
 mod places;
 mod refusals;
 mod states;
@@ -11,7 +12,11 @@ mod stencils;
 
 pub use flags::{ClearFlags, DiscardFlags};
 pub use handles::Handle;
-pub use kinds::{Format, Info, Kind, ProgramKind, UniformKind, UniformValue, ViewMode};
+pub use kinds::{
+    FEWEST_VIEWS, Format, Info, Kind, MOST_VIEWS, ProgramKind, UniformKind, UniformValue, ViewMode,
+    view_counts,
+};
+pub use names::{HandleName, one_word_one_name};
 pub use places::PlaceWord;
 pub use refusals::Refusal;
 pub use states::StateWord;

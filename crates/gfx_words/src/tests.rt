@@ -1,6 +1,7 @@
 // Values from outside: the numbers of the words' fields, and place words.
 use crate::{
-    ClearFlags, DiscardFlags, Handle, Info, Kind, PlaceWord, Refusal, StateWord, StencilWord,
+    ClearFlags, DiscardFlags, Format, Handle, HandleName, Info, Kind, PlaceWord, ProgramKind,
+    Refusal, StateWord, StencilWord, UniformKind,
 };
 use bitflags::Flags;
 
@@ -165,4 +166,53 @@ fn flags_and_numbers(rt: HostRuntime) {
         ),
         (1, 16, 17)
     );
+}
+
+#[test]
+fn numbers_of_kinds_and_back(rt: HostRuntime) {
+    assert_eq!(rt; Kind::of_number(4), Some(Kind::FrameBuffer));
+    assert_eq!(rt;
+        (Kind::of_number(6), Kind::of_number(7)),
+        (Some(Kind::Uniform), None)
+    );
+    assert_eq!(rt;
+        (Format::D24S8.number(), Format::of_number(1)),
+        (1, Some(Format::D24S8))
+    );
+    assert_eq!(rt; Format::of_number(2), None);
+    assert_eq!(rt;
+        (ProgramKind::TexColor.number(), ProgramKind::of_number(2)),
+        (3, Some(ProgramKind::Texture))
+    );
+    assert_eq!(rt; ProgramKind::of_number(4), None);
+    assert_eq!(rt;
+        (UniformKind::Int.number(), UniformKind::of_number(0)),
+        (1, Some(UniformKind::Vec4))
+    );
+    assert_eq!(rt; UniformKind::of_number(255), None);
+    assert!(rt; Kind::Texture.is(Kind::Texture) && !Kind::Texture.is(Kind::Layout));
+    assert!(rt; Format::Rgba8.is(Format::Rgba8) && !Format::D24S8.is(Format::Rgba8));
+    assert!(rt; UniformKind::Int.is(UniformKind::Int) && !UniformKind::Int.is(UniformKind::Vec4));
+}
+
+#[test]
+fn words_of_handles(rt: HostRuntime) {
+    let handle = Handle::of(Kind::Texture, 1023, 4_294_967_295, Info::Plain);
+    assert_eq!(rt; handle.word(), 0x0000_0fff_ffff_ffff);
+    assert_eq!(rt; HandleName::from_word(handle.word()), Some(handle.name()));
+    assert_eq!(rt;
+        Handle::of(Kind::Uniform, 2, 9, Info::Plain).word(),
+        0x0000_1802_0000_0009
+    );
+    assert_eq!(rt;
+        HandleName::from_word(63 << 32 | 5),
+        Some(HandleName {
+            kind: Kind::Layout,
+            index: 63,
+            serial: 5
+        })
+    );
+    for word in [64 << 32 | 5, 7 << 42, 1 << 50, 3 << 50 | 1, u64::MAX] {
+        assert_eq!(rt; HandleName::from_word(word), None);
+    }
 }

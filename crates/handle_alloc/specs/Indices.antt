@@ -1,5 +1,5 @@
 -- The indices below a limit, each given or free.
-use Rattle.std.specs.Prelude.{ℕ, ◌≡◌, ◌<◌, List, ◌∷◌, length, slice_index}
+use Rattle.std.specs.Prelude.{ℕ, ◌≡◌, ◌<◌, ◌≤◌, ◌^◌, List, ◌∷◌, length, slice_index}
 use Rattle.std.specs.List.{Contains}
 
 -- the free indices as a stack, the one that is given next first
@@ -14,6 +14,13 @@ with_free index a = record a { free = index ∷ a.free }
 -- an index below the limit that is not free
 abbrev pub IsGiven : Indices → ℕ → Type 0
 IsGiven a index = (index < a.limit) × ¬ Contains a.free index
+
+-- what every stack keeps: the free indices are below the limit, and none stands in it twice
+pub record IsStack (a : Indices) : Type 0 where
+  pub fits : a.limit < 2 ^ 16
+  pub few : length a.free ≤ a.limit
+  pub below : (i : ℕ) → i < length a.free → slice_index a.free i < a.limit
+  pub once : (i j : ℕ) → i < length a.free → j < length a.free → slice_index a.free i ≡ slice_index a.free j → i ≡ j
 
 -- two lists are each other's inverse: the index that stands at a place has that place, and the other way round
 pub record IsPaired (order places : List ℕ) : Type 0 where

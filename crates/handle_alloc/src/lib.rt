@@ -1,9 +1,9 @@
 //! Indices that are given and come back: a stack of the free ones.
 #![tactic(auto)]
 
-ghost use Rattle.std.specs.Prelude.{◌≡◌, ◌+◌, [], length, IfOk, MatchResult, IsTrue, ◌↔◌};
+ghost use Rattle.std.specs.Prelude.{◌≡◌, ◌==◌, ◌+◌, [], length, IfOk, MatchResult, IsTrue, ◌↔◌};
 ghost use Rattle.std.specs.List.{range_with_len};
-ghost use Rattle.handle_alloc.specs.Indices.{IsGiven, with_free};
+ghost use Rattle.handle_alloc.specs.Indices.{IsGiven, IsStack, with_free};
 
 use gfx_words::Refusal;
 use std::alloc::{AllocError, Global};
@@ -50,6 +50,13 @@ impl HandleAlloc {
         })
     }
 
+    /// What every stack keeps: its free indices are below the limit, and none stands in it twice.
+    pub fn tell_facts(&self)
+        ensures { IsStack self.now }
+    {
+        let _ = &self.order;
+    }
+
     /// Takes the top of the stack of free indices. `Full` exactly where there is none.
     pub fn alloc(&mut self) -> Result<u16, Refusal>
         ensures top { MatchResult result
@@ -63,6 +70,13 @@ impl HandleAlloc {
         let index = self.order[self.given as usize];
         self.given += 1;
         Ok(index)
+    }
+
+    /// Whether no index is free.
+    pub fn is_full(&self) -> bool
+        ensures { result ≡ (length self.now.free == 0) }
+    {
+        self.order.len() == self.given as usize
     }
 
     /// Puts an index that is given on top of the stack of free indices.

@@ -7,7 +7,9 @@ use std::alloc::AllocError;
 fn gives_upwards_and_takes_the_last_freed(rt: HostRuntime) -> Result<(), AllocError> {
     let mut indices = HandleAlloc::new(rt.alloc(), 2)?;
     assert_eq!(rt; indices.alloc(), Ok(0));
+    assert!(rt; !indices.is_full());
     assert_eq!(rt; indices.alloc(), Ok(1));
+    assert!(rt; indices.is_full());
     assert_eq!(rt; indices.alloc(), Err(Refusal::Full));
     assert_eq!(rt; indices.live_count(), 2);
     assert!(rt; indices.is_live(0));

@@ -1,5 +1,6 @@
 -- Each change of views keeps the rule.
-use Rattle.std.proofs.Common.{◌≡◌, ◌≢◌, ℕ, zero, suc, ◌+◌, ◌-◌, ◌*◌, ◌<◌, ◌≤◌, List, [], ◌∷◌, ◌++◌, length, set, sym, refl, ap, ◌∙◌, subst, arith, ⊎_elim, length-append, eq-eqb, ne_eqb}
+use Rattle.std.proofs.Common.{Bool, if◌then◌else◌, ◌≡◌, ◌≢◌, ℕ, zero, suc, ◌+◌, ◌-◌, ◌*◌, ◌<◌, ◌≤◌, List, [], ◌∷◌, ◌++◌, length, set, sym, refl, ap, ◌∙◌, subst, arith, ⊎_elim, length-append, eq-eqb, ne_eqb}
+use Rattle.std.proofs.lemmas.List.{append-nil}
 use mathlib.Core.Option.{some, some-injective, some-ne-none}
 use mathlib.Core.Logic.{dite}
 use native.Mathlib.Decide.{ℕ_discrete}
@@ -26,7 +27,7 @@ api_at first me counter views k id v at is =
     (zeroth, some-injective v me (sym at ∙ subst (λ (i : ℕ). get_elem? views i ≡ some me) (sym zeroth) k.at_api))
 
 -- a recorder is elsewhere, and the rule says what it knows
-recorder_fits : (first : ℕ) (me : SeatView) (counter : ℕ) (views : List SeatView) → Kept first me counter views → (id : ℕ) (v : SeatView) → get_elem? views id ≡ some v → v.role ≡ recorder
+pub recorder_fits : (first : ℕ) (me : SeatView) (counter : ℕ) (views : List SeatView) → Kept first me counter views → (id : ℕ) (v : SeatView) → get_elem? views id ≡ some v → v.role ≡ recorder
     → (id ≢ 0) × IsRecorderOf me.frame me.places me.greatest v
 recorder_fits first me counter views k id v at is =
     let fits : FitsAs me.frame me.places me.greatest id v recorder = subst (FitsAs me.frame me.places me.greatest id v) is (k.each id v at) in (
@@ -144,7 +145,7 @@ more_most : (xs : List ℕ) (n m : ℕ) → length xs ≤ 8191 → m ≤ 8191 * 
 more_most [] n m a b = (omega arith, omega arith)
 more_most (x ∷ xs) n m a b = (omega arith, omega arith)
 
-carries_here : (w : SeatView) → w.role ≡ recorder → carries w.encoder w ≡ 1
+pub carries_here : (w : SeatView) → w.role ≡ recorder → carries w.encoder w ≡ 1
 carries_here w is = rw (eq-eqb w.encoder w.encoder refl) (ap recording_as is)
 
 carries_as : (x : ℕ) (w : SeatView) → w.role ≡ recorder → carries x w ≡ count_of x (w.encoder ∷ [])
@@ -185,7 +186,7 @@ join_kept first me counter views k other w apart at is =
       base_most = k.base_most;
       placed = k.placed;
       greatest_most = k.greatest_most;
-      shown = ((fits.1.frame_is, (let o = k.off_once w.encoder in omega arith), fits.1.there), tt);
+      shown = ((fits.1.frame_is, (let o = k.off_once w.encoder in omega arith), fits.1.there, fits.1.ascends), tt);
     }
 
 -- ---- the API's view alone changes, and keeps its numbers and those that are off
@@ -377,3 +378,12 @@ ask_kept first me counter views k id v at is p =
       },
       f.follows p,
     )
+
+-- a recorder that is joined unused leaves what the API knew before it began
+pub unused : (e : ℕ) (v : SeatView) → v.shows ≡ [] → learnt (gathered (lent e v) (fresh e v)) ≡ v
+unused e v none =
+    (λ j. record v {
+      numbers = append-nil v.numbers j;
+      off = (ap (λ (b : Bool). if b then v.off else (e ∷ without e v.off)) (eq-eqb e e refl)) j;
+      shows = sym none j;
+    })

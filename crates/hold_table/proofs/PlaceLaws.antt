@@ -1,12 +1,12 @@
 -- How a place changes, and what its word says.
-use Rattle.std.proofs.Common.{◌≡◌, ℕ, zero, suc, ◌<◌, ◌≤◌, Bool, true, false, ◌&&◌, ◌||◌, ◌==◌, nat_le, List, [], ◌∷◌, ◌++◌, length, map, get_or, set, sym, refl, ap, ◌∙◌, subst, arith, inl, inr, ne_eqb}
-use Rattle.gfx_model.specs.Words.{live_word, dying_word, place_state, place_serial, place_death, is_usable_in}
+use Rattle.std.proofs.Common.{◌≡◌, ◌≢◌, ℕ, zero, suc, ◌<◌, ◌≤◌, Bool, true, false, ◌&&◌, ◌||◌, ◌==◌, nat_le, List, [], ◌∷◌, ◌++◌, length, map, get_or, set, sym, refl, ap, ◌∙◌, subst, arith, inl, inr, ne_eqb, IsTrue}
+use Rattle.gfx_model.specs.Words.{Handle, place_of_handle, live_word, dying_word, place_state, place_serial, place_death, is_usable_in}
 use Rattle.schedule_model.specs.Machine.{Place, free, live, dying, place_at, has_usable}
 use Rattle.schedule_model.specs.Held.{Follows, is_same, is_dying, is_new, IsNewer, IsNameable}
 use Rattle.schedule_model.proofs.Lists.{all-map, all-snoc, both-true}
 use Rattle.schedule_model.proofs.Places.{set-cases, stands-set, follow-set, follows-create, follows-destroy, follows-reclaim, usable-create, usable-destroy, usable-reclaim}
 use Rattle.hold_table.specs.Words.{word_of, IsUpTo}
-use Rattle.hold_table.specs.Views.{SeatView, Asked, Shown, IsThere, AllThere, IsOfFrame, AllShown, IsWordSince}
+use Rattle.hold_table.specs.Views.{SeatView, Asked, Shown, IsThere, AllThere, IsNamedIn, IsOfFrame, AllShown, IsWordSince}
 
 -- ---- words
 
@@ -48,12 +48,18 @@ place-set [] p y near = absurd (omega arith)
 place-set (x ∷ xs) zero y near = refl
 place-set (x ∷ xs) (suc p) y near = place-set xs p y (omega arith)
 
+-- and every other place stays
+pub place-else : (places : List Place) (p q : ℕ) (y : Place) → q ≢ p → place_at (set places p y) q ≡ place_at places q
+place-else [] p q y apart = refl
+place-else (x ∷ xs) zero zero y apart = absurd (apart refl)
+place-else (x ∷ xs) zero (suc q) y apart = refl
+place-else (x ∷ xs) (suc p) zero y apart = refl
+place-else (x ∷ xs) (suc p) (suc q) y apart = place-else xs p q y (λ (e : q ≡ p). apart (ap suc e))
+
 -- ---- serials
 
 pub up_to-le : (a b : ℕ) (x : Place) → a ≤ b → IsUpTo a x → IsUpTo b x
-up_to-le a b free le h = tt
-up_to-le a b (live s) le h = omega arith
-up_to-le a b (dying s d) le h = omega arith
+up_to-le a b x le h = omega arith
 
 pub up_to-set : (a b p : ℕ) (y : Place) (places : List Place) → a ≤ b → IsUpTo b y → ((q : ℕ) → IsUpTo a (place_at places q)) → (q : ℕ) → IsUpTo b (place_at (set places p y) q)
 up_to-set a b p y places le h all q = elim (set-cases places p q y) [
@@ -96,13 +102,21 @@ pub there_set : (frame greatest p : ℕ) (y : Place) (places : List Place) → M
 there_set frame greatest p y places m = all-map (IsThere frame places) (IsThere frame (set places p y)) (λ a h n u. stands-set places p y frame m.usable (record { place = a.place; serial = n }) (h n u))
 
 pub shown_set : (frame greatest p : ℕ) (y : Place) (places : List Place) → Moves frame greatest (place_at places p) y → (shows : List Shown) → AllShown frame places shows → AllShown frame (set places p y) shows
-shown_set frame greatest p y places m = all-map (IsOfFrame frame places) (IsOfFrame frame (set places p y)) (λ x h. (h.0, h.1, there_set frame greatest p y places m x.asked h.2))
+shown_set frame greatest p y places m = all-map (IsOfFrame frame places) (IsOfFrame frame (set places p y)) (λ x h. (h.0, h.1, there_set frame greatest p y places m x.asked h.2, h.3))
 
 -- a place that is asked now is there
 pub there_snoc : (frame p : ℕ) (places : List Place) (asked : List Asked) → IsUpTo 4294967295 (place_at places p) → AllThere frame places asked
     → AllThere frame places (asked ++ record { place = p; word = word_of (place_at places p) } ∷ [])
 there_snoc frame p places asked fits t =
     all-snoc (IsThere frame places) asked (record { place = p; word = word_of (place_at places p) }) t (λ n u. sym (usable-word frame n (place_at places p) fits) ∙ u)
+
+-- a thing that was named is there
+pub named_stands : (frame : ℕ) (places : List Place) (h : Handle) (asked : List Asked) → AllThere frame places asked → IsNamedIn frame h asked → IsTrue (has_usable frame h.serial (place_at places (place_of_handle h)))
+named_stands frame places h [] t n = absurd n
+named_stands frame places h (a ∷ rest) t n = elim n [
+  | inl here ↦ subst (λ (p : ℕ). IsTrue (has_usable frame h.serial (place_at places p))) here.0 (t.0 h.serial here.1)
+  | inr later ↦ named_stands frame places h rest t.1 later
+]
 
 -- ---- what a recorder learns of a place
 
@@ -141,6 +155,17 @@ word-stays_usable v p w serial since h =
 pub word-stays_refused : (v : SeatView) (p w serial : ℕ) → IsWordSince v p w → serial ≤ v.greatest → has_usable v.frame serial (place_at v.places p) ≡ false → is_usable_in v.frame w serial ≡ false
 word-stays_refused v p w serial since le h =
     ap (λ (n : ℕ). is_usable_in v.frame n serial) since.1 ∙ usable-word v.frame serial since.0 since.2 ∙ stays_refused v.frame v.greatest serial (place_at v.places p) since.0 since.3 le h
+
+-- so a word is judged as the one at the beginning, where the serial was given before
+pub word-judged : (v : SeatView) (p w serial : ℕ) → IsWordSince v p w → serial ≤ v.greatest → IsUpTo 4294967295 (place_at v.places p) → is_usable_in v.frame w serial ≡ is_usable_in v.frame (word_of (place_at v.places p)) serial
+word-judged v p w serial since le fits = go (has_usable v.frame serial (place_at v.places p)) refl
+  where
+    begun : is_usable_in v.frame (word_of (place_at v.places p)) serial ≡ has_usable v.frame serial (place_at v.places p)
+    begun = usable-word v.frame serial (place_at v.places p) fits
+
+    go : (b : Bool) → has_usable v.frame serial (place_at v.places p) ≡ b → is_usable_in v.frame w serial ≡ is_usable_in v.frame (word_of (place_at v.places p)) serial
+    go true e = word-stays_usable v p w serial since e ∙ sym (begun ∙ e)
+    go false e = word-stays_refused v p w serial since le e ∙ sym (begun ∙ e)
 
 -- what a test of a word said, told of the seat's frame and the handle's serial
 pub told_of : (frame frame' w s s' : ℕ) (b x : Bool) → b ≡ is_usable_in frame w s → frame ≡ frame' → s ≡ s' → b ≡ x → is_usable_in frame' w s' ≡ x

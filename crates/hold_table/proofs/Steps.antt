@@ -6,7 +6,7 @@ use mathlib.Core.Logic.{dite}
 use native.Mathlib.Decide.{ℕ_discrete}
 use lib.ListN.{get_elem?}
 use lib.Seq.{set-get_or}
-use Rattle.atomic_table.specs.Table.{Act, step, keeps, Valid, homes_after, carried_after, Allows, Splits, Joins}
+use Rattle.atomic_table.specs.Table.{State, Act, step, keeps, Valid, homes_after, carried_after, Allows, Splits, Joins}
 use Rattle.atomic_table.proofs.Lists.{set_else}
 use Rattle.schedule_model.specs.Machine.{Place, free, live, dying, place_at}
 use Rattle.schedule_model.specs.Held.{count_of}
@@ -109,7 +109,7 @@ destroys_keep first slots id m i word p serial e word_is is is_live = subst (λ 
 pub reclaims_keep : (first slots id : ℕ) (m : Mine) (i p serial death : ℕ) → i ≡ suc p → m.0.role ≡ api → place_at m.0.places p ≡ dying serial death → death < m.0.frame
     → Allows (IsHeld first) slots id m i (λ _. 0) (λ _. Reclaims (step slots i 0 0 none) m 0)
 reclaims_keep first slots id m i p serial death e is is_dying over = subst (λ (x : ℕ). Allows (IsHeld first) slots id m x (λ _. 0) (λ _. Reclaims (step slots x 0 0 none) m 0)) (sym e)
-    (writes first slots id m p free m.0.greatest is (subst (λ (c : Place). Moves m.0.frame m.0.greatest c free) (sym is_dying) (reclaims m.0.frame m.0.greatest serial death over)) (omega arith) (λ h. h) (λ _. tt)
+    (writes first slots id m p free m.0.greatest is (subst (λ (c : Place). Moves m.0.frame m.0.greatest c free) (sym is_dying) (reclaims m.0.frame m.0.greatest serial death over)) (omega arith) (λ h. h) (λ _. omega arith)
     (λ _. Reclaims (step slots (suc p) 0 0 none) m 0) (λ n q h. let a : p ≡ q = suc_same p q h in λ j. (placed (a j) free m.0, m.1)))
 
 -- ---- a recorder begins, and is joined
@@ -173,6 +173,15 @@ advances_keep first slots id m is none_off small = allows_from first slots id m 
           (refl, all.0, all.1),
         )
 
+-- ---- the table ends
+
+pub closes : (first : ℕ) (s : State (Unit {0}) SeatView) → IsHeld first s → (id : ℕ) (v : SeatView) → get_elem? s.views id ≡ some v → v.role ≡ api → v.off ≡ [] → (n : ℕ) → count_of n v.numbers ≡ once_between v.base (v.base + length v.numbers) n
+closes first s h id v at is none_off n =
+    let here = api_at first h.me h.counter s.views h.kept id v at is in
+    let all = gathered_all first h.me h.counter s.views h.kept (ap (λ (u : SeatView). u.off) (sym here.1) ∙ none_off) in
+    let P : SeatView → Type 0 = λ u. count_of n u.numbers ≡ once_between u.base (u.base + length u.numbers) n in
+    subst P (sym here.1) (all.0 n ∙ ap (λ (m : ℕ). once_between h.me.base m n) (sym all.1))
+
 -- ---- a new table
 
 words_free : (n : ℕ) → map word_of (replicate n free) ≡ replicate n 0
@@ -183,6 +192,9 @@ pub all_free : (n p : ℕ) → place_at (replicate n free) p ≡ free
 all_free zero p = refl
 all_free (suc n) zero = refl
 all_free (suc n) (suc p) = all_free n p
+
+pub none_placed : (n p : ℕ) → IsUpTo 0 (place_at (replicate n free) p)
+none_placed n p = subst (IsUpTo 0) (sym (all_free n p)) (omega arith)
 
 pub opens : (first : ℕ) (words : List ℕ) → first ≤ 1073741823 → words ≡ 0 ∷ replicate 3776 0 → IsHeld first record { words = words; homes = []; views = first_view first ∷ [] }
 opens first words small is = record {
@@ -205,7 +217,7 @@ opens first words small is = record {
     from_first = omega arith;
     frame_most = small;
     base_most = omega arith;
-    placed = λ p. subst (IsUpTo 0) (sym (all_free 3776 p)) tt;
+    placed = none_placed 3776;
     greatest_most = omega arith;
     shown = tt;
   };

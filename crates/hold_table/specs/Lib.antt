@@ -2,3 +2,4 @@ pub mod Words
 pub mod Views
 pub mod Rule
 pub mod Seats
+pub mod Events

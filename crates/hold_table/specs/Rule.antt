@@ -3,7 +3,7 @@ use Rattle.std.specs.Prelude.{◌≡◌, ℕ, ◌+◌, ◌-◌, ◌*◌, ◌≤�
 use mathlib.Core.Option.{some}
 use lib.ListN.{get_elem?}
 use Rattle.atomic_table.specs.Table.{State}
-use Rattle.schedule_model.specs.Machine.{Place, place_at}
+use Rattle.schedule_model.specs.Machine.{Place, place_at, place_count}
 use Rattle.schedule_model.specs.Held.{Follows, count_of, Ascends}
 use Rattle.hold_table.specs.Words.{word_of, IsUpTo}
 use Rattle.hold_table.specs.Views.{Role, api, recorder, spent, SeatView, AllThere, AllShown, once_between}
@@ -78,5 +78,5 @@ pub record IsHeld (first : ℕ) (s : State (Unit {0}) SeatView) : Type 0 where
   pub counter : ℕ
   pub me : SeatView
   pub words : s.words ≡ counter ∷ map word_of me.places
-  pub many : length me.places ≡ 3776
+  pub many : length me.places ≡ place_count
   pub kept : Kept first me counter s.views

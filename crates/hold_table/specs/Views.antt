@@ -1,10 +1,10 @@
 -- What a seat knows, and what each kind of step changes and tells.
-use Rattle.std.specs.Prelude.{◌≡◌, ℕ, suc, ◌+◌, ◌<◌, ◌≤◌, ◌==◌, nat_le, nat_lt, ◌&&◌, if◌then◌else◌, slice_set, List, [], ◌∷◌, ◌++◌, replicate, length, IsTrue}
+use Rattle.std.specs.Prelude.{◌≡◌, ℕ, suc, ◌+◌, ◌<◌, ◌≤◌, ◌==◌, nat_le, nat_lt, ◌&&◌, ◌⊎◌, if◌then◌else◌, slice_set, List, [], ◌∷◌, ◌++◌, replicate, length, IsTrue}
 use Rattle.std.specs.List.{AllByRecursion}
 use Rattle.atomic_table.specs.Table.{Me, Step}
-use Rattle.gfx_model.specs.Words.{is_usable_in}
+use Rattle.gfx_model.specs.Words.{Handle, place_of_handle, is_usable_in}
 use Rattle.schedule_model.specs.Machine.{Place, free, live, dying, place_at, has_usable, place_count}
-use Rattle.schedule_model.specs.Held.{Follows, count_of}
+use Rattle.schedule_model.specs.Held.{Follows, count_of, Ascends}
 use Rattle.hold_table.specs.Words.{word_of, IsUpTo}
 
 -- ---- what a seat knows
@@ -19,11 +19,12 @@ pub record Asked : Type 0 where
   pub place : ℕ
   pub word : ℕ
 
--- what a recorder that was joined shows until it is learnt: its frame, how often its encoder number was off, and what it asked
+-- what a recorder that was joined shows until it is learnt: its frame, how often its encoder number was off, what it asked and drew
 pub record Shown : Type 0 where
   pub frame : ℕ
   pub times_off : ℕ
   pub asked : List Asked
+  pub numbers : List ℕ
 
 -- a recorder knows its encoder number, its frame, the places and the greatest serial at its beginning, the numbers that it drew and what it asked.
 -- The API knows the frame, the places and the greatest serial as they are, the numbers gathered in this frame,
@@ -111,7 +112,7 @@ gathered v w = record v {
   numbers = v.numbers ++ w.numbers;
   off = without w.encoder v.off;
   joined = more w.numbers v.joined;
-  shows = record { frame = w.frame; times_off = count_of w.encoder v.off; asked = w.asked } ∷ [];
+  shows = record { frame = w.frame; times_off = count_of w.encoder v.off; asked = w.asked; numbers = w.numbers } ∷ [];
 }
 
 -- what was shown is learnt
@@ -129,9 +130,18 @@ IsThere frame places a = (serial : ℕ) → IsTrue (is_usable_in frame a.word se
 abbrev pub AllThere : ℕ → List Place → List Asked → Type 0
 AllThere frame places asked = AllByRecursion (IsThere frame places) asked
 
--- what was shown is of the frame, its encoder number was off once, and all that it asked is there
+-- a place of the list was the handle's, and its word had the handle's serial usable in the frame
+abbrev pub IsNamedIn : ℕ → Handle → List Asked → Type 0
+IsNamedIn frame h [] = ⊥
+IsNamedIn frame h (a ∷ rest) = ((a.place ≡ place_of_handle h) × IsTrue (is_usable_in frame a.word h.serial)) ⊎ IsNamedIn frame h rest
+
+-- the seat asked the handle's place, and found its thing usable
+abbrev pub HasNamed : SeatView → Handle → Type 0
+HasNamed v h = IsNamedIn v.frame h v.asked
+
+-- what was shown is of the frame, its encoder number was off once, all that it asked is there, and its numbers ascend
 abbrev pub IsOfFrame : ℕ → List Place → Shown → Type 0
-IsOfFrame frame places x = (x.frame ≡ frame) × (x.times_off ≡ 1) × AllThere frame places x.asked
+IsOfFrame frame places x = (x.frame ≡ frame) × (x.times_off ≡ 1) × AllThere frame places x.asked × Ascends x.numbers
 
 abbrev pub AllShown : ℕ → List Place → List Shown → Type 0
 AllShown frame places shows = AllByRecursion (IsOfFrame frame places) shows

@@ -1,11 +1,12 @@
 // The table and its calls.
-ghost use Rattle.std.specs.Prelude.{◌≡◌, ◌+◌, ◌<◌, ◌≤◌, ℕ, [], length, true, false, IsTrue, IsOk, IsErr, IfOk, MatchResult};
+ghost use Rattle.std.specs.Prelude.{◌≡◌, suc, ◌+◌, ◌<◌, ◌≤◌, ℕ, [], length, true, false, IsTrue, IsOk, IsErr, IfOk, MatchResult};
 ghost use Rattle.std.specs.List.{AllByRecursion};
 ghost use Rattle.gfx_model.specs.Words.{place_of_handle, is_usable_in};
 ghost use Rattle.gfx_words.specs.declared.refusals.Refusal.TheVariants as refusals;
-ghost use Rattle.schedule_model.specs.Machine.{free, live, dying, place_at, has_usable};
-ghost use Rattle.schedule_model.specs.Held.{count_of};
-ghost use Rattle.hold_table.specs.Views.{api, recorder, first_view, lent, fresh, joined_with, drawn, advanced, once_between, HasAsked, AllThere, created, placed};
+ghost use Rattle.schedule_model.specs.Machine.{free, live, dying, place_at, place_count, has_usable};
+ghost use Rattle.schedule_model.specs.Held.{count_of, Ascends};
+ghost use Rattle.hold_table.specs.Views.{api, recorder, first_view, lent, fresh, joined_with, drawn, advanced, once_between, SeatView, HasAsked, AllThere, HasNamed, created, placed};
+ghost use Rattle.hold_table.specs.Words.{IsUpTo};
 
 use crate::view::{
     Advance, Ask, Begin, Create, Destroy, Draw, Gather, Law, Learn, Numbered, Reclaim, View,
@@ -15,14 +16,14 @@ use gfx_words::{Handle, PlaceWord, Refusal};
 use std::alloc::{AllocError, Global};
 use std::marker::Brand;
 
-// The counter, and a word for each place.
-const WORDS: usize = 3777;
+// How many places there are: as many as the kinds have indices.
+const PLACES: usize = 3776;
 
-/// One counter of draw numbers and a word for each of 3,776 places, which threads share.
+/// One counter of draw numbers and a word for each place, which threads share.
 #[derive(Drop)]
 pub struct HoldTable {
     table: Table<(), View, u32, Law, Global>,
-    ghost wide: { table.shared.table_id.words ≡ 3777 },
+    ghost wide: { table.shared.table_id.words ≡ suc place_count },
     ghost no_slots: { table.shared.table_id.slots ≡ 0 },
 }
 
@@ -33,8 +34,11 @@ pub struct ApiSeat {
     frame: u32,
     ghost frame_is: { frame ≡ seat.me.0.frame },
     ghost frame_most: { frame ≤ 1073741823 },
-    ghost many: { length seat.me.0.places ≡ 3776 },
+    ghost many: { length seat.me.0.places ≡ place_count },
+    ghost placed: { (p : ℕ) → IsUpTo seat.me.0.greatest (place_at seat.me.0.places p) },
+    ghost greatest_most: { seat.me.0.greatest ≤ 4294967295 },
     ghost is_api: { seat.me.0.role ≡ api },
+    ghost all_learnt: { seat.me.0.shows ≡ [] },
     ghost no_slot: { seat.me.1 ≡ [] },
 }
 
@@ -44,6 +48,9 @@ pub struct EncSeat {
     seat: Seat<(), View>,
     frame: u32,
     ghost frame_is: { frame ≡ seat.me.0.frame },
+    ghost many: { length seat.me.0.places ≡ place_count },
+    ghost placed: { (p : ℕ) → IsUpTo seat.me.0.greatest (place_at seat.me.0.places p) },
+    ghost greatest_most: { seat.me.0.greatest ≤ 4294967295 },
     ghost is_recorder: { seat.me.0.role ≡ recorder },
     ghost no_slot: { seat.me.1 ≡ [] },
 }
@@ -56,7 +63,7 @@ impl HoldTable {
         requires { first_frame ≤ 1073741823 }
         ensures { IfOk result (λ r. (api_table r.1 ≡ table_of r.0) × (api_view r.1 ≡ first_view first_frame)) }
     {
-        let words = Vec::from_elem(alloc, 0u64, WORDS)?;
+        let words = Vec::from_elem(alloc, 0u64, PLACES + 1)?;
         let (table, seat) = Table::of_words(alloc, words.as_slice(), &first_frame)?;
         let frame = first_frame;
         Ok((HoldTable { table }, ApiSeat { seat, frame }))
@@ -89,7 +96,8 @@ impl HoldTable {
     }
 
     /// Gathers a recorder's numbers. It tells that the recorder was of the API's frame, that its encoder number was off,
-    /// and that each thing whose word it found usable is in its place still.
+    /// that its numbers ascend, and that each thing whose word it found usable is in its place still, live or dying in this frame.
+    /// Joining a seat that was split off and not used gives back what the API knew before the split.
     pub fn join(&self, api: &mut ApiSeat, enc: EncSeat)
         requires table { (api_table api.old ≡ table_of self.now) × (enc_table enc ≡ table_of self.now) }
         ensures table { api_table api.new ≡ table_of self.now }
@@ -97,9 +105,12 @@ impl HoldTable {
         ensures frame { (enc_view enc).frame ≡ (api_view api.old).frame }
         ensures was_off { count_of (enc_view enc).encoder (api_view api.old).off ≡ 1 }
         ensures there { AllThere (api_view api.old).frame (api_view api.old).places (enc_view enc).asked }
+        ensures named { (h : Handle) → HasNamed (enc_view enc) h → IsTrue (has_usable (api_view api.old).frame h.serial (place_at (api_view api.old).places (place_of_handle h))) }
+        ensures ascends { Ascends (enc_view enc).numbers }
         ensures distinct { (n : ℕ) → count_of n (api_view api.new).numbers ≤ 1 }
         ensures from_base { (n : ℕ) → n < (api_view api.new).base → count_of n (api_view api.new).numbers ≡ 0 }
         ensures most { length (api_view api.new).numbers ≤ 65528 }
+        ensures unused { (e : ℕ) (v : SeatView) → api_view api.old ≡ lent e v → enc_view enc ≡ fresh e v → api_view api.new ≡ v }
     {
         let EncSeat { seat, frame: _ } = enc;
         self.table.shared.join_seat::<Gather>(&mut api.seat, seat);
@@ -174,7 +185,7 @@ impl HoldTable {
     /// Frees a place whose thing died in a frame before the API's.
     pub fn place_free(&self, api: &mut ApiSeat, place: u16)
         requires table { api_table api.old ≡ table_of self.now }
-        requires place { place < 3776 }
+        requires place { place < place_count }
         requires dead { (serial : ℕ) × (death : ℕ) × (place_at (api_view api.old).places place ≡ dying serial death) × (death < (api_view api.old).frame) }
         ensures table { api_table api.new ≡ table_of self.now }
         ensures api { api_view api.new ≡ placed place free (api_view api.old) }
@@ -200,10 +211,12 @@ impl HoldTable {
         start
     }
 
-    /// Ends the table. No recorder is off.
+    /// Ends the table. No recorder is off. Each number drawn since the last advance was gathered once, and no other:
+    /// those gathered are the frame's first number and as many as follow.
     pub fn close(self, api: ApiSeat)
         requires table { api_table api ≡ table_of self }
         requires off { (api_view api).off ≡ [] }
+        ensures once { (n : ℕ) → count_of n (api_view api).numbers ≡ once_between (api_view api).base ((api_view api).base + length (api_view api).numbers) n }
     {
         let HoldTable { table } = self;
         let ApiSeat { seat, frame: _ } = api;

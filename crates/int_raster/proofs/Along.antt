@@ -1,13 +1,12 @@
 -- Pixels of a row that are stepped one after the other.
-use Rattle.std.proofs.Common.{◌≡◌, ℕ, zero, suc, Bool, true, false, if◌then◌else◌, Option, Some, not, ◌^◌, ◌∷◌, refl, ◌+◌, ◌*◌, ◌/◌, ◌%◌, ◌<◌, ◌≤◌, List, [], length, slice_index_or, slice_set, sym, ap, ◌∙◌, arith}
-use Rattle.std.proofs.lemmas.Nat.{mod-mul-add, div-mul-add}
+use Rattle.std.proofs.Common.{◌≡◌, ℕ, zero, suc, Bool, true, false, if◌then◌else◌, Option, Some, not, ◌^◌, ◌∷◌, refl, ◌+◌, ◌-◌, ◌*◌, ◌/◌, ◌%◌, ◌<◌, ◌≤◌, List, [], length, slice_index_or, slice_set, sym, ap, ◌∙◌, arith}
 use Rattle.std.proofs.lemmas.List.{map-set, length-map}
 use Rattle.std.proofs.Math.ListN.{get_or-map}
 use Rattle.gfx_model.specs.Number.{map_from, u32_at}
 use Rattle.gfx_model.specs.Vertex.{Color}
 use Rattle.gfx_model.specs.Words.{is_blended, depth_test_of, writes_depth, on_stencil_fail, on_depth_fail, on_pass}
 use Rattle.gfx_model.specs.Pixel.{Pixel, Shaded, blend, stored_channels, passes_stencil, passes_depth, stencil_by, stored_color, step_with_depth, pixel_step}
-use Rattle.int_raster.specs.Places.{flat_pixel, flat_pixels, deep_pixel, deep_pixels, spanned, by_place}
+use Rattle.int_raster.specs.Places.{flat_pixel, flat_pixels, deep_pixel, deep_pixels, spanned, in_row}
 use Rattle.gfx_model.specs.Raster.{fragment_at}
 use Rattle.gfx_model.specs.World.{painted}
 use Rattle.tri_cover.specs.declared.triangles.Setup.{Setup}
@@ -17,26 +16,25 @@ use Rattle.tri_cover.specs.Shown.{setup_seen}
 use Rattle.int_raster.specs.Painted.{IsOpaque, bytes_of}
 use Rattle.int_raster.proofs.Changes.{span_more}
 
--- the step of a column and a row is that of their place
-pub at_place : {A : Type 0} (f : ℕ → ℕ → A → A) (w y x : ℕ) (p : A) → x < w → f x y p ≡ by_place w f (y * w + x) p
-at_place f w y x p h =
-    let column : x ≡ (y * w + x) % w = sym (mod-mul-add y w x h) in
-    let row : y ≡ (y * w + x) / w = sym (div-mul-add y w x h) in
-    (λ i. f (column i) (row i) p)
+-- the step of a column of a row is that of its place
+at_place : {A : Type 0} (f : ℕ → ℕ → A → A) (start y x : ℕ) (p : A) → f x y p ≡ in_row start y f (start + x) p
+at_place f start y x p =
+    let column : x ≡ start + x - start = omega arith in
+    (λ i. f (column i) y p)
 
 -- one pixel more of a surface without depth
-pub flat_more : (f : ℕ → ℕ → Pixel → Pixel) (w y first x : ℕ) (old now : List Color) (c : Color) →
-    flat_pixels now ≡ map_from (spanned (by_place w f) (y * w + first) (y * w + x)) 0 (flat_pixels old) →
-    first ≤ x → x < w → y * w + w ≤ length old →
-    flat_pixel c ≡ f x y (flat_pixel (slice_index_or now (y * w + x) [])) →
-    flat_pixels (slice_set now (y * w + x) c) ≡ map_from (spanned (by_place w f) (y * w + first) (y * w + (x + 1))) 0 (flat_pixels old)
-flat_more f w y first x old now c e a b l h =
-    let next : y * w + x + 1 ≡ y * w + (x + 1) = omega arith in
-    let inside : y * w + x < length (flat_pixels old) = rw (length-map old flat_pixel) (omega arith) in
-    map-set flat_pixel now (y * w + x) c
-    ∙ span_more (by_place w f) (y * w + first) (y * w + x) (flat_pixels old) (flat_pixels now) (flat_pixel c) (flat_pixel []) e (omega arith) inside
-    (h ∙ at_place f w y x (flat_pixel (slice_index_or now (y * w + x) [])) b ∙ ap (by_place w f (y * w + x)) (sym (get_or-map flat_pixel now (y * w + x) [])))
-    ∙ ap (λ n. map_from (spanned (by_place w f) (y * w + first) n) 0 (flat_pixels old)) next
+pub flat_more : (f : ℕ → ℕ → Pixel → Pixel) (start y first x : ℕ) (old now : List Color) (c : Color) →
+    flat_pixels now ≡ map_from (spanned (in_row start y f) (start + first) (start + x)) 0 (flat_pixels old) →
+    first ≤ x → start + x < length old →
+    flat_pixel c ≡ f x y (flat_pixel (slice_index_or now (start + x) [])) →
+    flat_pixels (slice_set now (start + x) c) ≡ map_from (spanned (in_row start y f) (start + first) (start + (x + 1))) 0 (flat_pixels old)
+flat_more f start y first x old now c e a b h =
+    let next : start + x + 1 ≡ start + (x + 1) = omega arith in
+    let inside : start + x < length (flat_pixels old) = rw (length-map old flat_pixel) b in
+    map-set flat_pixel now (start + x) c
+    ∙ span_more (in_row start y f) (start + first) (start + x) (flat_pixels old) (flat_pixels now) (flat_pixel c) (flat_pixel []) e (omega arith) inside
+    (h ∙ at_place f start y x (flat_pixel (slice_index_or now (start + x) [])) ∙ ap (in_row start y f (start + x)) (sym (get_or-map flat_pixel now (start + x) [])))
+    ∙ ap (λ n. map_from (spanned (in_row start y f) (start + first) n) 0 (flat_pixels old)) next
 
 -- ---- surfaces with depth
 
@@ -59,19 +57,19 @@ deep-get (b ∷ bs) (y ∷ ys) zero e = refl
 deep-get (b ∷ bs) (y ∷ ys) (suc i) e = deep-get bs ys i (omega (arith, e))
 
 -- one pixel more of a surface with depth
-pub deep_more : (f : ℕ → ℕ → Pixel → Pixel) (w y first x : ℕ) (old now before deep : List Color) (c z : Color) →
-    deep_pixels now deep ≡ map_from (spanned (by_place w f) (y * w + first) (y * w + x)) 0 (deep_pixels old before) →
-    first ≤ x → x < w → y * w + w ≤ length old → length before ≡ length old → length now ≡ length old → length deep ≡ length before →
-    deep_pixel c z ≡ f x y (deep_pixel (slice_index_or now (y * w + x) []) (slice_index_or deep (y * w + x) [])) →
-    deep_pixels (slice_set now (y * w + x) c) (slice_set deep (y * w + x) z) ≡ map_from (spanned (by_place w f) (y * w + first) (y * w + (x + 1))) 0 (deep_pixels old before)
-deep_more f w y first x old now before deep c z e a b l same as_long as_deep h =
-    let next : y * w + x + 1 ≡ y * w + (x + 1) = omega arith in
+pub deep_more : (f : ℕ → ℕ → Pixel → Pixel) (start y first x : ℕ) (old now before deep : List Color) (c z : Color) →
+    deep_pixels now deep ≡ map_from (spanned (in_row start y f) (start + first) (start + x)) 0 (deep_pixels old before) →
+    first ≤ x → start + x < length old → length before ≡ length old → length now ≡ length old → length deep ≡ length before →
+    deep_pixel c z ≡ f x y (deep_pixel (slice_index_or now (start + x) []) (slice_index_or deep (start + x) [])) →
+    deep_pixels (slice_set now (start + x) c) (slice_set deep (start + x) z) ≡ map_from (spanned (in_row start y f) (start + first) (start + (x + 1))) 0 (deep_pixels old before)
+deep_more f start y first x old now before deep c z e a b same as_long as_deep h =
+    let next : start + x + 1 ≡ start + (x + 1) = omega arith in
     let here : length deep ≡ length now = as_deep ∙ same ∙ sym as_long in
-    let inside : y * w + x < length (deep_pixels old before) = rw (length-deep old before same) (omega arith) in
-    deep-set now deep (y * w + x) c z here
-    ∙ span_more (by_place w f) (y * w + first) (y * w + x) (deep_pixels old before) (deep_pixels now deep) (deep_pixel c z) (deep_pixel [] []) e (omega arith) inside
-    (h ∙ at_place f w y x (deep_pixel (slice_index_or now (y * w + x) []) (slice_index_or deep (y * w + x) [])) b ∙ ap (by_place w f (y * w + x)) (sym (deep-get now deep (y * w + x) here)))
-    ∙ ap (λ n. map_from (spanned (by_place w f) (y * w + first) n) 0 (deep_pixels old before)) next
+    let inside : start + x < length (deep_pixels old before) = rw (length-deep old before same) b in
+    deep-set now deep (start + x) c z here
+    ∙ span_more (in_row start y f) (start + first) (start + x) (deep_pixels old before) (deep_pixels now deep) (deep_pixel c z) (deep_pixel [] []) e (omega arith) inside
+    (h ∙ at_place f start y x (deep_pixel (slice_index_or now (start + x) []) (slice_index_or deep (start + x) [])) ∙ ap (in_row start y f (start + x)) (sym (deep-get now deep (start + x) here)))
+    ∙ ap (λ n. map_from (spanned (in_row start y f) (start + first) n) 0 (deep_pixels old before)) next
 
 -- ---- a step on a pixel with depth leaves one
 

@@ -1,23 +1,21 @@
 -- A surface whose pixels are changed, as its textures.
-use Rattle.std.proofs.Common.{◌≡◌, ℕ, suc, ◌/◌, ◌%◌, Some, None, List, [], ◌∷◌, ◌++◌, take, drop, length, slice_index, map, refl, ap, sym, ◌∙◌, arith}
+use Rattle.std.proofs.Common.{◌≡◌, ℕ, suc, ◌/◌, ◌%◌, List, [], ◌∷◌, ◌++◌, take, drop, length, slice_index, map, refl, ap, sym, ◌∙◌, arith}
 use Rattle.gfx_model.specs.Number.{map_from, u32_at}
 use Rattle.gfx_model.specs.Vertex.{Color}
 use Rattle.gfx_model.specs.Pixel.{Pixel}
-use Rattle.gfx_model.specs.World.{depth_texel, depth_bytes, on_each_pixel}
+use Rattle.gfx_model.specs.World.{depth_texel, depth_bytes}
 use Rattle.fix_math.specs.Bytes.{IsTexel, AreTexels}
 use Rattle.fix_math.specs.Lending.{refilled}
 use Rattle.std.proofs.lemmas.List.{take_at}
+use Rattle.int_raster.specs.Bands.{deep, flat_after, deep_after}
 use Rattle.int_raster.specs.Places.{flat_pixels, deep_pixels, by_place}
 
 flat_colors : (cs : List Color) → map (λ p. p.color) (flat_pixels cs) ≡ cs
 flat_colors [] = refl
 flat_colors (c ∷ cs) = ap (λ ds. c ∷ ds) (flat_colors cs)
 
-pub whole_flat : (w h : ℕ) (old new : List Color) (g : ℕ → ℕ → Pixel → Pixel) → flat_pixels new ≡ map_from (by_place w g) 0 (flat_pixels old) →
-    record { color = record { width = w; height = h; texels = new }; depth = None } ≡ on_each_pixel g (record { color = record { width = w; height = h; texels = old }; depth = None })
-whole_flat w h old new g e =
-    let texels : new ≡ map (λ p. p.color) (map_from (by_place w g) 0 (flat_pixels old)) = sym (flat_colors new) ∙ ap (map (λ p. p.color)) e in
-    (λ i. record { color = record { width = w; height = h; texels = texels i }; depth = None })
+pub whole_flat : (w : ℕ) (old new : List Color) (g : ℕ → ℕ → Pixel → Pixel) → flat_pixels new ≡ map_from (by_place w g) 0 (flat_pixels old) → new ≡ flat_after w g old
+whole_flat w old new g e = sym (flat_colors new) ∙ ap (map (λ p. p.color)) e
 
 deep_colors : (cs zs : List Color) → length zs ≡ length cs → map (λ p. p.color) (deep_pixels cs zs) ≡ cs
 deep_colors [] zs e = refl
@@ -50,13 +48,12 @@ deep_depths [] (z ∷ zs) e h = cc
 deep_depths (c ∷ cs) [] e h = cc
 deep_depths (c ∷ cs) (z ∷ zs) e h = (λ i. texel_again z (h 0 (omega arith)) i ∷ deep_depths cs zs (omega (arith, e)) (λ k b. h (suc k) (omega (arith, b))) i)
 
-pub whole_deep : (w h v k : ℕ) (old new before deep : List Color) (g : ℕ → ℕ → Pixel → Pixel) → deep_pixels new deep ≡ map_from (by_place w g) 0 (deep_pixels old before) → length deep ≡ length new → AreTexels deep →
-    record { color = record { width = w; height = h; texels = new }; depth = Some (record { width = v; height = k; texels = deep }) }
-    ≡ on_each_pixel g (record { color = record { width = w; height = h; texels = old }; depth = Some (record { width = v; height = k; texels = before }) })
-whole_deep w h v k old new before deep g e l b =
-    let texels : new ≡ map (λ p. p.color) (map_from (by_place w g) 0 (deep_pixels old before)) = sym (deep_colors new deep l) ∙ ap (map (λ p. p.color)) e in
-    let depths : deep ≡ map (λ p. depth_bytes p.depth) (map_from (by_place w g) 0 (deep_pixels old before)) = sym (deep_depths new deep l b) ∙ ap (map (λ p. depth_bytes p.depth)) e in
-    (λ i. record { color = record { width = w; height = h; texels = texels i }; depth = Some (record { width = v; height = k; texels = depths i }) })
+pub whole_deep : (w : ℕ) (old new before after : List Color) (g : ℕ → ℕ → Pixel → Pixel) → deep_pixels new after ≡ map_from (by_place w g) 0 (deep_pixels old before) → length after ≡ length new → AreTexels after →
+    deep new after ≡ deep_after w g (deep old before)
+whole_deep w old new before after g e l b =
+    let texels : new ≡ map (λ p. p.color) (map_from (by_place w g) 0 (deep_pixels old before)) = sym (deep_colors new after l) ∙ ap (map (λ p. p.color)) e in
+    let depths : after ≡ map (λ p. depth_bytes p.depth) (map_from (by_place w g) 0 (deep_pixels old before)) = sym (deep_depths new after l b) ∙ ap (map (λ p. depth_bytes p.depth)) e in
+    (λ i. deep (texels i) (depths i))
 
 -- a list that was lent whole and comes back in its length
 pub refill : (s w : List Color) → length w ≡ length s → refilled s w ≡ w

@@ -3,3 +3,5 @@ pub mod Seen
 pub mod Places
 pub mod Painted
 pub mod Rules
+pub mod Bands
+pub mod Listing

@@ -1,5 +1,5 @@
 -- Pixels of a surface by their place, row by row from the top.
-use Rattle.std.specs.Prelude.{ℕ, ◌/◌, ◌%◌, Bool, ◌&&◌, nat_le, nat_lt, if◌then◌else◌, List, None, Some, map}
+use Rattle.std.specs.Prelude.{ℕ, ◌+◌, ◌-◌, ◌/◌, ◌%◌, Bool, ◌&&◌, nat_le, nat_lt, if◌then◌else◌, List, None, Some, map}
 use Rattle.gfx_model.specs.Number.{zip_with, u32_at}
 use Rattle.gfx_model.specs.Vertex.{Color}
 use Rattle.gfx_model.specs.Raster.{Rect, contains, covers}
@@ -44,3 +44,11 @@ is_drawn cut f x y = contains cut x y && covers f.triangle x y
 -- what one triangle of a draw does to a surface's pixels
 abbrev pub facing_change : PreparedDraw → Facing → ℕ → ℕ → Pixel → Pixel
 facing_change d f = where_test (is_drawn d.cut f) (covered_step d.state d.paint f)
+
+-- a change by column and row as a change by the place, in the row that begins at a place
+abbrev pub in_row : {A : Type 0} → ℕ → ℕ → (ℕ → ℕ → A → A) → ℕ → A → A
+in_row start y f i p = f (i - start) y p
+
+-- a change by column and row as the change of a band whose first row is a row of the surface
+abbrev pub below : {A : Type 0} → ℕ → (ℕ → ℕ → A → A) → ℕ → ℕ → A → A
+below top f x y p = f x (top + y) p

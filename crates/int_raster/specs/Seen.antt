@@ -1,9 +1,9 @@
 -- The crate's types as the definitions see them.
-use Rattle.std.specs.Prelude.{ℕ, Some, None, map, option_map}
+use Rattle.std.specs.Prelude.{ℕ, List, [], Some, None, map, option_map}
 use Rattle.gfx_model.specs.World as world
 use Rattle.fix_math.specs.Seen.{rect_seen, texels_seen}
 use Rattle.gfx_model.specs.Pixel.{Pixel}
-use Rattle.tri_cover.specs.Shown.{setup_seen}
+use Rattle.tri_cover.specs.Shown.{Shown, setup_seen}
 use Rattle.tri_cover.specs.declared.triangles.Setup.{Setup}
 use Rattle.int_raster.specs.Drawing.{PreparedDraw, facing_shown, covered_step}
 use Rattle.int_raster.specs.Places.{facing_change}
@@ -23,12 +23,12 @@ paint_seen (paints.TexColor t) = world.paint_product (Some (texels_seen t.now))
 paint_seen paints.Nothing = world.paint_sample None
 paint_seen paints.NothingColor = world.paint_product None
 
-abbrev pub prepared_seen : Prepared → PreparedDraw
-prepared_seen p = record {
+abbrev pub prepared_seen : Prepared → List Shown → PreparedDraw
+prepared_seen p triangles = record {
   cut = rect_seen p.cut;
   state = p.state;
   paint = paint_seen p.paint;
-  facings = map (facing_shown p.front p.back) p.triangles;
+  facings = map (facing_shown p.front p.back) triangles;
 }
 
 -- a triangle with the stencil word that a draw uses for it
@@ -41,4 +41,4 @@ step_seen d s = covered_step d.state (paint_seen d.paint) (facing_seen d s)
 
 -- what it does to the pixels of a surface
 abbrev pub change_seen : Prepared → Setup → ℕ → ℕ → Pixel → Pixel
-change_seen d s = facing_change (prepared_seen d) (facing_seen d s)
+change_seen d s = facing_change (prepared_seen d []) (facing_seen d s)

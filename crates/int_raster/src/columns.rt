@@ -1,10 +1,11 @@
 // The rows and columns of a surface that a triangle may change.
-ghost use Rattle.std.specs.Prelude.{◌≡◌, ◌≤◌, ◌<◌, ◌+◌, ℕ, min, true, ◌&&◌, nat_le, nat_lt};
+ghost use Rattle.std.specs.Prelude.{◌≡◌, ◌≤◌, ◌<◌, ◌+◌, ℕ, min, true, false, ◌&&◌, nat_le, nat_lt};
 ghost use Rattle.gfx_model.specs.Raster.{contains, covers};
 ghost use Rattle.fix_math.specs.Seen.{rect_seen};
 ghost use Rattle.tri_cover.specs.Shown.{setup_seen};
 ghost use Rattle.tri_cover.specs.Walked.{AreSides};
 
+use crate::rows::Rows;
 use fix_math::Rect;
 use tri_cover::{Setup, Sides};
 
@@ -16,21 +17,30 @@ fn end_within(start: u16, side: u16, limit: u16) -> u16
     (start as u32 + side as u32).min(limit as u32) as u16
 }
 
-/// The rows of a surface that a triangle may change are among these, and they lie in the cut.
-pub(crate) fn drawn_rows(setup: &Setup, cut: &Rect, height: u16) -> (u16, u16)
-    ensures all { (x y : ℕ) → y < height → contains (rect_seen cut.now) x y ≡ true → covers (setup_seen setup.now).triangle x y ≡ true → (result.0 ≤ y) × (y < result.1) }
+/// The rows of a band that a triangle may change are among these, counted from the band's first, and they lie in the cut.
+pub(crate) fn drawn_rows(setup: &Setup, cut: &Rect, rows: &Rows) -> (u16, u16)
+    ensures all { (x y : ℕ) → y < rows.now.count → contains (rect_seen cut.now) x (rows.now.top + y) ≡ true → covers (setup_seen setup.now).triangle x (rows.now.top + y) ≡ true → (result.0 ≤ y) × (y < result.1) }
     ensures order { result.0 ≤ result.1 }
-    ensures within { result.1 ≤ height }
-    ensures first { (y : ℕ) → result.0 ≤ y → y < result.1 → (cut.now.y ≤ y) × (y < cut.now.y + cut.now.h) }
+    ensures within { result.1 ≤ rows.now.count }
+    ensures first { (y : ℕ) → result.0 ≤ y → y < result.1 → (cut.now.y ≤ rows.now.top + y) × (rows.now.top + y < cut.now.y + cut.now.h) }
 {
-    let (first, after) = setup.rows(height);
-    let first = first.max(cut.y);
-    let after = after.min(end_within(cut.y, cut.h, height));
+    let bottom = rows.top + rows.count;
+    let (first, after) = setup.rows(bottom);
+    let first = first.max(cut.y).max(rows.top);
+    let after = after.min(end_within(cut.y, cut.h, bottom));
     if first < after {
-        (first, after)
+        (first - rows.top, after - rows.top)
     } else {
         (0, 0)
     }
+}
+
+/// Whether a triangle may change rows of a band.
+pub(crate) fn meets(setup: &Setup, cut: &Rect, rows: &Rows) -> bool
+    ensures { (x y : ℕ) → result ≡ false → y < rows.now.count → contains (rect_seen cut.now) x (rows.now.top + y) ≡ true → covers (setup_seen setup.now).triangle x (rows.now.top + y) ≡ true → ⊥ }
+{
+    let (first, after) = drawn_rows(setup, cut, rows);
+    first < after
 }
 
 /// The columns of a row of the cut that a triangle changes, by its sides in the row.

@@ -1,15 +1,15 @@
 // Draws on a surface with depth.
-ghost use Rattle.std.specs.Prelude.{◌≡◌, ◌≤◌, ◌<◌, ◌+◌, ◌*◌, ℕ, true, length, IfSome, IsTrue};
+ghost use Rattle.std.specs.Prelude.{◌≡◌, ◌≤◌, ◌<◌, ◌+◌, ◌*◌, ℕ, true, length, map, IfSome, IsTrue};
 ghost use Rattle.gfx_model.specs.Number.{map_from};
 ghost use Rattle.gfx_model.specs.Raster.{covers};
 ghost use Rattle.tri_cover.specs.Shown.{setup_seen};
 ghost use Rattle.int_raster.specs.Drawing.{prepared_step};
-ghost use Rattle.int_raster.specs.Places.{deep_pixels, spanned, by_place};
+ghost use Rattle.int_raster.specs.Places.{deep_pixels, spanned, by_place, below, in_row};
 ghost use Rattle.int_raster.specs.Painted.{PaintsSpan, HasSpanDepths, HasWideSpanDepths, Paints, HasDepths, HasWideDepths};
 ghost use Rattle.int_raster.specs.Rules.{IsPlain, IsMix};
 ghost use Rattle.int_raster.specs.Seen.{prepared_seen, step_seen, change_seen};
 
-use crate::columns::{drawn_columns, drawn_rows};
+use crate::columns::{drawn_columns, drawn_rows, meets};
 use crate::deep_spans::{
     fill, fill_wide, mix_painted, step_exactly, step_painted, store, store_shade, store_shade_wide,
     store_wide,
@@ -21,6 +21,7 @@ use crate::over_spans::is_over;
 use crate::overs::Over;
 use crate::painters::{Painter, depth_for, is_opaque, painter_for, painter_of};
 use crate::painting::stencil_of;
+use crate::rows::Rows;
 use crate::spans::Span;
 use pixel_ops::Blending;
 use tri_cover::{Ramp, Setup, WideRamp};
@@ -80,12 +81,12 @@ fn paint_mixed(
     setup: &Setup,
     draw: &Prepared,
 )
-    requires inside { span.now.y * span.now.width + span.now.width ≤ length colors.old }
+    requires inside { span.now.start + span.now.after ≤ length colors.old }
     requires same { length depths.old ≡ length colors.old }
     requires paints { PaintsSpan painter.now draw.now setup.now span.now.y span.now.first span.now.after }
     requires depths { HasWideSpanDepths depth.now setup.now span.now.y span.now.first span.now.after }
     requires mix { IfSome mix.now (λ m. IsMix m draw.now setup.now) }
-    ensures { deep_pixels colors.new depths.new ≡ map_from (spanned (by_place span.now.width (step_seen draw.now setup.now)) (span.now.y * span.now.width + span.now.first) (span.now.y * span.now.width + span.now.after)) 0 (deep_pixels colors.old depths.old) }
+    ensures { deep_pixels colors.new depths.new ≡ map_from (spanned (in_row span.now.start span.now.y (step_seen draw.now setup.now)) (span.now.start + span.now.first) (span.now.start + span.now.after)) 0 (deep_pixels colors.old depths.old) }
 {
     match mix {
         Some(mix) => mix_painted(colors, depths, span, painter, depth, mix, setup, draw),
@@ -104,13 +105,13 @@ fn paint(
     setup: &Setup,
     draw: &Prepared,
 )
-    requires inside { span.now.y * span.now.width + span.now.width ≤ length colors.old }
+    requires inside { span.now.start + span.now.after ≤ length colors.old }
     requires same { length depths.old ≡ length colors.old }
     requires paints { PaintsSpan brush.now.painter draw.now setup.now span.now.y span.now.first span.now.after }
     requires depths { HasSpanDepths brush.now.depth setup.now span.now.y span.now.first span.now.after }
     requires rule { IfSome rule.now (λ r. IsPlain r draw.now setup.now) }
     requires mix { IfSome mix.now (λ m. IsMix m draw.now setup.now) }
-    ensures { deep_pixels colors.new depths.new ≡ map_from (spanned (by_place span.now.width (step_seen draw.now setup.now)) (span.now.y * span.now.width + span.now.first) (span.now.y * span.now.width + span.now.after)) 0 (deep_pixels colors.old depths.old) }
+    ensures { deep_pixels colors.new depths.new ≡ map_from (spanned (in_row span.now.start span.now.y (step_seen draw.now setup.now)) (span.now.start + span.now.first) (span.now.start + span.now.after)) 0 (deep_pixels colors.old depths.old) }
 {
     match rule {
         Some(rule) => match &brush.painter {
@@ -172,13 +173,13 @@ fn paint_wide(
     setup: &Setup,
     draw: &Prepared,
 )
-    requires inside { span.now.y * span.now.width + span.now.width ≤ length colors.old }
+    requires inside { span.now.start + span.now.after ≤ length colors.old }
     requires same { length depths.old ≡ length colors.old }
     requires paints { PaintsSpan brush.now.painter draw.now setup.now span.now.y span.now.first span.now.after }
     requires depths { HasWideSpanDepths brush.now.depth setup.now span.now.y span.now.first span.now.after }
     requires rule { IfSome rule.now (λ r. IsPlain r draw.now setup.now) }
     requires mix { IfSome mix.now (λ m. IsMix m draw.now setup.now) }
-    ensures { deep_pixels colors.new depths.new ≡ map_from (spanned (by_place span.now.width (step_seen draw.now setup.now)) (span.now.y * span.now.width + span.now.first) (span.now.y * span.now.width + span.now.after)) 0 (deep_pixels colors.old depths.old) }
+    ensures { deep_pixels colors.new depths.new ≡ map_from (spanned (in_row span.now.start span.now.y (step_seen draw.now setup.now)) (span.now.start + span.now.first) (span.now.start + span.now.after)) 0 (deep_pixels colors.old depths.old) }
 {
     let depth = &brush.depth;
     match rule {
@@ -215,14 +216,14 @@ fn draw_wide(
     setup: &Setup,
     draw: &Prepared,
 )
-    requires inside { span.now.y * span.now.width + span.now.width ≤ length colors.old }
+    requires inside { span.now.start + span.now.after ≤ length colors.old }
     requires same { length depths.old ≡ length colors.old }
     requires covered { (x : ℕ) → span.now.first ≤ x → x < span.now.after → covers (setup_seen setup.now).triangle x span.now.y ≡ true }
     requires paints { IfSome brush.now (λ b. PaintsSpan b.painter draw.now setup.now span.now.y span.now.first span.now.after) }
     requires depths { IfSome brush.now (λ b. HasWideSpanDepths b.depth setup.now span.now.y span.now.first span.now.after) }
     requires rule { IfSome rule.now (λ r. IsPlain r draw.now setup.now) }
     requires mix { IfSome mix.now (λ m. IsMix m draw.now setup.now) }
-    ensures { deep_pixels colors.new depths.new ≡ map_from (spanned (by_place span.now.width (step_seen draw.now setup.now)) (span.now.y * span.now.width + span.now.first) (span.now.y * span.now.width + span.now.after)) 0 (deep_pixels colors.old depths.old) }
+    ensures { deep_pixels colors.new depths.new ≡ map_from (spanned (in_row span.now.start span.now.y (step_seen draw.now setup.now)) (span.now.start + span.now.first) (span.now.start + span.now.after)) 0 (deep_pixels colors.old depths.old) }
 {
     match brush {
         Some(brush) => paint_wide(colors, depths, span, brush, rule, mix, setup, draw),
@@ -242,7 +243,7 @@ fn draw_span(
     setup: &Setup,
     draw: &Prepared,
 )
-    requires inside { span.now.y * span.now.width + span.now.width ≤ length colors.old }
+    requires inside { span.now.start + span.now.after ≤ length colors.old }
     requires same { length depths.old ≡ length colors.old }
     requires covered { (x : ℕ) → span.now.first ≤ x → x < span.now.after → covers (setup_seen setup.now).triangle x span.now.y ≡ true }
     requires paints { IfSome brush.now (λ b. PaintsSpan b.painter draw.now setup.now span.now.y span.now.first span.now.after) }
@@ -251,7 +252,7 @@ fn draw_span(
     requires wide_depths { IfSome wide.now (λ b. HasWideSpanDepths b.depth setup.now span.now.y span.now.first span.now.after) }
     requires rule { IfSome rule.now (λ r. IsPlain r draw.now setup.now) }
     requires mix { IfSome mix.now (λ m. IsMix m draw.now setup.now) }
-    ensures { deep_pixels colors.new depths.new ≡ map_from (spanned (by_place span.now.width (step_seen draw.now setup.now)) (span.now.y * span.now.width + span.now.first) (span.now.y * span.now.width + span.now.after)) 0 (deep_pixels colors.old depths.old) }
+    ensures { deep_pixels colors.new depths.new ≡ map_from (spanned (in_row span.now.start span.now.y (step_seen draw.now setup.now)) (span.now.start + span.now.first) (span.now.start + span.now.after)) 0 (deep_pixels colors.old depths.old) }
 {
     match brush {
         Some(brush) => paint(colors, depths, span, brush, rule, mix, setup, draw),
@@ -287,27 +288,26 @@ fn mix_of(rule: &Option<Rule>, setup: &Setup, draw: &Prepared) -> Option<Mix>
 fn triangle_tested(
     colors: &mut [[u8; 4]],
     depths: &mut [[u8; 4]],
-    width: u16,
-    height: u16,
+    rows: &Rows,
     rule: &Option<Rule>,
     setup: &Setup,
     draw: &Prepared,
 )
-    requires wide { 1 ≤ width }
-    requires whole { length colors.old ≡ width * height }
+    requires whole { length colors.old ≡ rows.now.width * rows.now.count }
     requires same { length depths.old ≡ length colors.old }
     requires rule { IfSome rule.now (λ r. IsPlain r draw.now setup.now) }
-    ensures { deep_pixels colors.new depths.new ≡ map_from (by_place width (change_seen draw.now setup.now)) 0 (deep_pixels colors.old depths.old) }
+    ensures { deep_pixels colors.new depths.new ≡ map_from (by_place rows.now.width (below rows.now.top (change_seen draw.now setup.now))) 0 (deep_pixels colors.old depths.old) }
 {
-    let brush = brush_of(setup, draw, width, height);
-    let wide = wide_brush_of(setup, draw, width, height, &brush);
+    let brush = brush_of(setup, draw, rows.width, rows.bottom());
+    let wide = wide_brush_of(setup, draw, rows.width, rows.bottom(), &brush);
     let mix = mix_of(rule, setup, draw);
-    let (top, bottom) = drawn_rows(setup, &draw.cut, height);
-    let mut sides = setup.sides(top);
-    for y in top..bottom {
-        let (first, after) = drawn_columns(setup, &sides, &draw.cut, y, width);
+    let (top, bottom) = drawn_rows(setup, &draw.cut, rows);
+    let mut sides = setup.sides(rows.top + top);
+    for row in top..bottom {
+        let y = rows.top + row;
+        let (first, after) = drawn_columns(setup, &sides, &draw.cut, y, rows.width);
         let span = Span {
-            width,
+            start: row as usize * rows.width as usize,
             y,
             first,
             after,
@@ -343,20 +343,35 @@ fn over_of<'x>(
 fn triangle_deep(
     colors: &mut [[u8; 4]],
     depths: &mut [[u8; 4]],
-    width: u16,
-    height: u16,
+    rows: &Rows,
     setup: &Setup,
     draw: &Prepared,
 )
-    requires wide { 1 ≤ width }
-    requires whole { length colors.old ≡ width * height }
+    requires whole { length colors.old ≡ rows.now.width * rows.now.count }
     requires same { length depths.old ≡ length colors.old }
-    ensures { deep_pixels colors.new depths.new ≡ map_from (by_place width (change_seen draw.now setup.now)) 0 (deep_pixels colors.old depths.old) }
+    ensures { deep_pixels colors.new depths.new ≡ map_from (by_place rows.now.width (below rows.now.top (change_seen draw.now setup.now))) 0 (deep_pixels colors.old depths.old) }
 {
     let rule = plain_rule(setup, draw);
-    match over_of(&rule, setup, draw, width, height) {
-        Some(over) => triangle_over(colors, width, height, &over, setup, draw),
-        None => triangle_tested(colors, depths, width, height, &rule, setup, draw),
+    match over_of(&rule, setup, draw, rows.width, rows.bottom()) {
+        Some(over) => triangle_over(colors, rows, &over, setup, draw),
+        None => triangle_tested(colors, depths, rows, &rule, setup, draw),
+    }
+}
+
+/// Draws a triangle where it meets the rows of the band.
+fn triangle_in_rows(
+    colors: &mut [[u8; 4]],
+    depths: &mut [[u8; 4]],
+    rows: &Rows,
+    setup: &Setup,
+    draw: &Prepared,
+)
+    requires whole { length colors.old ≡ rows.now.width * rows.now.count }
+    requires same { length depths.old ≡ length colors.old }
+    ensures { deep_pixels colors.new depths.new ≡ map_from (by_place rows.now.width (below rows.now.top (change_seen draw.now setup.now))) 0 (deep_pixels colors.old depths.old) }
+{
+    if meets(setup, &draw.cut, rows) {
+        triangle_deep(colors, depths, rows, setup, draw);
     }
 }
 
@@ -364,16 +379,15 @@ fn triangle_deep(
 pub(crate) fn draw_deep(
     colors: &mut [[u8; 4]],
     depths: &mut [[u8; 4]],
-    width: u16,
-    height: u16,
+    rows: &Rows,
     draw: &Prepared,
+    triangles: &[Setup],
 )
-    requires wide { 1 ≤ width }
-    requires whole { length colors.old ≡ width * height }
+    requires whole { length colors.old ≡ rows.now.width * rows.now.count }
     requires same { length depths.old ≡ length colors.old }
-    ensures { deep_pixels colors.new depths.new ≡ map_from (by_place width (prepared_step (prepared_seen draw.now))) 0 (deep_pixels colors.old depths.old) }
+    ensures { deep_pixels colors.new depths.new ≡ map_from (by_place rows.now.width (below rows.now.top (prepared_step (prepared_seen draw.now (map setup_seen triangles.now))))) 0 (deep_pixels colors.old depths.old) }
 {
-    for setup in draw.triangles.as_slice() {
-        triangle_deep(colors, depths, width, height, setup, draw);
+    for setup in triangles {
+        triangle_in_rows(colors, depths, rows, setup, draw);
     }
 }

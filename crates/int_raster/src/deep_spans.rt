@@ -4,7 +4,7 @@ ghost use Rattle.gfx_model.specs.Number.{map_from, u32_at};
 ghost use Rattle.gfx_model.specs.Raster.{covers, fragment_at};
 ghost use Rattle.gfx_model.specs.World.{painted};
 ghost use Rattle.tri_cover.specs.Shown.{setup_seen};
-ghost use Rattle.int_raster.specs.Places.{deep_pixels, spanned, by_place};
+ghost use Rattle.int_raster.specs.Places.{deep_pixels, spanned, in_row};
 ghost use Rattle.int_raster.specs.Painted.{shade_at, PaintsSpan, HasSpanDepths, HasWideSpanDepths};
 ghost use Rattle.int_raster.specs.Rules.{IsPlain, IsMix};
 ghost use Rattle.int_raster.specs.Seen.{paint_seen, step_seen};
@@ -53,12 +53,12 @@ pub(crate) fn step_exactly(
     setup: &Setup,
     draw: &Prepared,
 )
-    requires inside { span.now.y * span.now.width + span.now.width ≤ length colors.old }
+    requires inside { span.now.start + span.now.after ≤ length colors.old }
     requires same { length depths.old ≡ length colors.old }
     requires covered { (x : ℕ) → span.now.first ≤ x → x < span.now.after → covers (setup_seen setup.now).triangle x span.now.y ≡ true }
-    ensures { deep_pixels colors.new depths.new ≡ map_from (spanned (by_place span.now.width (step_seen draw.now setup.now)) (span.now.y * span.now.width + span.now.first) (span.now.y * span.now.width + span.now.after)) 0 (deep_pixels colors.old depths.old) }
+    ensures { deep_pixels colors.new depths.new ≡ map_from (spanned (in_row span.now.start span.now.y (step_seen draw.now setup.now)) (span.now.start + span.now.first) (span.now.start + span.now.after)) 0 (deep_pixels colors.old depths.old) }
 {
-    let start = span.y as usize * span.width as usize;
+    let start = span.start;
     for x in span.first..span.after {
         let color = colors[start + x as usize];
         let word = depth_word(depths[start + x as usize]);
@@ -83,13 +83,13 @@ pub(crate) fn step_painted(
     setup: &Setup,
     draw: &Prepared,
 )
-    requires inside { span.now.y * span.now.width + span.now.width ≤ length colors.old }
+    requires inside { span.now.start + span.now.after ≤ length colors.old }
     requires same { length depths.old ≡ length colors.old }
     requires paints { PaintsSpan painter.now draw.now setup.now span.now.y span.now.first span.now.after }
     requires depths { HasWideSpanDepths depth.now setup.now span.now.y span.now.first span.now.after }
-    ensures { deep_pixels colors.new depths.new ≡ map_from (spanned (by_place span.now.width (step_seen draw.now setup.now)) (span.now.y * span.now.width + span.now.first) (span.now.y * span.now.width + span.now.after)) 0 (deep_pixels colors.old depths.old) }
+    ensures { deep_pixels colors.new depths.new ≡ map_from (spanned (in_row span.now.start span.now.y (step_seen draw.now setup.now)) (span.now.start + span.now.first) (span.now.start + span.now.after)) 0 (deep_pixels colors.old depths.old) }
 {
-    let start = span.y as usize * span.width as usize;
+    let start = span.start;
     for x in span.first..span.after {
         let color = colors[start + x as usize];
         let word = depth_word(depths[start + x as usize]);
@@ -117,14 +117,14 @@ pub(crate) fn mix_painted(
     setup: &Setup,
     draw: &Prepared,
 )
-    requires inside { span.now.y * span.now.width + span.now.width ≤ length colors.old }
+    requires inside { span.now.start + span.now.after ≤ length colors.old }
     requires same { length depths.old ≡ length colors.old }
     requires mix { IsMix mix.now draw.now setup.now }
     requires paints { PaintsSpan painter.now draw.now setup.now span.now.y span.now.first span.now.after }
     requires depths { HasWideSpanDepths depth.now setup.now span.now.y span.now.first span.now.after }
-    ensures { deep_pixels colors.new depths.new ≡ map_from (spanned (by_place span.now.width (step_seen draw.now setup.now)) (span.now.y * span.now.width + span.now.first) (span.now.y * span.now.width + span.now.after)) 0 (deep_pixels colors.old depths.old) }
+    ensures { deep_pixels colors.new depths.new ≡ map_from (spanned (in_row span.now.start span.now.y (step_seen draw.now setup.now)) (span.now.start + span.now.first) (span.now.start + span.now.after)) 0 (deep_pixels colors.old depths.old) }
 {
-    let start = span.y as usize * span.width as usize;
+    let start = span.start;
     let mut new = wide_value_at(depth, span.first, span.y);
     for x in span.first..span.after {
         let old = colors[start + x as usize];
@@ -150,14 +150,14 @@ fn fill_by(
     setup: &Setup,
     draw: &Prepared,
 )
-    requires inside { span.now.y * span.now.width + span.now.width ≤ length colors.old }
+    requires inside { span.now.start + span.now.after ≤ length colors.old }
     requires same { length depths.old ≡ length colors.old }
     requires plain { IsPlain rule.now draw.now setup.now }
     requires paints { (x : ℕ) → span.now.first ≤ x → x < span.now.after → color ≡ painted (paint_seen draw.now.paint) (fragment_at (setup_seen setup.now).triangle x span.now.y) }
     requires depths { HasSpanDepths depth.now setup.now span.now.y span.now.first span.now.after }
-    ensures { deep_pixels colors.new depths.new ≡ map_from (spanned (by_place span.now.width (step_seen draw.now setup.now)) (span.now.y * span.now.width + span.now.first) (span.now.y * span.now.width + span.now.after)) 0 (deep_pixels colors.old depths.old) }
+    ensures { deep_pixels colors.new depths.new ≡ map_from (spanned (in_row span.now.start span.now.y (step_seen draw.now setup.now)) (span.now.start + span.now.first) (span.now.start + span.now.after)) 0 (deep_pixels colors.old depths.old) }
 {
-    let start = span.y as usize * span.width as usize;
+    let start = span.start;
     let mut new = value_at(depth, span.first, span.y);
     for x in span.first..span.after {
         let old = colors[start + x as usize];
@@ -181,12 +181,12 @@ pub(crate) fn fill(
     setup: &Setup,
     draw: &Prepared,
 )
-    requires inside { span.now.y * span.now.width + span.now.width ≤ length colors.old }
+    requires inside { span.now.start + span.now.after ≤ length colors.old }
     requires same { length depths.old ≡ length colors.old }
     requires plain { IsPlain rule.now draw.now setup.now }
     requires paints { (x : ℕ) → span.now.first ≤ x → x < span.now.after → color ≡ painted (paint_seen draw.now.paint) (fragment_at (setup_seen setup.now).triangle x span.now.y) }
     requires depths { HasSpanDepths depth.now setup.now span.now.y span.now.first span.now.after }
-    ensures { deep_pixels colors.new depths.new ≡ map_from (spanned (by_place span.now.width (step_seen draw.now setup.now)) (span.now.y * span.now.width + span.now.first) (span.now.y * span.now.width + span.now.after)) 0 (deep_pixels colors.old depths.old) }
+    ensures { deep_pixels colors.new depths.new ≡ map_from (spanned (in_row span.now.start span.now.y (step_seen draw.now setup.now)) (span.now.start + span.now.first) (span.now.start + span.now.after)) 0 (deep_pixels colors.old depths.old) }
 {
     if span.after - span.first < LONG {
         fill_by(colors, depths, span, color, depth, rule, setup, draw);
@@ -207,14 +207,14 @@ pub(crate) fn store(
     setup: &Setup,
     draw: &Prepared,
 )
-    requires inside { span.now.y * span.now.width + span.now.width ≤ length colors.old }
+    requires inside { span.now.start + span.now.after ≤ length colors.old }
     requires same { length depths.old ≡ length colors.old }
     requires plain { IsPlain rule.now draw.now setup.now }
     requires paints { PaintsSpan painter.now draw.now setup.now span.now.y span.now.first span.now.after }
     requires depths { HasSpanDepths depth.now setup.now span.now.y span.now.first span.now.after }
-    ensures { deep_pixels colors.new depths.new ≡ map_from (spanned (by_place span.now.width (step_seen draw.now setup.now)) (span.now.y * span.now.width + span.now.first) (span.now.y * span.now.width + span.now.after)) 0 (deep_pixels colors.old depths.old) }
+    ensures { deep_pixels colors.new depths.new ≡ map_from (spanned (in_row span.now.start span.now.y (step_seen draw.now setup.now)) (span.now.start + span.now.first) (span.now.start + span.now.after)) 0 (deep_pixels colors.old depths.old) }
 {
-    let start = span.y as usize * span.width as usize;
+    let start = span.start;
     for x in span.first..span.after {
         let old = colors[start + x as usize];
         let word = depth_word(depths[start + x as usize]);
@@ -239,14 +239,14 @@ fn store_shade_by(
     setup: &Setup,
     draw: &Prepared,
 )
-    requires inside { span.now.y * span.now.width + span.now.width ≤ length colors.old }
+    requires inside { span.now.start + span.now.after ≤ length colors.old }
     requires same { length depths.old ≡ length colors.old }
     requires plain { IsPlain rule.now draw.now setup.now }
     requires paints { (x : ℕ) → span.now.first ≤ x → x < span.now.after → shade_at shade.now x span.now.y ≡ painted (paint_seen draw.now.paint) (fragment_at (setup_seen setup.now).triangle x span.now.y) }
     requires depths { HasSpanDepths depth.now setup.now span.now.y span.now.first span.now.after }
-    ensures { deep_pixels colors.new depths.new ≡ map_from (spanned (by_place span.now.width (step_seen draw.now setup.now)) (span.now.y * span.now.width + span.now.first) (span.now.y * span.now.width + span.now.after)) 0 (deep_pixels colors.old depths.old) }
+    ensures { deep_pixels colors.new depths.new ≡ map_from (spanned (in_row span.now.start span.now.y (step_seen draw.now setup.now)) (span.now.start + span.now.first) (span.now.start + span.now.after)) 0 (deep_pixels colors.old depths.old) }
 {
-    let start = span.y as usize * span.width as usize;
+    let start = span.start;
     let mut red = value_at(&shade.red, span.first, span.y);
     let mut green = value_at(&shade.green, span.first, span.y);
     let mut blue = value_at(&shade.blue, span.first, span.y);
@@ -284,12 +284,12 @@ pub(crate) fn store_shade(
     setup: &Setup,
     draw: &Prepared,
 )
-    requires inside { span.now.y * span.now.width + span.now.width ≤ length colors.old }
+    requires inside { span.now.start + span.now.after ≤ length colors.old }
     requires same { length depths.old ≡ length colors.old }
     requires plain { IsPlain rule.now draw.now setup.now }
     requires paints { (x : ℕ) → span.now.first ≤ x → x < span.now.after → shade_at shade.now x span.now.y ≡ painted (paint_seen draw.now.paint) (fragment_at (setup_seen setup.now).triangle x span.now.y) }
     requires depths { HasSpanDepths depth.now setup.now span.now.y span.now.first span.now.after }
-    ensures { deep_pixels colors.new depths.new ≡ map_from (spanned (by_place span.now.width (step_seen draw.now setup.now)) (span.now.y * span.now.width + span.now.first) (span.now.y * span.now.width + span.now.after)) 0 (deep_pixels colors.old depths.old) }
+    ensures { deep_pixels colors.new depths.new ≡ map_from (spanned (in_row span.now.start span.now.y (step_seen draw.now setup.now)) (span.now.start + span.now.first) (span.now.start + span.now.after)) 0 (deep_pixels colors.old depths.old) }
 {
     if span.after - span.first < LONG {
         store_shade_by(colors, depths, span, shade, depth, rule, setup, draw);
@@ -310,14 +310,14 @@ pub(crate) fn store_wide(
     setup: &Setup,
     draw: &Prepared,
 )
-    requires inside { span.now.y * span.now.width + span.now.width ≤ length colors.old }
+    requires inside { span.now.start + span.now.after ≤ length colors.old }
     requires same { length depths.old ≡ length colors.old }
     requires plain { IsPlain rule.now draw.now setup.now }
     requires paints { PaintsSpan painter.now draw.now setup.now span.now.y span.now.first span.now.after }
     requires depths { HasWideSpanDepths depth.now setup.now span.now.y span.now.first span.now.after }
-    ensures { deep_pixels colors.new depths.new ≡ map_from (spanned (by_place span.now.width (step_seen draw.now setup.now)) (span.now.y * span.now.width + span.now.first) (span.now.y * span.now.width + span.now.after)) 0 (deep_pixels colors.old depths.old) }
+    ensures { deep_pixels colors.new depths.new ≡ map_from (spanned (in_row span.now.start span.now.y (step_seen draw.now setup.now)) (span.now.start + span.now.first) (span.now.start + span.now.after)) 0 (deep_pixels colors.old depths.old) }
 {
-    let start = span.y as usize * span.width as usize;
+    let start = span.start;
     let mut new = wide_value_at(depth, span.first, span.y);
     for x in span.first..span.after {
         let old = colors[start + x as usize];
@@ -342,14 +342,14 @@ pub(crate) fn fill_wide(
     setup: &Setup,
     draw: &Prepared,
 )
-    requires inside { span.now.y * span.now.width + span.now.width ≤ length colors.old }
+    requires inside { span.now.start + span.now.after ≤ length colors.old }
     requires same { length depths.old ≡ length colors.old }
     requires plain { IsPlain rule.now draw.now setup.now }
     requires paints { (x : ℕ) → span.now.first ≤ x → x < span.now.after → color ≡ painted (paint_seen draw.now.paint) (fragment_at (setup_seen setup.now).triangle x span.now.y) }
     requires depths { HasWideSpanDepths depth.now setup.now span.now.y span.now.first span.now.after }
-    ensures { deep_pixels colors.new depths.new ≡ map_from (spanned (by_place span.now.width (step_seen draw.now setup.now)) (span.now.y * span.now.width + span.now.first) (span.now.y * span.now.width + span.now.after)) 0 (deep_pixels colors.old depths.old) }
+    ensures { deep_pixels colors.new depths.new ≡ map_from (spanned (in_row span.now.start span.now.y (step_seen draw.now setup.now)) (span.now.start + span.now.first) (span.now.start + span.now.after)) 0 (deep_pixels colors.old depths.old) }
 {
-    let start = span.y as usize * span.width as usize;
+    let start = span.start;
     let mut new = wide_value_at(depth, span.first, span.y);
     for x in span.first..span.after {
         let old = colors[start + x as usize];
@@ -373,14 +373,14 @@ pub(crate) fn store_shade_wide(
     setup: &Setup,
     draw: &Prepared,
 )
-    requires inside { span.now.y * span.now.width + span.now.width ≤ length colors.old }
+    requires inside { span.now.start + span.now.after ≤ length colors.old }
     requires same { length depths.old ≡ length colors.old }
     requires plain { IsPlain rule.now draw.now setup.now }
     requires paints { (x : ℕ) → span.now.first ≤ x → x < span.now.after → shade_at shade.now x span.now.y ≡ painted (paint_seen draw.now.paint) (fragment_at (setup_seen setup.now).triangle x span.now.y) }
     requires depths { HasWideSpanDepths depth.now setup.now span.now.y span.now.first span.now.after }
-    ensures { deep_pixels colors.new depths.new ≡ map_from (spanned (by_place span.now.width (step_seen draw.now setup.now)) (span.now.y * span.now.width + span.now.first) (span.now.y * span.now.width + span.now.after)) 0 (deep_pixels colors.old depths.old) }
+    ensures { deep_pixels colors.new depths.new ≡ map_from (spanned (in_row span.now.start span.now.y (step_seen draw.now setup.now)) (span.now.start + span.now.first) (span.now.start + span.now.after)) 0 (deep_pixels colors.old depths.old) }
 {
-    let start = span.y as usize * span.width as usize;
+    let start = span.start;
     let mut red = value_at(&shade.red, span.first, span.y);
     let mut green = value_at(&shade.green, span.first, span.y);
     let mut blue = value_at(&shade.blue, span.first, span.y);

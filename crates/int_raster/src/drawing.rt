@@ -1,36 +1,50 @@
 // Lists of draws on a surface.
-ghost use Rattle.std.specs.Prelude.{◌≡◌, fold};
+ghost use Rattle.std.specs.Prelude.{◌≡◌, ◌≤◌, fold};
 ghost use Rattle.int_raster.specs.Drawing.{drawn_prepared};
-ghost use Rattle.int_raster.specs.Seen.{surface_seen, prepared_seen};
+ghost use Rattle.int_raster.specs.Seen.{surface_seen};
 
-use crate::deep::draw_deep;
-use crate::flat::draw_flat;
-use crate::lists::{DrawList, Prepared};
+use crate::bands::{deep_bands, draw_deep_list, draw_flat_list, flat_bands};
+use crate::lists::DrawList;
+use crate::rows::Rows;
 use crate::surfaces::Surface;
-use fix_math::tell_texels;
+use std::thread::Threads;
 
-/// Makes one draw.
-fn draw_one(surface: &mut Surface, draw: &Prepared)
-    ensures { surface_seen surface.new ≡ drawn_prepared (surface_seen surface.old) (prepared_seen draw.now) }
-{
-    let width = surface.color.width;
-    let height = surface.color.height;
-    let colors = surface.color.texels.as_mut_slice();
-    match &mut surface.depth {
-        None => draw_flat(colors, width, height, draw),
-        Some(depth) => {
-            let depths = depth.texels.as_mut_slice();
-            draw_deep(colors, depths, width, height, draw);
-            tell_texels(depths);
-        }
-    }
-}
-
-/// Makes the draws of a list in their order. Each pixel in a draw's cut goes through the draw's triangles in order.
+/// Makes the draws of a list in their order.
 pub fn draw_view(surface: &mut Surface, list: &DrawList<'_>)
     ensures { surface_seen surface.new ≡ fold drawn_prepared (surface_seen surface.old) list.now }
 {
-    for draw in list.as_slice() {
-        draw_one(surface, draw);
+    let rows = Rows {
+        width: surface.color.width,
+        top: 0,
+        count: surface.color.height,
+    };
+    let colors = surface.color.texels.as_mut_slice();
+    match &mut surface.depth {
+        None => draw_flat_list(&rows, list, colors),
+        Some(depth) => draw_deep_list(&rows, list, colors, depth.texels.as_mut_slice()),
+    }
+}
+
+/// Makes the draws of a list in their order, in bands of whole rows side by side. More bands than rows count as one for
+/// each row.
+pub fn draw_bands<R: Threads + Sync>(
+    rt: &R,
+    surface: &mut Surface,
+    list: &DrawList<'_>,
+    bands: u32,
+)
+    requires { 1 ≤ bands }
+    ensures { surface_seen surface.new ≡ fold drawn_prepared (surface_seen surface.old) list.now }
+{
+    let rows = Rows {
+        width: surface.color.width,
+        top: 0,
+        count: surface.color.height,
+    };
+    let bands = bands.min(rows.count as u32);
+    let colors = surface.color.texels.as_mut_slice();
+    match &mut surface.depth {
+        None => flat_bands(rt, &rows, list, bands, colors),
+        Some(depth) => deep_bands(rt, &rows, list, bands, colors, depth.texels.as_mut_slice()),
     }
 }

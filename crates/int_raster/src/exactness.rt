@@ -2,25 +2,27 @@
 ghost use Rattle.std.specs.Prelude.{◌≡◌, ◌≤◌, ◌*◌, length};
 
 use crate::columns::{drawn_columns, drawn_rows};
+use crate::rows::Rows;
 use crate::spans::Span;
 use crate::tests::{blank, setups, state, stencil, vertex};
-use crate::{DrawList, Paint, Prepared, Surface, deep_spans, draw_view, flat};
+use crate::{DrawList, Paint, Prepared, Surface, deep_spans, draw_bands, draw_view, flat};
 use fix_math::{Rect, Texels};
 use std::alloc::Global;
 use std::process::Abort;
+use std::thread::Threads;
 use std::test::Fail;
 use tri_cover::Setup;
 use vertex_layout::Vertex;
 
-fn flat_exactly(colors: &mut [[u8; 4]], width: u16, height: u16, setup: &Setup, draw: &Prepared)
-    requires wide { 1 ≤ width }
-    requires whole { length colors.old ≡ width * height }
+fn flat_exactly(colors: &mut [[u8; 4]], rows: &Rows, setup: &Setup, draw: &Prepared)
+    requires whole { length colors.old ≡ rows.now.width * rows.now.count }
 {
-    let (top, bottom) = drawn_rows(setup, &draw.cut, height);
-    for y in top..bottom {
-        let (first, after) = drawn_columns(setup, &setup.sides(y), &draw.cut, y, width);
+    let (top, bottom) = drawn_rows(setup, &draw.cut, rows);
+    for row in top..bottom {
+        let y = rows.top + row;
+        let (first, after) = drawn_columns(setup, &setup.sides(y), &draw.cut, y, rows.width);
         let span = Span {
-            width,
+            start: row as usize * rows.width as usize,
             y,
             first,
             after,
@@ -32,20 +34,19 @@ fn flat_exactly(colors: &mut [[u8; 4]], width: u16, height: u16, setup: &Setup, 
 fn deep_exactly(
     colors: &mut [[u8; 4]],
     depths: &mut [[u8; 4]],
-    width: u16,
-    height: u16,
+    rows: &Rows,
     setup: &Setup,
     draw: &Prepared,
 )
-    requires wide { 1 ≤ width }
-    requires whole { length colors.old ≡ width * height }
+    requires whole { length colors.old ≡ rows.now.width * rows.now.count }
     requires same { length depths.old ≡ length colors.old }
 {
-    let (top, bottom) = drawn_rows(setup, &draw.cut, height);
-    for y in top..bottom {
-        let (first, after) = drawn_columns(setup, &setup.sides(y), &draw.cut, y, width);
+    let (top, bottom) = drawn_rows(setup, &draw.cut, rows);
+    for row in top..bottom {
+        let y = rows.top + row;
+        let (first, after) = drawn_columns(setup, &setup.sides(y), &draw.cut, y, rows.width);
         let span = Span {
-            width,
+            start: row as usize * rows.width as usize,
             y,
             first,
             after,
@@ -55,20 +56,23 @@ fn deep_exactly(
 }
 
 /// A draw by the exact means alone.
-fn draw_exactly(surface: &mut Surface, draw: &Prepared) {
-    let width = surface.color.width;
-    let height = surface.color.height;
+fn draw_exactly(surface: &mut Surface, draw: &Prepared, triangles: &[Setup]) {
+    let rows = Rows {
+        width: surface.color.width,
+        top: 0,
+        count: surface.color.height,
+    };
     let colors = surface.color.texels.as_mut_slice();
     match &mut surface.depth {
         None => {
-            for setup in draw.triangles.as_slice() {
-                flat_exactly(colors, width, height, setup, draw);
+            for setup in triangles {
+                flat_exactly(colors, &rows, setup, draw);
             }
         }
         Some(depth) => {
             let depths = depth.texels.as_mut_slice();
-            for setup in draw.triangles.as_slice() {
-                deep_exactly(colors, depths, width, height, setup, draw);
+            for setup in triangles {
+                deep_exactly(colors, depths, &rows, setup, draw);
             }
         }
     }
@@ -173,27 +177,32 @@ fn paint_of<'x>(kind: u32, texels: &'x Texels) -> Paint<'x> {
     }
 }
 
-// A few triangles with random words, paint and cut.
-fn random_draw<'x, R: Abort>(
-    rt: &R,
-    alloc: Global,
-    numbers: &mut Numbers,
-    texels: &'x Texels,
-) -> Result<Prepared<'x>, Fail> {
-    let mut vertices = Vec::new(alloc);
-    for _ in 0..12u8 {
-        vertices.push(numbers.vertex())?;
-    }
+// Random words, paint and cut.
+fn random_draw<'x, R: Abort>(rt: &R, numbers: &mut Numbers, texels: &'x Texels) -> Prepared<'x> {
     let (word, front, back) = WORDS[(numbers.next() & 7) as usize];
-    let target = if numbers.next() & 1 == 0 { TARGET } else { FAR };
-    Ok(Prepared {
-        triangles: setups(alloc, &vertices, target, 0)?,
+    Prepared {
         cut: numbers.cut(),
         state: state(rt, word),
         front: stencil(rt, front),
         back: stencil(rt, back),
         paint: paint_of(numbers.next() & 7, texels),
-    })
+    }
+}
+
+// A few triangles, now and then of one colour and one depth each.
+fn random_triangles(alloc: Global, numbers: &mut Numbers) -> Result<Vec<Setup>, Fail> {
+    let mut vertices = Vec::new(alloc);
+    let even = numbers.next() & 3 == 0;
+    for _ in 0..12u8 {
+        let mut vertex = numbers.vertex();
+        if even {
+            vertex.color = [200, 7, 90, 170];
+            vertex.position.z = 0;
+        }
+        vertices.push(vertex)?;
+    }
+    let target = if numbers.next() & 1 == 0 { TARGET } else { FAR };
+    setups(alloc, &vertices, target, 0)
 }
 
 fn same_texels<R: Abort>(rt: &R, left: &Texels, right: &Texels, round: u32) {
@@ -202,7 +211,14 @@ fn same_texels<R: Abort>(rt: &R, left: &Texels, right: &Texels, round: u32) {
     }
 }
 
-fn one_round<R: Abort>(
+fn same_surfaces<R: Abort>(rt: &R, left: &Surface, right: &Surface, round: u32) {
+    same_texels(rt, &left.color, &right.color, round);
+    if let (Some(a), Some(b)) = (&left.depth, &right.depth) {
+        same_texels(rt, a, b, round);
+    }
+}
+
+fn one_round<R: Threads + Sync + Abort>(
     rt: &R,
     alloc: Global,
     numbers: &mut Numbers,
@@ -212,27 +228,42 @@ fn one_round<R: Abort>(
     for texel in texels.texels.as_mut_slice() {
         *texel = numbers.next().to_le_bytes();
     }
-    let mut fast = blank(alloc, TARGET, [0, 0, 128, 3])?;
-    let mut exact = blank(alloc, TARGET, [0, 0, 128, 3])?;
+    let is_deep = round & 1 == 0;
+    let mut exact = some_blank(alloc, is_deep)?;
+    let mut fast = some_blank(alloc, is_deep)?;
+    let mut apart = some_blank(alloc, is_deep)?;
+    let mut list = DrawList::new(alloc);
     for _ in 0..3u8 {
-        let draw = random_draw(rt, alloc, numbers, &texels)?;
-        draw_exactly(&mut exact, &draw);
-        let mut list = DrawList::new(alloc);
-        list.push(draw)?;
-        draw_view(&mut fast, &list);
+        let draw = random_draw(rt, numbers, &texels);
+        let triangles = random_triangles(alloc, numbers)?;
+        draw_exactly(&mut exact, &draw, &triangles);
+        list.push(draw, &triangles)?;
     }
-    same_texels(rt, &fast.color, &exact.color, round);
-    if let (Some(a), Some(b)) = (&fast.depth, &exact.depth) {
-        same_texels(rt, a, b, round);
+    draw_view(&mut fast, &list);
+    same_surfaces(rt, &fast, &exact, round);
+    draw_bands(rt, &mut apart, &list, round + 1);
+    same_surfaces(rt, &apart, &exact, round);
+    Ok(())
+}
+
+// A surface of the target's size, with depth or without.
+fn some_blank(alloc: Global, is_deep: bool) -> Result<Surface, Fail> {
+    let deep = blank(alloc, TARGET, [0, 0, 128, 3])?;
+    if is_deep {
+        return Ok(deep);
+    }
+    Ok(Surface::new(deep.color, None))
+}
+
+fn painters_and_exact_means<R: Threads + Sync + Abort>(rt: &R, alloc: Global) -> Result<(), Fail> {
+    let mut numbers = Numbers { last: 2024 };
+    for round in 0..120u32 {
+        one_round(rt, alloc, &mut numbers, round)?;
     }
     Ok(())
 }
 
 #[test]
 fn painters_and_exact_means_agree(rt: HostRuntime) -> Result<(), Fail> {
-    let mut numbers = Numbers { last: 2024 };
-    for round in 0..100u32 {
-        one_round(&rt, rt.alloc(), &mut numbers, round)?;
-    }
-    Ok(())
+    painters_and_exact_means(&rt, rt.alloc())
 }

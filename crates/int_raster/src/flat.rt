@@ -1,29 +1,30 @@
 // Draws on a surface without depth.
-ghost use Rattle.std.specs.Prelude.{◌≡◌, ◌≤◌, ◌<◌, ◌+◌, ◌*◌, ℕ, true, length, IfSome};
+ghost use Rattle.std.specs.Prelude.{◌≡◌, ◌≤◌, ◌<◌, ◌+◌, ◌*◌, ℕ, true, length, map, IfSome};
 ghost use Rattle.gfx_model.specs.Number.{map_from};
 ghost use Rattle.gfx_model.specs.Raster.{covers, fragment_at};
 ghost use Rattle.gfx_model.specs.World.{painted};
 ghost use Rattle.tri_cover.specs.Shown.{setup_seen};
 ghost use Rattle.int_raster.specs.Drawing.{prepared_step};
-ghost use Rattle.int_raster.specs.Places.{flat_pixels, spanned, by_place};
+ghost use Rattle.int_raster.specs.Places.{flat_pixels, spanned, by_place, below, in_row};
 ghost use Rattle.int_raster.specs.Painted.{shade_at, PaintsSpan, Paints, IsOpaque};
 ghost use Rattle.int_raster.specs.Seen.{paint_seen, prepared_seen, step_seen, change_seen};
 
-use crate::columns::{drawn_columns, drawn_rows};
+use crate::columns::{drawn_columns, drawn_rows, meets};
 use crate::lists::Prepared;
 use crate::painters::{Painter, Shade, color_at, is_opaque, painter_of, value_at, whole};
 use crate::painting::stepped;
+use crate::rows::Rows;
 use crate::spans::Span;
 use pixel_ops::{Blending, Pixel};
 use tri_cover::Setup;
 
 /// Steps the pixels of a span by the exact means at each.
 pub(crate) fn step_exactly(colors: &mut [[u8; 4]], span: &Span, setup: &Setup, draw: &Prepared)
-    requires inside { span.now.y * span.now.width + span.now.width ≤ length colors.old }
+    requires inside { span.now.start + span.now.after ≤ length colors.old }
     requires covered { (x : ℕ) → span.now.first ≤ x → x < span.now.after → covers (setup_seen setup.now).triangle x span.now.y ≡ true }
-    ensures { flat_pixels colors.new ≡ map_from (spanned (by_place span.now.width (step_seen draw.now setup.now)) (span.now.y * span.now.width + span.now.first) (span.now.y * span.now.width + span.now.after)) 0 (flat_pixels colors.old) }
+    ensures { flat_pixels colors.new ≡ map_from (spanned (in_row span.now.start span.now.y (step_seen draw.now setup.now)) (span.now.start + span.now.first) (span.now.start + span.now.after)) 0 (flat_pixels colors.old) }
 {
-    let start = span.y as usize * span.width as usize;
+    let start = span.start;
     for x in span.first..span.after {
         let color = colors[start + x as usize];
         let after = stepped(Pixel { color, depth: None }, setup, x, span.y, draw);
@@ -40,11 +41,11 @@ fn mix_painted(
     setup: &Setup,
     draw: &Prepared,
 )
-    requires inside { span.now.y * span.now.width + span.now.width ≤ length colors.old }
+    requires inside { span.now.start + span.now.after ≤ length colors.old }
     requires paints { PaintsSpan painter.now draw.now setup.now span.now.y span.now.first span.now.after }
-    ensures { flat_pixels colors.new ≡ map_from (spanned (by_place span.now.width (step_seen draw.now setup.now)) (span.now.y * span.now.width + span.now.first) (span.now.y * span.now.width + span.now.after)) 0 (flat_pixels colors.old) }
+    ensures { flat_pixels colors.new ≡ map_from (spanned (in_row span.now.start span.now.y (step_seen draw.now setup.now)) (span.now.start + span.now.first) (span.now.start + span.now.after)) 0 (flat_pixels colors.old) }
 {
-    let start = span.y as usize * span.width as usize;
+    let start = span.start;
     let blending = Blending::new(&draw.state);
     for x in span.first..span.after {
         let old = colors[start + x as usize];
@@ -55,12 +56,12 @@ fn mix_painted(
 
 /// Stores one colour in a span.
 fn fill(colors: &mut [[u8; 4]], span: &Span, color: [u8; 4], setup: &Setup, draw: &Prepared)
-    requires inside { span.now.y * span.now.width + span.now.width ≤ length colors.old }
+    requires inside { span.now.start + span.now.after ≤ length colors.old }
     requires opaque { IsOpaque draw.now.state }
     requires paints { (x : ℕ) → span.now.first ≤ x → x < span.now.after → color ≡ painted (paint_seen draw.now.paint) (fragment_at (setup_seen setup.now).triangle x span.now.y) }
-    ensures { flat_pixels colors.new ≡ map_from (spanned (by_place span.now.width (step_seen draw.now setup.now)) (span.now.y * span.now.width + span.now.first) (span.now.y * span.now.width + span.now.after)) 0 (flat_pixels colors.old) }
+    ensures { flat_pixels colors.new ≡ map_from (spanned (in_row span.now.start span.now.y (step_seen draw.now setup.now)) (span.now.start + span.now.first) (span.now.start + span.now.after)) 0 (flat_pixels colors.old) }
 {
-    let start = span.y as usize * span.width as usize;
+    let start = span.start;
     let bytes = whole(color);
     for x in span.first..span.after {
         colors[start + x as usize] = bytes;
@@ -69,12 +70,12 @@ fn fill(colors: &mut [[u8; 4]], span: &Span, color: [u8; 4], setup: &Setup, draw
 
 /// Stores a painter's colours in a span.
 fn store(colors: &mut [[u8; 4]], span: &Span, painter: &Painter, setup: &Setup, draw: &Prepared)
-    requires inside { span.now.y * span.now.width + span.now.width ≤ length colors.old }
+    requires inside { span.now.start + span.now.after ≤ length colors.old }
     requires opaque { IsOpaque draw.now.state }
     requires paints { PaintsSpan painter.now draw.now setup.now span.now.y span.now.first span.now.after }
-    ensures { flat_pixels colors.new ≡ map_from (spanned (by_place span.now.width (step_seen draw.now setup.now)) (span.now.y * span.now.width + span.now.first) (span.now.y * span.now.width + span.now.after)) 0 (flat_pixels colors.old) }
+    ensures { flat_pixels colors.new ≡ map_from (spanned (in_row span.now.start span.now.y (step_seen draw.now setup.now)) (span.now.start + span.now.first) (span.now.start + span.now.after)) 0 (flat_pixels colors.old) }
 {
-    let start = span.y as usize * span.width as usize;
+    let start = span.start;
     for x in span.first..span.after {
         colors[start + x as usize] = whole(color_at(painter, x, span.y));
     }
@@ -82,12 +83,12 @@ fn store(colors: &mut [[u8; 4]], span: &Span, painter: &Painter, setup: &Setup, 
 
 /// Stores the vertices' colours in a span.
 fn store_shade(colors: &mut [[u8; 4]], span: &Span, shade: &Shade, setup: &Setup, draw: &Prepared)
-    requires inside { span.now.y * span.now.width + span.now.width ≤ length colors.old }
+    requires inside { span.now.start + span.now.after ≤ length colors.old }
     requires opaque { IsOpaque draw.now.state }
     requires paints { (x : ℕ) → span.now.first ≤ x → x < span.now.after → shade_at shade.now x span.now.y ≡ painted (paint_seen draw.now.paint) (fragment_at (setup_seen setup.now).triangle x span.now.y) }
-    ensures { flat_pixels colors.new ≡ map_from (spanned (by_place span.now.width (step_seen draw.now setup.now)) (span.now.y * span.now.width + span.now.first) (span.now.y * span.now.width + span.now.after)) 0 (flat_pixels colors.old) }
+    ensures { flat_pixels colors.new ≡ map_from (spanned (in_row span.now.start span.now.y (step_seen draw.now setup.now)) (span.now.start + span.now.first) (span.now.start + span.now.after)) 0 (flat_pixels colors.old) }
 {
-    let start = span.y as usize * span.width as usize;
+    let start = span.start;
     let mut red = value_at(&shade.red, span.first, span.y);
     let mut green = value_at(&shade.green, span.first, span.y);
     let mut blue = value_at(&shade.blue, span.first, span.y);
@@ -108,9 +109,9 @@ fn store_shade(colors: &mut [[u8; 4]], span: &Span, shade: &Shade, setup: &Setup
 
 /// Draws a span with a painter.
 fn paint(colors: &mut [[u8; 4]], span: &Span, painter: &Painter, setup: &Setup, draw: &Prepared)
-    requires inside { span.now.y * span.now.width + span.now.width ≤ length colors.old }
+    requires inside { span.now.start + span.now.after ≤ length colors.old }
     requires paints { PaintsSpan painter.now draw.now setup.now span.now.y span.now.first span.now.after }
-    ensures { flat_pixels colors.new ≡ map_from (spanned (by_place span.now.width (step_seen draw.now setup.now)) (span.now.y * span.now.width + span.now.first) (span.now.y * span.now.width + span.now.after)) 0 (flat_pixels colors.old) }
+    ensures { flat_pixels colors.new ≡ map_from (spanned (in_row span.now.start span.now.y (step_seen draw.now setup.now)) (span.now.start + span.now.first) (span.now.start + span.now.after)) 0 (flat_pixels colors.old) }
 {
     if is_opaque(&draw.state) {
         match painter {
@@ -131,10 +132,10 @@ fn draw_span(
     setup: &Setup,
     draw: &Prepared,
 )
-    requires inside { span.now.y * span.now.width + span.now.width ≤ length colors.old }
+    requires inside { span.now.start + span.now.after ≤ length colors.old }
     requires covered { (x : ℕ) → span.now.first ≤ x → x < span.now.after → covers (setup_seen setup.now).triangle x span.now.y ≡ true }
     requires paints { IfSome painter.now (λ p. PaintsSpan p draw.now setup.now span.now.y span.now.first span.now.after) }
-    ensures { flat_pixels colors.new ≡ map_from (spanned (by_place span.now.width (step_seen draw.now setup.now)) (span.now.y * span.now.width + span.now.first) (span.now.y * span.now.width + span.now.after)) 0 (flat_pixels colors.old) }
+    ensures { flat_pixels colors.new ≡ map_from (spanned (in_row span.now.start span.now.y (step_seen draw.now setup.now)) (span.now.start + span.now.first) (span.now.start + span.now.after)) 0 (flat_pixels colors.old) }
 {
     match painter {
         Some(painter) => paint(colors, span, painter, setup, draw),
@@ -143,18 +144,18 @@ fn draw_span(
 }
 
 /// Draws a triangle.
-fn triangle_flat(colors: &mut [[u8; 4]], width: u16, height: u16, setup: &Setup, draw: &Prepared)
-    requires wide { 1 ≤ width }
-    requires whole { length colors.old ≡ width * height }
-    ensures { flat_pixels colors.new ≡ map_from (by_place width (change_seen draw.now setup.now)) 0 (flat_pixels colors.old) }
+fn triangle_flat(colors: &mut [[u8; 4]], rows: &Rows, setup: &Setup, draw: &Prepared)
+    requires whole { length colors.old ≡ rows.now.width * rows.now.count }
+    ensures { flat_pixels colors.new ≡ map_from (by_place rows.now.width (below rows.now.top (change_seen draw.now setup.now))) 0 (flat_pixels colors.old) }
 {
-    let painter = painter_of(setup, draw, width, height);
-    let (top, bottom) = drawn_rows(setup, &draw.cut, height);
-    let mut sides = setup.sides(top);
-    for y in top..bottom {
-        let (first, after) = drawn_columns(setup, &sides, &draw.cut, y, width);
+    let painter = painter_of(setup, draw, rows.width, rows.bottom());
+    let (top, bottom) = drawn_rows(setup, &draw.cut, rows);
+    let mut sides = setup.sides(rows.top + top);
+    for row in top..bottom {
+        let y = rows.top + row;
+        let (first, after) = drawn_columns(setup, &sides, &draw.cut, y, rows.width);
         let span = Span {
-            width,
+            start: row as usize * rows.width as usize,
             y,
             first,
             after,
@@ -164,13 +165,27 @@ fn triangle_flat(colors: &mut [[u8; 4]], width: u16, height: u16, setup: &Setup,
     }
 }
 
-/// Draws all triangles of a draw.
-pub(crate) fn draw_flat(colors: &mut [[u8; 4]], width: u16, height: u16, draw: &Prepared)
-    requires wide { 1 ≤ width }
-    requires whole { length colors.old ≡ width * height }
-    ensures { flat_pixels colors.new ≡ map_from (by_place width (prepared_step (prepared_seen draw.now))) 0 (flat_pixels colors.old) }
+/// Draws a triangle where it meets the rows of the band.
+fn triangle_in_rows(colors: &mut [[u8; 4]], rows: &Rows, setup: &Setup, draw: &Prepared)
+    requires whole { length colors.old ≡ rows.now.width * rows.now.count }
+    ensures { flat_pixels colors.new ≡ map_from (by_place rows.now.width (below rows.now.top (change_seen draw.now setup.now))) 0 (flat_pixels colors.old) }
 {
-    for setup in draw.triangles.as_slice() {
-        triangle_flat(colors, width, height, setup, draw);
+    if meets(setup, &draw.cut, rows) {
+        triangle_flat(colors, rows, setup, draw);
+    }
+}
+
+/// Draws all triangles of a draw.
+pub(crate) fn draw_flat(
+    colors: &mut [[u8; 4]],
+    rows: &Rows,
+    draw: &Prepared,
+    triangles: &[Setup],
+)
+    requires whole { length colors.old ≡ rows.now.width * rows.now.count }
+    ensures { flat_pixels colors.new ≡ map_from (by_place rows.now.width (below rows.now.top (prepared_step (prepared_seen draw.now (map setup_seen triangles.now))))) 0 (flat_pixels colors.old) }
+{
+    for setup in triangles {
+        triangle_in_rows(colors, rows, setup, draw);
     }
 }

@@ -1,11 +1,13 @@
 //! Draws on a surface.
 #![tactic(auto)]
 
+mod bands;
 mod columns;
 mod deep;
 mod deep_spans;
 mod drawing;
 mod flat;
+mod listed;
 mod lists;
 mod opaque;
 mod over;
@@ -13,12 +15,13 @@ mod over_spans;
 mod overs;
 mod painters;
 mod painting;
+mod rows;
 mod sampling;
 mod spans;
 mod surfaces;
 
-pub use drawing::draw_view;
-pub use lists::{DrawList, Paint, Prepared, Triangles};
+pub use drawing::{draw_bands, draw_view};
+pub use lists::{DrawList, Paint, Prepared};
 pub use surfaces::Surface;
 
 #[cfg(test)]

@@ -1,6 +1,9 @@
 // Draws that are ready, and lists of them.
-ghost use Rattle.std.specs.Prelude.{◌≡◌, ◌++◌, ◌∷◌, [], map, IfOk, OnOk, OnErr};
+ghost use Rattle.std.specs.Prelude.{◌≡◌, ◌≤◌, ◌<◌, ◌==◌, ◌++◌, ◌∷◌, [], map, length, slice_index_or, OnOk, OnErr};
+ghost use Rattle.int_raster.specs.Drawing.{PreparedDraw};
+ghost use Rattle.int_raster.specs.Listing.{AreWithin};
 
+use crate::listed::Listed;
 use fix_math::{Rect, Texels};
 use gfx_words::{StateWord, StencilWord};
 use std::alloc::{AllocError, Global};
@@ -19,45 +22,11 @@ pub enum Paint<'x> {
     NothingColor,
 }
 
-/// Triangles in the order in which they are drawn.
-#[derive(Drop)]
-pub struct Triangles {
-    items: Vec<Setup>,
-}
-
-impl Model for Triangles {
-    ghost use Rattle.std.specs.Prelude.{List, map};
-    ghost use Rattle.tri_cover.specs.Shown.{Shown, setup_seen};
-
-    ghost Value = { List Shown };
-
-    ghost view = { λ t. map setup_seen t.items.items };
-}
-
-impl Triangles {
-    ghost use Rattle.tri_cover.specs.Shown.{setup_seen};
-
-    /// The triangles of a `Vec`.
-    pub fn from_vec(items: Vec<Setup>) -> Triangles
-        ensures { result ≡ map setup_seen items.items }
-    {
-        Triangles { items }
-    }
-
-    /// The triangles as a slice.
-    pub fn as_slice(&self) -> &[Setup]
-        ensures { map setup_seen result.now ≡ self.now }
-    {
-        self.items.as_slice()
-    }
-}
-
-/// A draw whose triangles are placed. It changes the pixels of `cut`, a rectangle of the surface's pixels; with a side 0 it
-/// changes none, and what lies outside the surface is left out. A triangle that faced the back uses the back word, or the
-/// front word where the back word is 0.
-#[derive(Drop)]
+/// How the triangles of a draw are drawn. They change the pixels of `cut`, a rectangle of the surface's pixels; with a side
+/// 0 they change none, and what lies outside the surface is left out. A triangle that faced the back uses the back word, or
+/// the front word where the back word is 0.
+#[derive(Clone, Copy, Drop)]
 pub struct Prepared<'x> {
-    pub triangles: Triangles,
     pub cut: Rect,
     pub state: StateWord,
     pub front: StencilWord,
@@ -65,24 +34,27 @@ pub struct Prepared<'x> {
     pub paint: Paint<'x>,
 }
 
-/// Draws in the order in which they are made.
+/// Draws with their triangles, in the order in which they are made.
 #[derive(Drop)]
 pub struct DrawList<'x> {
-    draws: Vec<Prepared<'x>>,
+    draws: Vec<Listed<'x>>,
+    triangles: Vec<Setup>,
+    ghost within: { AreWithin draws.items (length triangles.items) },
 }
 
 impl<'x> Model for DrawList<'x> {
     ghost use Rattle.std.specs.Prelude.{List, map};
     ghost use Rattle.int_raster.specs.Drawing.{PreparedDraw};
-    ghost use Rattle.int_raster.specs.Seen.{prepared_seen};
+    ghost use Rattle.int_raster.specs.Listing.{listed_seen};
 
     ghost Value = { List PreparedDraw };
 
-    ghost view = { λ l. map prepared_seen l.draws.items };
+    ghost view = { λ l. map (listed_seen l.triangles.items) l.draws.items };
 }
 
 impl<'x> DrawList<'x> {
     ghost use Rattle.int_raster.specs.Seen.{prepared_seen};
+    ghost use Rattle.tri_cover.specs.Shown.{setup_seen};
 
     /// A list without draws. It takes no memory.
     pub fn new(alloc: Global) -> DrawList<'x>
@@ -90,22 +62,69 @@ impl<'x> DrawList<'x> {
     {
         DrawList {
             draws: Vec::new(alloc),
+            triangles: Vec::new(alloc),
         }
     }
 
-    /// Puts a draw at the end. After an error the list is as it was.
-    pub fn push(&mut self, draw: Prepared<'x>) -> Result<(), AllocError>
-        ensures ok { OnOk result (self.new ≡ self.old ++ prepared_seen draw.entry ∷ []) }
-        ensures err { OnErr result (self.new ≡ self.old) }
+    /// How many draws the list has.
+    pub fn len(&self) -> usize
+        ensures { result ≡ length self.now }
     {
-        self.draws.push(draw)?;
-        Ok(())
+        self.draws.len()
     }
 
-    /// The draws as a slice.
-    pub(crate) fn as_slice(&self) -> &[Prepared<'x>]
-        ensures { map prepared_seen result.now ≡ self.now }
+    /// Whether the list has no draws.
+    pub fn is_empty(&self) -> bool
+        ensures { result ≡ (length self.now == 0) }
     {
-        self.draws.as_slice()
+        self.draws.is_empty()
+    }
+
+    /// Takes all draws out. Their room stays for the next ones.
+    pub fn clear(&mut self)
+        ensures { self.new ≡ [] }
+    {
+        self.draws.clear();
+        self.triangles.clear();
+    }
+
+    /// Puts a draw and its triangles at the end. After an error the list is as it was.
+    pub fn push(&mut self, draw: Prepared<'x>, triangles: &[Setup]) -> Result<(), AllocError>
+        ensures ok { OnOk result (self.new ≡ self.old ++ prepared_seen draw.entry (map setup_seen triangles.now) ∷ []) }
+        ensures err { OnErr result (self.new ≡ self.old) }
+    {
+        let first = self.triangles.len();
+        let after = first.saturating_add(triangles.len());
+        self.triangles.extend_from_slice(triangles)?;
+        let listed = Listed {
+            cut: draw.cut,
+            state: draw.state,
+            front: draw.front,
+            back: draw.back,
+            paint: draw.paint,
+            first,
+            after,
+        };
+        if self.draws.push(listed).is_ok() {
+            return Ok(());
+        }
+        self.triangles.truncate(first);
+        Err(AllocError)
+    }
+
+    /// The draw of a number, and its triangles.
+    pub(crate) fn draw(&self, index: usize) -> (Prepared<'x>, &[Setup])
+        requires { index < length self.now }
+        ensures { (d : PreparedDraw) → prepared_seen result.0 (map setup_seen result.1.now) ≡ slice_index_or self.now index d }
+    {
+        let listed = &self.draws[index];
+        let draw = Prepared {
+            cut: listed.cut,
+            state: listed.state,
+            front: listed.front,
+            back: listed.back,
+            paint: listed.paint,
+        };
+        (draw, &self.triangles[listed.first..listed.after])
     }
 }

@@ -5,7 +5,7 @@ ghost use Rattle.gfx_model.specs.Raster.{fragment_at};
 ghost use Rattle.gfx_model.specs.Vertex.{Color};
 ghost use Rattle.gfx_model.specs.World.{painted};
 ghost use Rattle.tri_cover.specs.Shown.{setup_seen};
-ghost use Rattle.int_raster.specs.Places.{deep_pixels, spanned, by_place};
+ghost use Rattle.int_raster.specs.Places.{deep_pixels, spanned, in_row};
 ghost use Rattle.int_raster.specs.Painted.{shade_at, PaintsSpan};
 ghost use Rattle.int_raster.specs.Rules.{IsOver, IsPlain};
 ghost use Rattle.int_raster.specs.Seen.{paint_seen, step_seen};
@@ -34,14 +34,14 @@ fn cover(
     setup: &Setup,
     draw: &Prepared,
 )
-    requires inside { span.now.y * span.now.width + span.now.width ≤ length colors.old }
+    requires inside { span.now.start + span.now.after ≤ length colors.old }
     requires plain { IsPlain rule.now draw.now setup.now }
     requires over { IsOver rule.now }
     requires paints { (x : ℕ) → span.now.first ≤ x → x < span.now.after → color ≡ painted (paint_seen draw.now.paint) (fragment_at (setup_seen setup.now).triangle x span.now.y) }
     ensures { (depths : List Color) → length depths ≡ length colors.old
-        → deep_pixels colors.new depths ≡ map_from (spanned (by_place span.now.width (step_seen draw.now setup.now)) (span.now.y * span.now.width + span.now.first) (span.now.y * span.now.width + span.now.after)) 0 (deep_pixels colors.old depths) }
+        → deep_pixels colors.new depths ≡ map_from (spanned (in_row span.now.start span.now.y (step_seen draw.now setup.now)) (span.now.start + span.now.first) (span.now.start + span.now.after)) 0 (deep_pixels colors.old depths) }
 {
-    let start = span.y as usize * span.width as usize;
+    let start = span.start;
     let bytes = whole(color);
     for x in span.first..span.after {
         colors[start + x as usize] = bytes;
@@ -57,14 +57,14 @@ fn cover_painted(
     setup: &Setup,
     draw: &Prepared,
 )
-    requires inside { span.now.y * span.now.width + span.now.width ≤ length colors.old }
+    requires inside { span.now.start + span.now.after ≤ length colors.old }
     requires plain { IsPlain rule.now draw.now setup.now }
     requires over { IsOver rule.now }
     requires paints { PaintsSpan painter.now draw.now setup.now span.now.y span.now.first span.now.after }
     ensures { (depths : List Color) → length depths ≡ length colors.old
-        → deep_pixels colors.new depths ≡ map_from (spanned (by_place span.now.width (step_seen draw.now setup.now)) (span.now.y * span.now.width + span.now.first) (span.now.y * span.now.width + span.now.after)) 0 (deep_pixels colors.old depths) }
+        → deep_pixels colors.new depths ≡ map_from (spanned (in_row span.now.start span.now.y (step_seen draw.now setup.now)) (span.now.start + span.now.first) (span.now.start + span.now.after)) 0 (deep_pixels colors.old depths) }
 {
-    let start = span.y as usize * span.width as usize;
+    let start = span.start;
     for x in span.first..span.after {
         colors[start + x as usize] = whole(color_at(painter, x, span.y));
     }
@@ -79,14 +79,14 @@ fn cover_shade(
     setup: &Setup,
     draw: &Prepared,
 )
-    requires inside { span.now.y * span.now.width + span.now.width ≤ length colors.old }
+    requires inside { span.now.start + span.now.after ≤ length colors.old }
     requires plain { IsPlain rule.now draw.now setup.now }
     requires over { IsOver rule.now }
     requires paints { (x : ℕ) → span.now.first ≤ x → x < span.now.after → shade_at shade.now x span.now.y ≡ painted (paint_seen draw.now.paint) (fragment_at (setup_seen setup.now).triangle x span.now.y) }
     ensures { (depths : List Color) → length depths ≡ length colors.old
-        → deep_pixels colors.new depths ≡ map_from (spanned (by_place span.now.width (step_seen draw.now setup.now)) (span.now.y * span.now.width + span.now.first) (span.now.y * span.now.width + span.now.after)) 0 (deep_pixels colors.old depths) }
+        → deep_pixels colors.new depths ≡ map_from (spanned (in_row span.now.start span.now.y (step_seen draw.now setup.now)) (span.now.start + span.now.first) (span.now.start + span.now.after)) 0 (deep_pixels colors.old depths) }
 {
-    let start = span.y as usize * span.width as usize;
+    let start = span.start;
     let mut red = value_at(&shade.red, span.first, span.y);
     let mut green = value_at(&shade.green, span.first, span.y);
     let mut blue = value_at(&shade.blue, span.first, span.y);
@@ -113,11 +113,11 @@ pub(crate) fn cover_span(
     setup: &Setup,
     draw: &Prepared,
 )
-    requires inside { span.now.y * span.now.width + span.now.width ≤ length colors.old }
+    requires inside { span.now.start + span.now.after ≤ length colors.old }
     requires plain { IsPlain over.now.rule draw.now setup.now }
     requires paints { PaintsSpan over.now.painter draw.now setup.now span.now.y span.now.first span.now.after }
     ensures { (depths : List Color) → length depths ≡ length colors.old
-        → deep_pixels colors.new depths ≡ map_from (spanned (by_place span.now.width (step_seen draw.now setup.now)) (span.now.y * span.now.width + span.now.first) (span.now.y * span.now.width + span.now.after)) 0 (deep_pixels colors.old depths) }
+        → deep_pixels colors.new depths ≡ map_from (spanned (in_row span.now.start span.now.y (step_seen draw.now setup.now)) (span.now.start + span.now.first) (span.now.start + span.now.after)) 0 (deep_pixels colors.old depths) }
 {
     let rule = &over.rule;
     match &over.painter {

@@ -1,13 +1,12 @@
 // Parts of the rows of a surface.
 ghost use Rattle.std.specs.Prelude.{◌≤◌};
 
-/// The columns of a row from one up to another, on a surface of a width.
+/// The columns of the surface's row `y` from one up to another. The row begins at the place `start` of the texels at hand.
 #[derive(Clone, Copy)]
 pub(crate) struct Span {
-    pub width: u16,
+    pub start: usize,
     pub y: u16,
     pub first: u16,
     pub after: u16,
     pub ghost order: { first ≤ after },
-    pub ghost within: { after ≤ width },
 }

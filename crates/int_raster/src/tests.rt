@@ -1,7 +1,7 @@
 // Pictures that were worked out by hand, as lists of prepared draws, and the pixels of many triangles one by one.
 ghost use Rattle.std.specs.Prelude.{◌≤◌};
 
-use crate::{DrawList, Paint, Prepared, Surface, Triangles, draw_view};
+use crate::{DrawList, Paint, Prepared, Surface, draw_view};
 use fix_math::{Affine, Point, Rect, Texels};
 use gfx_words::{StateWord, StencilWord};
 use pixel_ops::{Pixel, Shaded, multiply, pixel_step};
@@ -26,7 +26,7 @@ pub(crate) fn setups(
     vertices: &[Vertex],
     target: Rect,
     cull: u8,
-) -> Result<Triangles, Fail> {
+) -> Result<Vec<Setup>, Fail> {
     let id = Affine::identity();
     let mut items = Vec::new(alloc);
     for three in vertices.chunks_exact(3) {
@@ -42,10 +42,10 @@ pub(crate) fn setups(
             }
         }
     }
-    Ok(Triangles::from_vec(items))
+    Ok(items)
 }
 
-fn solid(alloc: Global, corners: &[(i32, i32)], target: Rect) -> Result<Triangles, Fail> {
+fn solid(alloc: Global, corners: &[(i32, i32)], target: Rect) -> Result<Vec<Setup>, Fail> {
     let mut vertices = Vec::new(alloc);
     for (x, y) in corners {
         vertices.push(vertex(*x, *y, 0, [255, 255, 255, 255], [0, 0]))?;
@@ -104,14 +104,15 @@ fn drawn_once<R: Abort>(
 ) -> Result<Vec<u8>, Fail> {
     let mut surface = blank(alloc, FOUR, [0, 0, 0, 0])?;
     let mut list = DrawList::new(alloc);
-    list.push(Prepared {
-        triangles: solid(alloc, corners, FOUR)?,
+    let triangles = solid(alloc, corners, FOUR)?;
+    let draw = Prepared {
         cut: FOUR,
         state: state(rt, word),
         front: stencil(rt, 0),
         back: stencil(rt, 0),
         paint: Paint::Solid([16, 16, 16, 255]),
-    })?;
+    };
+    list.push(draw, &triangles)?;
     draw_view(&mut surface, &list);
     reds(alloc, &surface)
 }
@@ -199,14 +200,15 @@ fn a_stencil_saturates_and_another_wraps(rt: HostRuntime) -> Result<(), Fail> {
         ),
         (127, 286523391, target, 32),
     ] {
-        list.push(Prepared {
-            triangles: solid(alloc, &corners, target)?,
+        let triangles = solid(alloc, &corners, target)?;
+        let draw = Prepared {
             cut,
             state: state(&rt, if grey == 0 { word } else { 15 }),
             front: stencil(&rt, stencils),
             back: stencil(&rt, 0),
             paint: Paint::Solid([grey, grey, grey, 255]),
-        })?;
+        };
+        list.push(draw, &triangles)?;
     }
     draw_view(&mut surface, &list);
     assert_eq!(rt; reds(alloc, &surface)?.as_slice(), [32, 0].as_slice());
@@ -230,14 +232,15 @@ fn a_blended_vertex_colour(rt: HostRuntime) -> Result<(), Fail> {
     ];
     let mut surface = Surface::new(Texels::filled(alloc, 1, 1, [32, 32, 32, 255])?, None);
     let mut list = DrawList::new(alloc);
-    list.push(Prepared {
-        triangles: setups(alloc, &vertices, target, 0)?,
+    let triangles = setups(alloc, &vertices, target, 0)?;
+    let draw = Prepared {
         cut: target,
         state: state(&rt, 106319887),
         front: stencil(&rt, 0),
         back: stencil(&rt, 0),
         paint: Paint::Vertex,
-    })?;
+    };
+    list.push(draw, &triangles)?;
     draw_view(&mut surface, &list);
     assert_eq!(rt; surface.color.texels.as_slice()[0][0], 144);
     Ok(())

@@ -147,6 +147,7 @@ impl Sink for MemSink {
         ensures tally_stays { OnErr result (tally_of self.new.bytes.items ≡ tally_of self.old.bytes.items) }
         ensures no_fewer { self.old.calls.faults ≤ self.new.calls.faults }
         ensures failed { OnErr result (Rose self.old.calls.faults self.new.calls.faults) }
+        ensures limits { (self.new.most ≡ self.old.most) × (self.new.capacity ≡ self.old.capacity) }
         ensures called { IsCalled self.old.calls self.new.calls }
         ensures exact { IsErr result ↔ IsTrue (put_fails self.old.calls.fails.items self.old.calls.made self.old.capacity self.old.bytes.items) }
     {

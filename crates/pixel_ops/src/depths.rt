@@ -47,8 +47,9 @@ pub fn stencil_step(op: u8, stored: u8, reference: u8) -> u8
     }
 }
 
-/// Whether a pixel's stencil passes the test of a word. The word 0 is no stencil, and passes.
-pub(crate) fn passes_stencil(word: &StencilWord, stencil: u8) -> bool
+/// Whether a pixel's stencil passes the test of a word: the masked reference is compared with the masked stencil. The word
+/// 0 is no stencil test, and passes.
+pub fn passes_stencil(word: &StencilWord, stencil: u8) -> bool
     ensures { result ≡ model.passes_stencil word.now stencil }
 {
     word.word() == 0

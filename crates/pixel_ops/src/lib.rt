@@ -7,9 +7,9 @@ mod parts;
 mod pixels;
 
 pub use blending::{blend, multiply};
-pub use depths::{depth_test, stencil_step};
+pub use depths::{depth_test, passes_stencil, stencil_step};
 pub use parts::Blending;
-pub use pixels::{Pixel, Shaded, pixel_step};
+pub use pixels::{Pixel, Shaded, is_stored, pixel_step};
 
 #[cfg(test)]
 mod tests;

@@ -2,6 +2,7 @@
 ghost use Rattle.std.specs.Prelude.{◌≡◌, ◌<◌, ◌≤◌, ◌+◌, ◌*◌, ◌^◌};
 ghost use Rattle.gfx_model.specs.Pixel as model;
 ghost use Rattle.pixel_ops.specs.Seen.{pixel_seen, shaded_seen};
+ghost use Rattle.pixel_ops.specs.Tests.{passes_tests};
 
 use crate::blending::stored_color;
 use crate::depths::{depth_test, passes_stencil, stencil_by};
@@ -63,6 +64,20 @@ fn step_with_depth(
     Pixel {
         color: stored_color(state, fragment.color, color),
         depth: Some(joined(kept, stencil_by(word, word.on_pass(), stencil))),
+    }
+}
+
+/// Whether a fragment comes to the stores of a pixel: it passes the stencil test, and then the depth test. On a target
+/// without depth each fragment does.
+pub fn is_stored(pixel: &Pixel, fragment: &Shaded, state: &StateWord, stencil: &StencilWord) -> bool
+    ensures { result ≡ passes_tests pixel.now.depth fragment.now.depth state.now stencil.now }
+{
+    match pixel.depth {
+        None => true,
+        Some(stored) => {
+            passes_stencil(stencil, (stored >> 24) as u8)
+                && depth_test(state.depth_test(), fragment.depth, stored & 0xff_ffff)
+        }
     }
 }
 

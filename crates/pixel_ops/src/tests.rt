@@ -1,5 +1,5 @@
 // Each test, operation, factor and equation once, with values that were worked out by hand.
-use crate::{Pixel, Shaded, blend, depth_test, pixel_step, stencil_step};
+use crate::{Pixel, Shaded, blend, depth_test, is_stored, pixel_step, stencil_step};
 use gfx_words::{StateWord, StencilWord};
 
 #[test]
@@ -139,4 +139,43 @@ fn steps_of_a_pixel(rt: HostRuntime) {
             depth: None
         }
     );
+}
+
+#[test]
+fn a_fragment_is_stored_where_both_tests_pass(rt: HostRuntime) {
+    let (Ok(less), Ok(masked)) = (
+        StateWord::read(15 + (1 << 4)),
+        StencilWord::read(0x1113_0f83),
+    ) else {
+        assert!(rt; false, "words");
+        return;
+    };
+    let Ok(none) = StencilWord::read(0) else {
+        assert!(rt; false, "no word");
+        return;
+    };
+    let fragment = Shaded {
+        color: [1, 2, 3, 4],
+        depth: 100,
+    };
+    for (depth, word, stored) in [
+        (None, masked, true),
+        (Some(0x0300_0065), masked, true),
+        (Some(0x0300_0064), masked, false),
+        (Some(0x0400_0065), masked, false),
+        (Some(0xf300_0065), masked, true),
+        (Some(0x0400_0065), none, true),
+    ] {
+        let pixel = Pixel {
+            color: [9, 9, 9, 9],
+            depth,
+        };
+        assert_eq!(rt;
+            is_stored(&pixel, &fragment, &less, &word),
+            stored,
+            "{depth:?}"
+        );
+        let after = pixel_step(pixel, &fragment, &less, word);
+        assert_eq!(rt; after.color == [1, 2, 3, 4], stored, "{depth:?}");
+    }
 }

@@ -8,11 +8,11 @@ use Rattle.gfx_model.specs.Recorder.{begun}
 use Rattle.scene_model.specs.Scene as scenes
 use Rattle.scene_model.specs.Fold.{Accepted, Progress, Recording, after_encoder_line, accepted_of, recording_of, lines_of}
 use Rattle.scene_model.specs.Journal.{Entry, entries_of, serial_from}
-use Rattle.scene_text.specs.declared.journal.JournalEntry.{JournalEntry}
-use Rattle.scene_text.specs.declared.scene.Scene.{Scene}
-use Rattle.scene_text.specs.declared.scene.SceneFrame.{SceneFrame}
-use Rattle.scene_text.specs.declared.scene.EncLine.{EncLine}
-use Rattle.scene_text.specs.Seen.{entry_seen, scene_seen, frame_seen, room_seen, block_seen, encoder_line_seen}
+use Rattle.triangle_text.specs.declared.journal.JournalEntry.{JournalEntry}
+use Rattle.triangle_text.specs.declared.scene.Scene.{Scene}
+use Rattle.triangle_text.specs.declared.scene.SceneFrame.{SceneFrame}
+use Rattle.triangle_text.specs.declared.scene.EncLine.{EncLine}
+use Rattle.triangle_text.specs.Seen.{entry_seen, scene_seen, frame_seen, room_seen, block_seen, encoder_line_seen}
 use Rattle.scene_player.proofs.Steps.{map-next}
 
 abbrev entry_at : ℕ → ℕ → Entry

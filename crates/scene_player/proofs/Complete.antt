@@ -7,7 +7,7 @@ use Rattle.gfx_model.specs.Resources.{deaths_in}
 use Rattle.scene_model.specs.Fold.{FramePlan, Progress, plans, plans_from, after_lines, at_start}
 use Rattle.scene_model.specs.Journal.{Journal, IsLawful, AreLawful, pictures, serial, serial_from, shares_key}
 use Rattle.scene_model.proofs.PlansFit.{order-law}
-use Rattle.scene_text.specs.Spoken.{spoken}
+use Rattle.triangle_text.specs.Spoken.{spoken}
 use Rattle.scene_player.specs.declared.status.Status.{Status}
 use Rattle.scene_player.specs.declared.status.Status.TheVariants as status
 use Rattle.scene_player.specs.Io.{IsLong}

@@ -9,9 +9,9 @@ use Rattle.gfx_model.specs.Resources.{deaths_in}
 use Rattle.scene_model.specs.Fold as model
 use Rattle.scene_model.specs.Fold.{Accepted, FramePlan, accepted_of, recording_of, after_lines, at_start, plan_of}
 use Rattle.scene_model.specs.Journal.{serial_from}
-use Rattle.scene_text.specs.declared.scene.Scene.{Scene}
-use Rattle.scene_text.specs.declared.scene.SceneFrame.{SceneFrame}
-use Rattle.scene_text.specs.Seen.{entry_seen, name_seen, scene_seen, frame_seen, resource_line_seen}
+use Rattle.triangle_text.specs.declared.scene.Scene.{Scene}
+use Rattle.triangle_text.specs.declared.scene.SceneFrame.{SceneFrame}
+use Rattle.triangle_text.specs.Seen.{entry_seen, name_seen, scene_seen, frame_seen, resource_line_seen}
 use Rattle.scene_world.specs.Things.{creates_from, create_at}
 use Rattle.scene_world.specs.Cleared.{clear_seen}
 use Rattle.scene_world.specs.Painted.{views_of_clears}

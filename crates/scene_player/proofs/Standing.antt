@@ -10,10 +10,10 @@ use Rattle.scene_model.specs.Fold as model
 use Rattle.scene_model.specs.Fold.{FramePlan, plans, plans_from, accepted_of}
 use Rattle.scene_model.specs.Journal.{Journal, IsLawful, IsLawfulFront, IsLawfulFrame, AreLawful, frame_content, pictures, pictures_from}
 use Rattle.scene_model.specs.Output.{picture_text, pictures_text, frame_note, report, report_from}
-use Rattle.scene_text.specs.declared.scene.Scene.{Scene}
-use Rattle.scene_text.specs.declared.scene.SceneFrame.{SceneFrame}
-use Rattle.scene_text.specs.declared.journal.JournalEntry.{JournalEntry}
-use Rattle.scene_text.specs.Seen.{entry_seen, frame_seen, scene_seen}
+use Rattle.triangle_text.specs.declared.scene.Scene.{Scene}
+use Rattle.triangle_text.specs.declared.scene.SceneFrame.{SceneFrame}
+use Rattle.triangle_text.specs.declared.journal.JournalEntry.{JournalEntry}
+use Rattle.triangle_text.specs.Seen.{entry_seen, frame_seen, scene_seen}
 use Rattle.scene_player.specs.declared.frame.Frame.{Frame}
 use Rattle.scene_player.specs.declared.progress.Progress.{Progress}
 use Rattle.scene_player.specs.Lines.{started, progress_seen}

@@ -5,7 +5,7 @@ use Rattle.scene_model.specs.Scene.{Scene}
 use Rattle.scene_model.specs.Grammar.{Fault, scene_of}
 use Rattle.scene_model.specs.Journal.{Journal, IsLawful, IsLawfulFront, pictures}
 use Rattle.scene_model.specs.Output.{picture_text, pictures_text, report, usage_line, length_line, scene_line}
-use Rattle.scene_text.specs.Spoken.{spoken}
+use Rattle.triangle_text.specs.Spoken.{spoken}
 use Rattle.scene_player.specs.declared.status.Status.{Status}
 use Rattle.scene_player.specs.declared.status.Status.TheVariants as status
 use Rattle.scene_player.specs.Io.{IsLong, HasFront}

@@ -1,9 +1,9 @@
 -- The frames of the code as the definitions see them.
 use Rattle.std.specs.Prelude.{◌≡◌, ℕ, ◌+◌, [], map, length}
 use Rattle.scene_model.specs.Fold.{FramePlan, accepted_of, at_start, after_lines, plan_of}
-use Rattle.scene_text.specs.declared.scene.Scene.{Scene}
-use Rattle.scene_text.specs.declared.scene.SceneFrame.{SceneFrame}
-use Rattle.scene_text.specs.Seen.{name_seen, resource_line_seen, entry_seen, frame_seen, scene_seen}
+use Rattle.triangle_text.specs.declared.scene.Scene.{Scene}
+use Rattle.triangle_text.specs.declared.scene.SceneFrame.{SceneFrame}
+use Rattle.triangle_text.specs.Seen.{name_seen, resource_line_seen, entry_seen, frame_seen, scene_seen}
 use Rattle.gfx_model.specs.Resources.{deaths_in}
 use Rattle.scene_model.specs.Journal.{serial_from}
 use Rattle.scene_model.specs.Fold as model

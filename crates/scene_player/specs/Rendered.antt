@@ -3,7 +3,7 @@ use Rattle.std.specs.Prelude.{◌≡◌, ℕ, List, map, length, Option}
 use Rattle.gfx_model.specs.World.{World, FrameContent}
 use Rattle.scene_model.specs.Journal.{frame_content}
 use Rattle.scene_model.specs.Output.{picture_text}
-use Rattle.scene_text.specs.Seen.{entry_seen}
+use Rattle.triangle_text.specs.Seen.{entry_seen}
 use Rattle.io_edge.specs.Edge.{with_back}
 use Rattle.scene_player.specs.declared.frame.Frame.{Frame}
 use Rattle.scene_player.specs.declared.renderer.Canvas.{Canvas}

@@ -3,7 +3,7 @@ ghost use Rattle.std.specs.Prelude.{◌≡◌, ℕ, ◌≤◌, ◌+◌, [], ◌+
 ghost use Rattle.std.specs.List.{range_with_len, cons_option};
 ghost use Rattle.scene_model.specs.Fold.{accepted_of, recording_of};
 ghost use Rattle.scene_model.specs.Journal.{serial_from, entries_of, item_of};
-ghost use Rattle.scene_text.specs.Seen.{entry_seen, frame_seen, scene_seen};
+ghost use Rattle.triangle_text.specs.Seen.{entry_seen, frame_seen, scene_seen};
 ghost use Rattle.scene_world.specs.Items.{item_seen};
 ghost use Rattle.scene_player.specs.Frame.{IsComposed};
 ghost use Rattle.scene_player.specs.Lines.{progress_seen};
@@ -11,7 +11,7 @@ ghost use Rattle.scene_player.specs.Lines.{progress_seen};
 use crate::frame::Frame;
 use crate::progress::Progress;
 use crate::recording::{Recording, lines_of, record};
-use scene_text::{JournalEntry, Scene, SceneFrame};
+use triangle_text::{JournalEntry, Scene, SceneFrame};
 use scene_world::Item;
 use std::alloc::{AllocError, Global};
 

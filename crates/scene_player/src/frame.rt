@@ -2,7 +2,7 @@
 ghost use Rattle.std.specs.Prelude.{◌≡◌, length};
 
 use crate::recording::Recording;
-use scene_text::JournalEntry;
+use triangle_text::JournalEntry;
 use scene_world::{Content, ViewClear};
 
 /// What a frame is drawn from: what it creates behind the things that there are, the views' clears as they stand after its

@@ -3,9 +3,9 @@ ghost use Rattle.std.specs.Prelude.{◌≡◌, ◌++◌, ◌∷◌, [], List, ma
 ghost use Rattle.gfx_model.specs.Vertex as model;
 ghost use Rattle.gfx_model.specs.Vertex.{layout_of_parts};
 ghost use Rattle.vertex_layout.specs.Building.{built};
-ghost use Rattle.scene_text.specs.Seen.{part_seen};
+ghost use Rattle.triangle_text.specs.Seen.{part_seen};
 
-use scene_text::LayoutPart;
+use triangle_text::LayoutPart;
 use vertex_layout::{LayoutBuilder, VertexLayout};
 
 /// Adds a part behind those so far.

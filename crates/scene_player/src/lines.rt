@@ -5,7 +5,7 @@ ghost use Rattle.gfx_model.specs.Resources.{word_of, deaths_in};
 ghost use Rattle.scene_model.specs.Scene.{layout_line, program_line, uniform_line, clear_line};
 ghost use Rattle.scene_model.specs.Fold.{thing_named, after_line, after_lines, at_start, drop_line};
 ghost use Rattle.gfx_words.specs.Seen.{refusal_seen, program_seen, uniform_seen};
-ghost use Rattle.scene_text.specs.Seen.{name_seen, part_seen, resource_line_seen, clear_seen};
+ghost use Rattle.triangle_text.specs.Seen.{name_seen, part_seen, resource_line_seen, clear_seen};
 ghost use Rattle.scene_world.specs.Things.{creates_from};
 ghost use Rattle.scene_calls.specs.Made.{changes_since};
 ghost use Rattle.scene_world.specs.Cleared as cleared;
@@ -18,7 +18,7 @@ use crate::names::Names;
 use crate::progress::Progress;
 use gfx_words::{Handle, ProgramKind, Refusal, UniformKind};
 use scene_calls::Resources;
-use scene_text::{Clear, LayoutPart, ResLine, SceneName};
+use triangle_text::{Clear, LayoutPart, ResLine, SceneName};
 use scene_world::{Content, ViewClear};
 use std::alloc::{AllocError, Global};
 

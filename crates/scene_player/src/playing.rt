@@ -4,7 +4,7 @@ ghost use Rattle.gfx_model.specs.World.{first_world};
 ghost use Rattle.scene_model.specs.Scene.{HasSides};
 ghost use Rattle.scene_model.specs.Output.{frame_note};
 ghost use Rattle.io_edge.specs.Edge.{Rose};
-ghost use Rattle.scene_text.specs.Seen.{scene_seen, journal_seen};
+ghost use Rattle.triangle_text.specs.Seen.{scene_seen, journal_seen};
 ghost use Rattle.scene_player.specs.Lines.{started, progress_seen};
 ghost use Rattle.scene_player.specs.Frame.{plan_seen, IsComposed};
 ghost use Rattle.scene_player.specs.Rendered.{Fits};
@@ -16,7 +16,7 @@ use crate::notes::push_frame;
 use crate::progress::Progress;
 use crate::renderer::{Canvas, Outcome};
 use io_edge::Sink;
-use scene_text::{Journal, JournalEntry, Scene, SceneFrame, Sequence};
+use triangle_text::{Journal, JournalEntry, Scene, SceneFrame, Sequence};
 use std::alloc::{AllocError, Global};
 
 /// What the frames of a scene leave: how they ended, the entries of each frame that was played, and the report.

@@ -5,8 +5,8 @@ ghost use Rattle.scene_model.specs.Scene.{transient_vertices_line, set_line, sub
 ghost use Rattle.scene_model.specs.Fold.{after_encoder_line, lines_of};
 ghost use Rattle.gfx_words.specs.Seen.{value_seen};
 ghost use Rattle.scene_world.specs.Items.{item_seen};
-ghost use Rattle.scene_text.specs.Seen as text;
-ghost use Rattle.scene_text.specs.Seen.{encoder_line_seen, block_seen};
+ghost use Rattle.triangle_text.specs.Seen as text;
+ghost use Rattle.triangle_text.specs.Seen.{encoder_line_seen, block_seen};
 ghost use Rattle.scene_calls.specs.Recording as calls;
 ghost use Rattle.scene_player.specs.Lines.{progress_seen, Recorded};
 
@@ -14,7 +14,7 @@ use crate::dropping::drops;
 use crate::progress::Progress;
 use gfx_words::{Refusal, UniformValue};
 use scene_calls::Recorder;
-use scene_text::{EncBlock, EncLine, Room};
+use triangle_text::{EncBlock, EncLine, Room};
 use scene_world::Item;
 use std::alloc::{AllocError, Global};
 use std::marker::Model;

@@ -1,12 +1,11 @@
--- Every scene that is read keeps its bounds, by one induction over its lines.
+-- Every scene that is read, as a whole text or at the front of one, keeps its bounds, by one induction over its lines.
 use Rattle.std.proofs.Common.{◌≡◌, ℕ, ◌+◌, ◌≤◌, ◌<◌, nat_lt, leb, leb-true, ltb-true, Bool, true, false, not, ◌&&◌, cond, List, [], ◌∷◌, length, ◌++◌, length-append, Option, Some, None, Result, Ok, Err, refl, ap, subst, sym, ◌∙◌, suc, arith}
 use Rattle.std.specs.List.{list_all, All}
 use Rattle.std.proofs.lemmas.List.Elements.{All-cons, All-head, All-tail, All-append}
 use Rattle.gfx_model.specs.Recorder.{Room}
 use Rattle.scene_model.specs.Scene.{ResourceLine, EncoderLine, Block, SceneFrame, Scene, HasSides, newest_version, greatest_latency, views_in}
 use Rattle.scene_model.specs.Field.{Read, ◌>>=◌, bad_byte, ends_early, misplaced_word, unknown_version, out_of_range, no_number, is_numeral, value_onto, natural, in_range, number_in, u8_number, split_at, find_word}
-use Rattle.scene_model.specs.Grammar.{Field, field, whole_language, Word, scene_word, size_word, encoders_word, room_word, latency_word, frame_word, encoder_word, beside_word, done_word, journal_word, layout_word, vertex_buffer_word, index_buffer_word, texture_word, frame_buffer_word, program_word, uniform_word, update_word, texel_update_word, destroy_word, view_word, order_word, state_word, stencil_word, scissor_word, transform_word, vertices_word, indices_word, transient_vertices_word, transient_indices_word, bind_word, set_word, submit_word, touch_word, blit_word, Stage, at_front, at_size, at_encoders, at_room, at_latency, at_first_frame, in_before, in_block, in_beside, at_end, is_front_word, is_size_word, is_encoders_word, is_room_word, is_latency_word, is_frame_word, can_stand, Reading, nothing_read, on_last, empty_frame, at_stage, with_version, with_size, with_encoders, with_room, with_latency, with_new_frame, with_block, with_line, with_encoder_line, on_last_frame, with_names, with_resource_line, with_before_line, with_beside_line, is_beside, last_encoder, blocks_of_last, unless, has_count, is_text_byte, is_other_version, follows, is_next_of, says_latency, is_in_place, are_filled_before, room_form, resource_form, encoder_form, after_resource, after_encoder_line, after_word, after_fields, after_line, is_skipped, is_at_end, scene_read, Fault, at_last_piece, line_read, read_pieces, scene_of}
-use Rattle.scene_model.proofs.ScenesSized.{sized, few-frames}
+use Rattle.scene_model.specs.Grammar.{Field, field, whole_language, Word, scene_word, size_word, encoders_word, room_word, latency_word, frame_word, encoder_word, beside_word, done_word, journal_word, layout_word, vertex_buffer_word, index_buffer_word, texture_word, frame_buffer_word, program_word, uniform_word, update_word, texel_update_word, destroy_word, view_word, order_word, state_word, stencil_word, scissor_word, transform_word, vertices_word, indices_word, transient_vertices_word, transient_indices_word, bind_word, set_word, submit_word, touch_word, blit_word, Stage, at_front, at_size, at_encoders, at_room, at_latency, at_first_frame, in_before, in_block, in_beside, at_end, is_front_word, is_size_word, is_encoders_word, is_room_word, is_latency_word, is_frame_word, can_stand, Reading, nothing_read, on_last, empty_frame, at_stage, with_version, with_size, with_encoders, with_room, with_latency, with_new_frame, with_block, with_line, with_encoder_line, on_last_frame, with_names, with_resource_line, with_before_line, with_beside_line, is_beside, last_encoder, blocks_of_last, unless, has_count, is_text_byte, is_other_version, follows, is_next_of, says_latency, is_in_place, are_filled_before, room_form, resource_form, encoder_form, after_resource, after_encoder_line, after_word, after_fields, after_line, is_skipped, is_at_end, scene_read, Fault, at_last_piece, line_read, read_pieces, scene_of, with_place, front_pieces, front_of}
 use Rattle.scene_text.specs.Bounds.{AreAscending, HasBlocks, HasRoom, IsBounded}
 
 -- ---- tests that hold
@@ -108,8 +107,12 @@ line_more n l f h = record {
 abbrev HasEncoders : ℕ → Type 0
 HasEncoders n = (1 ≤ n) × (n ≤ 8)
 
+abbrev AreSides : ℕ → ℕ → Type 0
+AreSides width height = (1 ≤ width) × (1 ≤ height) × (width ≤ 2048) × (height ≤ 2048)
+
 -- inside a frame
 record IsInside (r : Reading) : Type 0 where
+  sides : AreSides r.width r.height
   encoders : HasEncoders r.encoders
   some_frame : 1 ≤ length r.frames
   blocks : All (HasBlocks r.encoders) r.frames
@@ -117,12 +120,13 @@ record IsInside (r : Reading) : Type 0 where
 -- in front of the frames, once the encoders are known
 record IsAhead (r : Reading) : Type 0 where
   none : r.frames ≡ []
+  sides : AreSides r.width r.height
   encoders : HasEncoders r.encoders
 
 abbrev KeptAt : Stage → Reading → Type 0
 KeptAt at_front r = (r.frames ≡ []) × (r.latency ≡ 1)
 KeptAt at_size r = r.frames ≡ []
-KeptAt at_encoders r = r.frames ≡ []
+KeptAt at_encoders r = (r.frames ≡ []) × AreSides r.width r.height
 KeptAt at_room r = IsAhead r
 KeptAt at_latency r = IsAhead r
 KeptAt at_first_frame r = IsAhead r
@@ -136,6 +140,7 @@ record IsKept (r : Reading) : Type 0 where
   room : HasRoom r.room
   latency : (1 ≤ r.latency) × (r.latency ≤ greatest_latency)
   one_out : r.version ≡ 1 → r.latency ≡ 1
+  few : length r.frames ≤ 1024
   here : KeptAt r.stage r
 
 abbrev ReadsKept : Read Reading → Type 0
@@ -174,7 +179,7 @@ at_its_size in_block r c h = absurd (cc c)
 at_its_size in_beside r c h = absurd (cc c)
 at_its_size at_end r c h = absurd (cc c)
 
-at_its_encoders : (st : Stage) (r : Reading) → can_stand st encoders_word ≡ true → KeptAt st r → r.frames ≡ []
+at_its_encoders : (st : Stage) (r : Reading) → can_stand st encoders_word ≡ true → KeptAt st r → (r.frames ≡ []) × AreSides r.width r.height
 at_its_encoders at_front r c h = absurd (cc c)
 at_its_encoders at_size r c h = absurd (cc c)
 at_its_encoders at_encoders r c h = h
@@ -212,14 +217,15 @@ at_its_latency at_end r c h = absurd (cc c)
 
 -- what a `frame` line finds
 record IsOpen (r : Reading) : Type 0 where
+  sides : AreSides r.width r.height
   encoders : HasEncoders r.encoders
   blocks : All (HasBlocks r.encoders) r.frames
 
 ahead_open : (r : Reading) → IsAhead r → IsOpen r
-ahead_open r h = record { encoders = h.encoders; blocks = subst (All (HasBlocks r.encoders)) (sym h.none) (none_of (HasBlocks r.encoders)) }
+ahead_open r h = record { sides = h.sides; encoders = h.encoders; blocks = subst (All (HasBlocks r.encoders)) (sym h.none) (none_of (HasBlocks r.encoders)) }
 
 inside_open : (r : Reading) → IsInside r → IsOpen r
-inside_open r h = record { encoders = h.encoders; blocks = h.blocks }
+inside_open r h = record { sides = h.sides; encoders = h.encoders; blocks = h.blocks }
 
 at_its_frame : (st : Stage) (r : Reading) → can_stand st frame_word ≡ true → KeptAt st r → IsOpen r
 at_its_frame at_front r c h = absurd (cc c)
@@ -257,19 +263,23 @@ unfolding after_word
 scene_kept r fs place h =
     let f = at_its_front r.stage r place h.here in
     behind (has_count 2 fs) _ (λ b is. behind (number_in 1 newest_version (field fs 1)) _ (λ n k.
-    kept (with_version n r) (record { version = number_bound 1 newest_version (field fs 1) n k; room = h.room; latency = h.latency; one_out = λ e. f.1; here = f.0 })))
+    kept (with_version n r) (record { version = number_bound 1 newest_version (field fs 1) n k; room = h.room; latency = h.latency; one_out = λ e. f.1; few = h.few; here = f.0 })))
+
+number_sides : (x y : ℕ) → (1 ≤ x) × (x ≤ 2048) → (1 ≤ y) × (y ≤ 2048) → AreSides x y
+number_sides x y a b = (a.0, b.0, a.1, b.1)
 
 size_kept : (r : Reading) (fs : List Field) → can_stand r.stage size_word ≡ true → IsKept r → ReadsKept (after_word whole_language r fs size_word)
 unfolding after_word
 size_kept r fs place h =
     behind (has_count 3 fs) _ (λ b is. behind (number_in 1 2048 (field fs 1)) _ (λ x wide. behind (number_in 1 2048 (field fs 2)) _ (λ y high.
-    kept (with_size x y r) (record { version = h.version; room = h.room; latency = h.latency; one_out = h.one_out; here = at_its_size r.stage r place h.here }))))
+    kept (with_size x y r) (record { version = h.version; room = h.room; latency = h.latency; one_out = h.one_out; few = h.few; here = (at_its_size r.stage r place h.here, number_sides x y (number_bound 1 2048 (field fs 1) x wide) (number_bound 1 2048 (field fs 2) y high)) }))))
 
 encoders_kept : (r : Reading) (fs : List Field) → can_stand r.stage encoders_word ≡ true → IsKept r → ReadsKept (after_word whole_language r fs encoders_word)
 unfolding after_word
 encoders_kept r fs place h =
+    let f = at_its_encoders r.stage r place h.here in
     behind (has_count 2 fs) _ (λ b is. behind (number_in 1 8 (field fs 1)) _ (λ n k.
-    kept (with_encoders n r) (record { version = h.version; room = h.room; latency = h.latency; one_out = h.one_out; here = record { none = at_its_encoders r.stage r place h.here; encoders = number_bound 1 8 (field fs 1) n k } })))
+    kept (with_encoders n r) (record { version = h.version; room = h.room; latency = h.latency; one_out = h.one_out; few = h.few; here = record { none = f.0; sides = f.1; encoders = number_bound 1 8 (field fs 1) n k } })))
 
 room_bound : (fs : List Field) (room : Room) → room_form fs ≡ Ok room → HasRoom room
 room_bound fs room e = by (has_count 4 fs) (number_in 1 8191 (field fs 1)) (number_in 0 1048576 (field fs 2)) (number_in 0 8191 (field fs 3)) (number_bound 1 8191 (field fs 1)) (number_bound 0 1048576 (field fs 2)) (number_bound 0 8191 (field fs 3)) e
@@ -292,7 +302,7 @@ unfolding after_word
 room_kept r fs place h =
     let f = at_its_room r.stage r place h.here in
     behind (room_form fs) _ (λ room k.
-    kept (with_room room r) (record { version = h.version; room = room_bound fs room k; latency = h.latency; one_out = h.one_out; here = record { none = f.none; encoders = f.encoders } }))
+    kept (with_room room r) (record { version = h.version; room = room_bound fs room k; latency = h.latency; one_out = h.one_out; few = h.few; here = record { none = f.none; sides = f.sides; encoders = f.encoders } }))
 
 not_one : (version : ℕ) → says_latency version ≡ true → version ≡ 1 → ⊥
 not_one version s e = absurd (true_is_false (sym s ∙ rw e refl))
@@ -302,7 +312,7 @@ unfolding after_word
 latency_kept r fs place says h =
     let f = at_its_latency r.stage r place h.here in
     behind (has_count 2 fs) _ (λ b is. behind (number_in 1 greatest_latency (field fs 1)) _ (λ n k.
-    kept (with_latency n r) (record { version = h.version; room = h.room; latency = number_bound 1 greatest_latency (field fs 1) n k; one_out = λ e. absurd (not_one r.version says e); here = record { none = f.none; encoders = f.encoders } })))
+    kept (with_latency n r) (record { version = h.version; room = h.room; latency = number_bound 1 greatest_latency (field fs 1) n k; one_out = λ e. absurd (not_one r.version says e); few = h.few; here = record { none = f.none; sides = f.sides; encoders = f.encoders } })))
 
 frame_kept : (r : Reading) (fs : List Field) → can_stand r.stage frame_word ≡ true → IsKept r → ReadsKept (after_word whole_language r fs frame_word)
 unfolding after_word
@@ -314,7 +324,9 @@ frame_kept r fs place h =
       room = h.room;
       latency = h.latency;
       one_out = h.one_out;
+      few = omega (arith, length-append r.frames (empty_frame ∷ []), ltb-true (length r.frames) 1024 (unless_ok (nat_lt (length r.frames) 1024) out_of_range c k));
       here = record {
+        sides = f.sides;
         encoders = f.encoders;
         some_frame = omega (arith, length-append r.frames (empty_frame ∷ []));
         blocks = All-append (HasBlocks r.encoders) r.frames (empty_frame ∷ []) f.blocks
@@ -323,14 +335,6 @@ frame_kept r fs place h =
     })))
 
 -- ---- the words inside a frame
-
--- a stage inside a frame after a change of the last frame
-changed : (st : Stage) (f : SceneFrame → SceneFrame) (r : Reading) → KeptAt st r → ((q : Reading) → IsInside q → KeptAt st q) → ((x : SceneFrame) → HasBlocks r.encoders x → HasBlocks r.encoders (f x)) → IsInside r → KeptAt st (on_last_frame f r)
-changed st f r here stays keeps h = stays (on_last_frame f r) (record {
-  encoders = h.encoders;
-  some_frame = omega (arith, same_length f r.frames, h.some_frame);
-  blocks = last_keeps (HasBlocks r.encoders) f keeps r.frames h.blocks;
-})
 
 encoder_kept : (r : Reading) (fs : List Field) → can_stand r.stage encoder_word ≡ true → is_next_of r.encoders (last_encoder (blocks_of_last r.frames)) (field fs 1) ≡ true → IsKept r → ReadsKept (after_word whole_language r fs encoder_word)
 unfolding after_word
@@ -343,7 +347,9 @@ encoder_kept r fs place next h =
       room = h.room;
       latency = h.latency;
       one_out = h.one_out;
+      few = omega (arith, same_length (with_block e) r.frames, h.few);
       here = record {
+        sides = i.sides;
         encoders = i.encoders;
         some_frame = omega (arith, same_length (with_block e) r.frames, i.some_frame);
         blocks = blocks_more r.encoders e r.frames n.0 n.1 i.blocks;
@@ -355,14 +361,14 @@ unfolding after_word
 beside_kept r fs place h =
     let i = (within r.stage beside_word r refl refl refl refl refl refl place h.here).inside in
     behind (has_count 1 fs) _ (λ b is.
-    kept (at_stage in_beside r) (record { version = h.version; room = h.room; latency = h.latency; one_out = h.one_out; here = record { encoders = i.encoders; some_frame = i.some_frame; blocks = i.blocks } }))
+    kept (at_stage in_beside r) (record { version = h.version; room = h.room; latency = h.latency; one_out = h.one_out; few = h.few; here = record { sides = i.sides; encoders = i.encoders; some_frame = i.some_frame; blocks = i.blocks } }))
 
 done_kept : (r : Reading) (fs : List Field) → can_stand r.stage done_word ≡ true → IsKept r → ReadsKept (after_word whole_language r fs done_word)
 unfolding after_word
 done_kept r fs place h =
     let i = (within r.stage done_word r refl refl refl refl refl refl place h.here).inside in
     behind (has_count 1 fs) _ (λ b is.
-    kept (at_stage at_end r) (record { version = h.version; room = h.room; latency = h.latency; one_out = h.one_out; here = record { encoders = i.encoders; some_frame = i.some_frame; blocks = i.blocks } }))
+    kept (at_stage at_end r) (record { version = h.version; room = h.room; latency = h.latency; one_out = h.one_out; few = h.few; here = record { sides = i.sides; encoders = i.encoders; some_frame = i.some_frame; blocks = i.blocks } }))
 
 -- a resource line changes no block
 keeps_blocks : (n : ℕ) (b : Bool) (l : ResourceLine) (x : SceneFrame) → HasBlocks n x → HasBlocks n ((cond b (with_beside_line l) (with_before_line l)) x)
@@ -377,7 +383,9 @@ resource_kept r fs w i h = behind (resource_form whole_language (views_in r.vers
       room = h.room;
       latency = h.latency;
       one_out = h.one_out;
+      few = omega (arith, same_length (cond (is_beside r.stage) (with_beside_line l.0) (with_before_line l.0)) r.frames, h.few);
       here = i.stays (with_names l.1 (with_resource_line l.0 r)) (record {
+        sides = i.inside.sides;
         encoders = i.inside.encoders;
         some_frame = omega (arith, same_length (cond (is_beside r.stage) (with_beside_line l.0) (with_before_line l.0)) r.frames, i.inside.some_frame);
         blocks = last_keeps (HasBlocks r.encoders) (cond (is_beside r.stage) (with_beside_line l.0) (with_before_line l.0)) (keeps_blocks r.encoders (is_beside r.stage) l.0) r.frames i.inside.blocks;
@@ -392,7 +400,9 @@ line_kept r fs w i h = behind (encoder_form r.names fs w) _ (λ l k.
       room = h.room;
       latency = h.latency;
       one_out = h.one_out;
+      few = omega (arith, same_length (with_encoder_line l) r.frames, h.few);
       here = i.stays (on_last_frame (with_encoder_line l) r) (record {
+        sides = i.inside.sides;
         encoders = i.inside.encoders;
         some_frame = omega (arith, same_length (with_encoder_line l) r.frames, i.inside.some_frame);
         blocks = last_keeps (HasBlocks r.encoders) (with_encoder_line l) (line_more r.encoders l) r.frames i.inside.blocks;
@@ -448,7 +458,7 @@ word_kept r fs blit_word place h = inside_line r fs blit_word refl refl refl ref
 fields_kept : (r : Reading) (fs : List Field) (w : Option Word) → IsKept r → ReadsKept (after_fields whole_language r fs w)
 fields_kept r fs None h = λ q e. absurd (cc e)
 fields_kept r fs (Some w) h =
-    behind (unless (not (is_other_version fs)) unknown_version) _ (λ a version.
+    behind (unless (not (is_other_version newest_version fs)) unknown_version) _ (λ a version.
     behind (unless (is_in_place r w fs) misplaced_word) _ (λ b place.
     behind (are_filled_before w fs) _ (λ c filled.
     word_kept r fs w (unless_ok (is_in_place r w fs) misplaced_word b place) h)))
@@ -474,37 +484,35 @@ at_its_end in_block r c h = absurd (cc c)
 at_its_end in_beside r c h = absurd (cc c)
 at_its_end at_end r c h = h
 
-bounded_read : (r : Reading) (s : Scene) → IsKept r → is_at_end r.stage ≡ true → HasSides s → length s.frames ≤ 1024 → scene_read r ≡ s → IsBounded s
-bounded_read r s h end sides few made =
+-- what is read at the end keeps its bounds
+end_bounded : (r : Reading) → IsKept r → is_at_end r.stage ≡ true → IsBounded (scene_read r)
+end_bounded r h end =
     let i = at_its_end r.stage r end h.here in
-    by s made sides few
-  where
-    by : (t : Scene) → scene_read r ≡ t → HasSides t → length t.frames ≤ 1024 → IsBounded t
-    by t e sides few = subst IsBounded e (record {
+    record {
       known_version = h.version;
-      sides = subst HasSides (sym e) sides;
-      encoders = (at_its_end r.stage r end h.here).encoders;
+      sides = record { wide = i.sides.0; high = i.sides.1; narrow = i.sides.2; low = i.sides.3 };
+      encoders = i.encoders;
       room = h.room;
       latency = h.latency;
       one_out = h.one_out;
-      some_frame = (at_its_end r.stage r end h.here).some_frame;
-      few_frames = subst (λ t. length t.frames ≤ 1024) (sym e) few;
-      blocks = (at_its_end r.stage r end h.here).blocks;
-    })
+      some_frame = i.some_frame;
+      few_frames = h.few;
+      blocks = i.blocks;
+    }
 
-last_bounded : (n : ℕ) (r : Reading) (p : List ℕ) (s : Scene) → IsKept r → HasSides s → length s.frames ≤ 1024 → at_last_piece n r p ≡ Ok s → IsBounded s
-last_bounded n r [] s h sides few e = by (is_at_end r.stage) refl e
+last_bounded : (n : ℕ) (r : Reading) (p : List ℕ) (s : Scene) → IsKept r → at_last_piece n r p ≡ Ok s → IsBounded s
+last_bounded n r [] s h e = by (is_at_end r.stage) refl e
   where
     by : (b : Bool) → is_at_end r.stage ≡ b → cond {A = Result Scene Fault} b (Ok (scene_read r)) (Err (record { line = n; cause = ends_early })) ≡ Ok s → IsBounded s
-    by true end e = let made : scene_read r ≡ s = cc e in bounded_read r s h end sides few made
+    by true end e = let made : scene_read r ≡ s = cc e in subst IsBounded made (end_bounded r h end)
     by false end e = absurd (cc e)
-last_bounded n r (b ∷ bs) s h sides few e = absurd (cc e)
+last_bounded n r (b ∷ bs) s h e = absurd (cc e)
 
-pieces_bounded : (pieces : List (List ℕ)) (n : ℕ) (m : Read Reading) (s : Scene) → ReadsKept m → HasSides s → length s.frames ≤ 1024 → read_pieces whole_language n m pieces ≡ Ok s → IsBounded s
-pieces_bounded pieces n (Err cause) s h sides few e = absurd (cc e)
-pieces_bounded [] n (Ok r) s h sides few e = absurd (cc e)
-pieces_bounded (p ∷ []) n (Ok r) s h sides few e = last_bounded n r p s (h r refl) sides few e
-pieces_bounded (p ∷ q ∷ rest) n (Ok r) s h sides few e = pieces_bounded (q ∷ rest) (n + 1) (line_read whole_language r p) s (one_kept r p (h r refl)) sides few e
+pieces_bounded : (pieces : List (List ℕ)) (n : ℕ) (m : Read Reading) (s : Scene) → ReadsKept m → read_pieces whole_language n m pieces ≡ Ok s → IsBounded s
+pieces_bounded pieces n (Err cause) s h e = absurd (cc e)
+pieces_bounded [] n (Ok r) s h e = absurd (cc e)
+pieces_bounded (p ∷ []) n (Ok r) s h e = last_bounded n r p s (h r refl) e
+pieces_bounded (p ∷ q ∷ rest) n (Ok r) s h e = pieces_bounded (q ∷ rest) (n + 1) (line_read whole_language r p) s (one_kept r p (h r refl)) e
 
 first_kept : IsKept nothing_read
 first_kept = record {
@@ -512,9 +520,44 @@ first_kept = record {
   room = record { some_item = omega arith; items = omega arith; bytes = omega arith; uniforms = omega arith };
   latency = (omega arith, omega arith);
   one_out = λ e. refl;
+  few = omega arith;
   here = (refl, refl);
 }
 
 -- a scene that some bytes are keeps its bounds
 pub bounded : (bytes : List ℕ) (s : Scene) → scene_of whole_language bytes ≡ Ok s → IsBounded s
-bounded bytes s e = pieces_bounded (split_at 10 bytes) 1 (Ok nothing_read) s (kept nothing_read first_kept) (sized whole_language bytes s e) (few-frames whole_language bytes s e) e
+bounded bytes s e = pieces_bounded (split_at 10 bytes) 1 (Ok nothing_read) s (kept nothing_read first_kept) e
+
+-- ---- fronts of texts
+
+abbrev Front : Type 0
+Front = Result (Scene × ℕ) Fault
+
+ended_bounded : (r : Reading) (place : ℕ) (f : Scene × ℕ) → IsKept r → is_at_end r.stage ≡ true → (scene_read r, place) ≡ f → IsBounded f.0
+ended_bounded r place f h end made = subst (λ g. IsBounded g.0) made (end_bounded r h end)
+
+last_front : (n place : ℕ) (r : Reading) (p : List ℕ) (f : Scene × ℕ) → IsKept r → with_place place (at_last_piece n r p) ≡ Ok f → IsBounded f.0
+last_front n place r p f h e = by (at_last_piece n r p) refl e
+  where
+    by : (m : Result Scene Fault) → at_last_piece n r p ≡ m → with_place place m ≡ Ok f → IsBounded f.0
+    by (Ok s) is e = let made : (s, place) ≡ f = cc e in subst (λ g. IsBounded g.0) made (last_bounded n r p s h is)
+    by (Err fault) is e = absurd (cc e)
+
+front_kept : (pieces : List (List ℕ)) (n place : ℕ) (m : Read Reading) (f : Scene × ℕ) → ReadsKept m → front_pieces whole_language n place m pieces ≡ Ok f → IsBounded f.0
+front_kept pieces n place (Err cause) f h e = absurd (cc e)
+front_kept [] n place (Ok r) f h e = absurd (cc e)
+front_kept (p ∷ []) n place (Ok r) f h e = by (is_at_end r.stage) refl e
+  where
+    by : (b : Bool) → is_at_end r.stage ≡ b → cond {A = Front} b (Ok (scene_read r, place)) (with_place place (at_last_piece n r p)) ≡ Ok f → IsBounded f.0
+    by true end e = ended_bounded r place f (h r refl) end (cc e)
+    by false end e = last_front n place r p f (h r refl) e
+front_kept (p ∷ q ∷ rest) n place (Ok r) f h e = by (is_at_end r.stage) refl e (front_kept (q ∷ rest) (n + 1) (place + length p + 1) (line_read whole_language r p) f (one_kept r p (h r refl)))
+  where
+    by : (b : Bool) → is_at_end r.stage ≡ b → cond {A = Front} b (Ok (scene_read r, place)) (front_pieces whole_language (n + 1) (place + length p + 1) (line_read whole_language r p) (q ∷ rest)) ≡ Ok f
+        → (front_pieces whole_language (n + 1) (place + length p + 1) (line_read whole_language r p) (q ∷ rest) ≡ Ok f → IsBounded f.0) → IsBounded f.0
+    by true end e later = ended_bounded r place f (h r refl) end (cc e)
+    by false end e later = later e
+
+-- a scene at the front of some bytes keeps its bounds
+pub front_bounded : (bytes : List ℕ) (f : Scene × ℕ) → front_of whole_language bytes ≡ Ok f → IsBounded f.0
+front_bounded bytes f e = front_kept (split_at 10 bytes) 1 0 (Ok nothing_read) f (kept nothing_read first_kept) e

@@ -2,7 +2,7 @@
 ghost use Rattle.std.specs.Prelude.{◌≡◌, ◌≤◌, true, map, IfOk, option_map};
 ghost use Rattle.std.specs.List.{list_all};
 ghost use Rattle.scene_model.specs.Field.{split_at};
-ghost use Rattle.scene_model.specs.Scene.{views_in};
+ghost use Rattle.scene_model.specs.Scene.{newest_version, views_in};
 ghost use Rattle.scene_model.specs.Grammar as model;
 ghost use Rattle.scene_text.specs.Fields.{texts};
 ghost use Rattle.scene_text.specs.Gives.{Gives, MayGive};
@@ -44,7 +44,7 @@ pub struct Reading {
 
 /// Whether this is `scene N` with a version that is not read.
 fn is_other_version(fields: &[&[u8]]) -> bool
-    ensures { result ≡ model.is_other_version (texts fields.now) }
+    ensures { result ≡ model.is_other_version newest_version (texts fields.now) }
 {
     match fields {
         [word, version] => {

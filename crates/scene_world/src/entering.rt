@@ -35,8 +35,8 @@ fn add_draw<'x>(
         ≡ record { back = fold drawn_prepared back list.new; things = things_seen things.now }) }
 {
     match prepare(alloc, things, draw, bytes, sides, vertices)? {
-        Some(prepared) => {
-            list.push(prepared)?;
+        Some((prepared, triangles)) => {
+            list.push(prepared, &triangles)?;
             Ok(())
         }
         None => Ok(()),

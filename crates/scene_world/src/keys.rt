@@ -23,7 +23,7 @@ pub(crate) struct Keyed {
 /// The key of a draw by its number within the frame.
 fn draw_key(view: u16, draw: &Submit, number: u32) -> u64
     requires view { view < 256 }
-    requires number { number < 2 ^ 20 }
+    requires number { number < 2 ^ 19 }
     ensures { result ≡ sort_key default_mode view 0 draw.now.program.index draw.now.depth number }
 {
     let draw = *draw;
@@ -34,7 +34,7 @@ fn draw_key(view: u16, draw: &Submit, number: u32) -> u64
 /// The key of a touch by its number within the frame.
 fn touch_key(view: u16, number: u32) -> u64
     requires view { view < 256 }
-    requires number { number < 2 ^ 20 }
+    requires number { number < 2 ^ 19 }
     ensures { result ≡ sort_key default_mode view 0 511 0 number }
 {
     SortKey::draw(ViewMode::Default, view, false, 511, 0, number).bits()
@@ -42,7 +42,7 @@ fn touch_key(view: u16, number: u32) -> u64
 
 /// The key of an item by its number within the frame.
 fn key_of(item: &Item, number: u32) -> u64
-    requires { number < 2 ^ 20 }
+    requires { number < 2 ^ 19 }
     ensures { (clears : List Clear) → 256 ≤ length clears → result ≡ model.key_of_item (views_of_clears clears) number (item_seen item.now) }
 {
     let view = item.view();
@@ -54,7 +54,7 @@ fn key_of(item: &Item, number: u32) -> u64
 
 /// The places of items with their keys, in the order of their numbers.
 fn with_keys(alloc: Global, items: &[&Item]) -> Result<Vec<Keyed>, AllocError>
-    requires { length items.now ≤ 1048576 }
+    requires { length items.now ≤ 524288 }
     ensures { IfOk result (λ all. (clears : List Clear) → 256 ≤ length clears
         → map (pair_by (item_at (map (λ i. item_seen i.now) items.now))) all.items ≡ pairs_from (views_of_clears clears) 0 (map (λ i. item_seen i.now) items.now)) }
 {
@@ -76,7 +76,7 @@ fn sort(all: &mut Vec<Keyed>) -> Result<(), AllocError>
 
 /// The places of the items ascending by their keys, and at equal keys by their numbers.
 pub(crate) fn ordered(alloc: Global, items: &[&Item]) -> Result<Vec<Keyed>, AllocError>
-    requires { length items.now ≤ 1048576 }
+    requires { length items.now ≤ 524288 }
     ensures { IfOk result (λ all. (clears : List Clear) → 256 ≤ length clears
         → map (item_at (map (λ i. item_seen i.now) items.now)) all.items ≡ model.ordered (views_of_clears clears) (map (λ i. item_seen i.now) items.now)) }
 {

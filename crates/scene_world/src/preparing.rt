@@ -18,7 +18,7 @@ use crate::shapes::{list_triangles, place_vertices};
 use crate::things::content_of;
 use fix_math::Rect;
 use gfx_words::{Handle, StateWord, StencilWord};
-use int_raster::{Prepared, Triangles};
+use int_raster::Prepared;
 use std::alloc::{AllocError, Global};
 use tri_cover::{ScreenVertex, Setup};
 
@@ -134,21 +134,21 @@ pub(crate) fn prepare<'x>(
     bytes: &[u8],
     sides: Sides,
     vertices: &mut Vec<Option<ScreenVertex>>,
-) -> Result<Option<Prepared<'x>>, AllocError>
+) -> Result<Option<(Prepared<'x>, Vec<Setup>)>, AllocError>
     requires few { length bytes.now ≤ 4294967295 }
-    ensures { IfOk result (λ p. (back : Surface) (clear : Clear) (view : ℕ) (values : List UniformSet) → option_map prepared_seen p
+    ensures { IfOk result (λ p. (back : Surface) (clear : Clear) (view : ℕ) (values : List UniformSet) → option_map (λ q. prepared_seen q.0 (map setup_seen q.1.items)) p
         ≡ prepared_in (cleared_view clear) sides.width sides.height (record { back = back; things = things_seen things.now }) (draw_seen view draw.now bytes.now values)) }
 {
     let Some(paint) = paint_of(things, &draw.program) else {
         return Ok(None);
     };
     let triangles = triangles_of(alloc, things, draw, bytes, sides, vertices)?;
-    Ok(Some(Prepared {
-        triangles: Triangles::from_vec(triangles),
+    let prepared = Prepared {
         cut: sides.whole(),
         state: plain_state(),
         front: no_stencil(),
         back: no_stencil(),
         paint,
-    }))
+    };
+    Ok(Some((prepared, triangles)))
 }

@@ -152,7 +152,7 @@ fn draw_views(
         ≡ after_views (map clear_seen clears.now) (model.ordered (views_of_clears (map clear_seen clears.now)) (map (λ i. item_seen i.now) items.now)) (world_seen back.old things.old)
         (filter (λ v. list_any (is_of_view v) (map (λ i. item_seen i.now) items.now)) (range_with_len 0 256))) }
 {
-    if items.len() > 1_048_576 {
+    if items.len() > 524_288 {
         return Err(AllocError);
     }
     let marks = entered_views(alloc, clears.len(), items)?;

@@ -4,3 +4,6 @@
 mod row;
 
 pub use row::Row;
+
+#[cfg(test)]
+mod tests;

@@ -4,18 +4,18 @@ use mathlib.Core.Logic.{⊎_elim}
 use Rattle.std.proofs.lemmas.Bool.{cases_eq}
 use Rattle.gfx_model.specs.Number.{bits_at}
 use Rattle.gfx_model.specs.Views.{ViewMode, default_mode, sequential_mode, ascending_mode, descending_mode, KeyFields, key_fields, key_bits, position_bits}
-use Rattle.sort_key.specs.Fields.{IsKeyFields, IsKey, fields_of, fields_at}
+use Rattle.sort_key.specs.Fields.{IsKeyFields, IsKey, number_bits, fields_of, fields_at}
 
 pub bits_by_program : (k : KeyFields) → k.mode_type ≡ 0
-    → key_bits k ≡ 72057594037927936 * k.position + 36028797018963968 + 0 + (2251799813685248 * k.blended + 4398046511104 * k.program + 1024 * k.depth_field)
+    → key_bits k ≡ 36028797018963968 * k.position + 18014398509481984 + 0 + (1125899906842624 * k.blended + 2199023255552 * k.program + 512 * k.depth_field)
 bits_by_program k e = rw e (omega arith)
 
 pub bits_by_depth : (k : KeyFields) → k.mode_type ≡ 1
-    → key_bits k ≡ 72057594037927936 * k.position + 36028797018963968 + 9007199254740992 + (2097152 * k.depth_field + 524288 * k.blended + 1024 * k.program)
+    → key_bits k ≡ 36028797018963968 * k.position + 18014398509481984 + 4503599627370496 + (1048576 * k.depth_field + 262144 * k.blended + 512 * k.program)
 bits_by_depth k e = rw e (omega arith)
 
 pub bits_by_number : (k : KeyFields) → k.mode_type ≡ 2
-    → key_bits k ≡ 72057594037927936 * k.position + 36028797018963968 + 18014398509481984 + (8589934592 * k.number + 2147483648 * k.blended + 4194304 * k.program)
+    → key_bits k ≡ 36028797018963968 * k.position + 18014398509481984 + 9007199254740992 + (8589934592 * k.number + 2147483648 * k.blended + 4194304 * k.program)
 bits_by_number k e = rw e (omega arith)
 
 same_fields : (j k : KeyFields) → j.position ≡ k.position → j.mode_type ≡ k.mode_type → j.blended ≡ k.blended → j.program ≡ k.program
@@ -72,7 +72,7 @@ IsKey-from k h = record { fields = subst IsKeyFields (sym (fields-again k h)) h;
 
 -- the fields of an item are fields of a key
 pub IsKeyFields-key_fields : (m : ViewMode) (position blended program depth number : ℕ)
-    → position < 2 ^ position_bits → blended ≤ 1 → program ≤ 511 → depth < 2 ^ 32 → number < 2 ^ 20 → IsKeyFields (key_fields m position blended program depth number)
+    → position < 2 ^ position_bits → blended ≤ 1 → program ≤ 511 → depth < 2 ^ 32 → number < 2 ^ number_bits → IsKeyFields (key_fields m position blended program depth number)
 IsKeyFields-key_fields default_mode position blended program depth number p b g d n = record {
   position = p;
   mode_type = omega arith;

@@ -81,7 +81,7 @@ below_number : (k : KeyFields) → k.mode_type ≡ 2 → fields_below_type k ≡
 below_number k e = rw e refl
 
 -- the bits below the type stay below it
-low_by_type : (k : KeyFields) → IsKeyFields k → low_bits k < 9007199254740992
+low_by_type : (k : KeyFields) → IsKeyFields k → low_bits k < 4503599627370496
 low_by_type k p =
     ⊎_elim (λ e. omega (arith, bits_by_program k e, p.blended, p.program, p.depth))
     (λ n. ⊎_elim (λ e. omega (arith, bits_by_depth k e, p.blended, p.program, p.depth))

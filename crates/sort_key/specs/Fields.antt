@@ -3,6 +3,10 @@ use Rattle.std.specs.Prelude.{ℕ, ◌≡◌, ◌≤◌, ◌<◌, ◌-◌, ◌/�
 use Rattle.gfx_model.specs.Number.{bits_at}
 use Rattle.gfx_model.specs.Views.{KeyFields, key_bits, position_bits}
 
+-- how many bits an item's number within its frame has in a key
+abbrev pub number_bits : ℕ
+number_bits = 19
+
 -- what the fields of a key can be; one that the type does not hold is 0
 pub record IsKeyFields (k : KeyFields) : Type 0 where
   pub position : k.position < 2 ^ position_bits
@@ -10,7 +14,7 @@ pub record IsKeyFields (k : KeyFields) : Type 0 where
   pub blended : k.blended ≤ 1
   pub program : k.program < 2 ^ 9
   pub depth : k.depth_field < 2 ^ 32
-  pub number : k.number < 2 ^ 20
+  pub number : k.number < 2 ^ number_bits
   pub no_depth : k.mode_type ≡ 2 → k.depth_field ≡ 0
   pub no_number : k.mode_type ≤ 1 → k.number ≡ 0
 
@@ -39,7 +43,7 @@ fields_at mode_type bits =
       blended = bits_at bits 31 2;
       program = bits_at bits 22 9;
       depth_field = 0;
-      number = bits_at bits 33 20;
+      number = bits_at bits 33 number_bits;
     })
 
 abbrev pub fields_of : ℕ → KeyFields

@@ -4,15 +4,51 @@
 ghost use Rattle.std.specs.Prelude.{◌≡◌, ◌<◌, ◌≤◌, ◌^◌, if◌then◌else◌};
 ghost use Rattle.gfx_model.specs.Views.{position_bits, key_fields, key_bits, low_bits};
 ghost use Rattle.gfx_words.specs.Seen.{mode_seen};
-ghost use Rattle.sort_key.specs.Fields.{IsKeyFields};
+ghost use Rattle.sort_key.specs.Fields.{IsKeyFields, number_bits};
 ghost use Rattle.sort_key.specs.Order.{OrderOfKeys, OneKeyOneFields};
 ghost use Rattle.sort_key.specs.Seen.{fields_seen};
 
 use gfx_words::ViewMode;
 use std::marker::Model;
 
-// how many of a key's 64 bits say the view's position; the bits below them shift with it
-const POSITION_BITS: u32 = 8;
+// how many bits each field of a key has
+const POSITION_BITS: u32 = 9;
+
+const TYPE_BITS: u32 = 2;
+
+const BLEND_BITS: u32 = 2;
+
+const PROGRAM_BITS: u32 = 9;
+
+const DEPTH_BITS: u32 = 32;
+
+const NUMBER_BITS: u32 = 19;
+
+// the lowest bits of the position, of the 1 of draws and touches, and of the type
+const POSITION: u32 = 64 - POSITION_BITS;
+
+const DRAW: u32 = POSITION - 1;
+
+const TYPE: u32 = DRAW - TYPE_BITS;
+
+// the lowest bits of the fields of a type, one below the other
+const BLEND_BY_PROGRAM: u32 = TYPE - BLEND_BITS;
+
+const PROGRAM_BY_PROGRAM: u32 = BLEND_BY_PROGRAM - PROGRAM_BITS;
+
+const DEPTH_BY_PROGRAM: u32 = PROGRAM_BY_PROGRAM - DEPTH_BITS;
+
+const DEPTH_BY_DEPTH: u32 = TYPE - DEPTH_BITS;
+
+const BLEND_BY_DEPTH: u32 = DEPTH_BY_DEPTH - BLEND_BITS;
+
+const PROGRAM_BY_DEPTH: u32 = BLEND_BY_DEPTH - PROGRAM_BITS;
+
+const NUMBER_BY_NUMBER: u32 = TYPE - NUMBER_BITS;
+
+const BLEND_BY_NUMBER: u32 = NUMBER_BY_NUMBER - BLEND_BITS;
+
+const PROGRAM_BY_NUMBER: u32 = BLEND_BY_NUMBER - PROGRAM_BITS;
 
 /// The fields of a key; one that the mode's key does not hold is 0.
 #[derive(Clone, Copy, Drop, PartialEq, Eq, Debug)]
@@ -99,20 +135,20 @@ fn low_bits(key: KeyFields) -> u64
     let program = key.program as u64;
     let depth = key.depth_field as u64;
     match key.mode_type {
-        0 => (blend << (59 - POSITION_BITS))
-            + (program << (50 - POSITION_BITS))
-            + (depth << (18 - POSITION_BITS)),
-        1 => (depth << (29 - POSITION_BITS))
-            + (blend << (27 - POSITION_BITS))
-            + (program << (18 - POSITION_BITS)),
-        _ => ((key.number as u64) << 33) + (blend << 31) + (program << 22),
+        0 => (blend << BLEND_BY_PROGRAM)
+            + (program << PROGRAM_BY_PROGRAM)
+            + (depth << DEPTH_BY_PROGRAM),
+        1 => (depth << DEPTH_BY_DEPTH) + (blend << BLEND_BY_DEPTH) + (program << PROGRAM_BY_DEPTH),
+        _ => ((key.number as u64) << NUMBER_BY_NUMBER)
+            + (blend << BLEND_BY_NUMBER)
+            + (program << PROGRAM_BY_NUMBER),
     }
 }
 
 impl SortKey {
     /// The key of a draw, or of a touch with program 511, no blending and depth 0.
     ///
-    /// The position is that of the view in the order, the number that within the frame.
+    /// The position is that of the view in the order, below 512; the number is that within the frame, below 524,288.
     pub fn draw(
         mode: ViewMode,
         position: u16,
@@ -123,13 +159,13 @@ impl SortKey {
     ) -> SortKey
         requires position { position < 2 ^ position_bits }
         requires program { program ≤ 511 }
-        requires number { number < 2 ^ 20 }
+        requires number { number < 2 ^ number_bits }
         ensures { result ≡ key_fields (mode_seen mode) position (if blended then 1 else 0) program depth number }
     {
         let key = fields(mode, position, blended, program, depth, number);
-        let top = ((key.position as u64) << (64 - POSITION_BITS)) + (1 << (63 - POSITION_BITS));
+        let top = ((key.position as u64) << POSITION) + (1 << DRAW);
         SortKey {
-            bits: top + ((key.mode_type as u64) << (61 - POSITION_BITS)) + low_bits(key),
+            bits: top + ((key.mode_type as u64) << TYPE) + low_bits(key),
         }
     }
 
@@ -144,7 +180,7 @@ impl SortKey {
     pub fn view_position(self) -> u16
         ensures { result ≡ self.position }
     {
-        (self.bits >> (64 - POSITION_BITS)) as u16
+        (self.bits >> POSITION) as u16
     }
 
     /// The fields of this key.
@@ -153,30 +189,30 @@ impl SortKey {
     {
         let position = self.view_position();
         let at = |low: u32, count: u32| self.bits >> low & ((1 << count) - 1);
-        match at(61 - POSITION_BITS, 2) {
+        match at(TYPE, TYPE_BITS) {
             0 => KeyFields {
                 position,
                 mode_type: 0,
-                blended: at(59 - POSITION_BITS, 2) == 1,
-                program: at(50 - POSITION_BITS, 9) as u16,
-                depth_field: at(18 - POSITION_BITS, 32) as u32,
+                blended: at(BLEND_BY_PROGRAM, BLEND_BITS) == 1,
+                program: at(PROGRAM_BY_PROGRAM, PROGRAM_BITS) as u16,
+                depth_field: at(DEPTH_BY_PROGRAM, DEPTH_BITS) as u32,
                 number: 0,
             },
             1 => KeyFields {
                 position,
                 mode_type: 1,
-                blended: at(27 - POSITION_BITS, 2) == 1,
-                program: at(18 - POSITION_BITS, 9) as u16,
-                depth_field: at(29 - POSITION_BITS, 32) as u32,
+                blended: at(BLEND_BY_DEPTH, BLEND_BITS) == 1,
+                program: at(PROGRAM_BY_DEPTH, PROGRAM_BITS) as u16,
+                depth_field: at(DEPTH_BY_DEPTH, DEPTH_BITS) as u32,
                 number: 0,
             },
             _ => KeyFields {
                 position,
                 mode_type: 2,
-                blended: at(31, 2) == 1,
-                program: at(22, 9) as u16,
+                blended: at(BLEND_BY_NUMBER, BLEND_BITS) == 1,
+                program: at(PROGRAM_BY_NUMBER, PROGRAM_BITS) as u16,
                 depth_field: 0,
-                number: at(33, 20) as u32,
+                number: at(NUMBER_BY_NUMBER, NUMBER_BITS) as u32,
             },
         }
     }

@@ -8,25 +8,25 @@ use gfx_words::ViewMode;
 fn worked_keys(rt: HostRuntime) {
     assert_eq!(rt;
         SortKey::draw(ViewMode::Default, 0, false, 511, 0, 0).bits(),
-        0x0087_fc00_0000_0000
+        0x0043_fe00_0000_0000
     );
     assert_eq!(rt;
         SortKey::draw(ViewMode::DepthDescending, 0, false, 0, 0, 0).bits(),
-        0x00bf_ffff_ffe0_0000
+        0x005f_ffff_fff0_0000
     );
     assert_eq!(rt;
         SortKey::draw(ViewMode::Sequential, 2, true, 3, 77, 5).bits(),
-        0x02c0_000a_80c0_0000
+        0x0160_000a_80c0_0000
     );
 }
 
 #[test]
 fn fields_come_back(rt: HostRuntime) {
-    let key = SortKey::draw(ViewMode::DepthDescending, 255, true, 510, 7, 9);
+    let key = SortKey::draw(ViewMode::DepthDescending, 511, true, 510, 7, 9);
     assert_eq!(rt;
         key.decode(),
         KeyFields {
-            position: 255,
+            position: 511,
             mode_type: 1,
             blended: true,
             program: 510,
@@ -35,7 +35,7 @@ fn fields_come_back(rt: HostRuntime) {
         }
     );
     assert_eq!(rt; key.view_position(), 255);
-    let sequential = SortKey::draw(ViewMode::Sequential, 3, false, 1, 7, 1_048_575);
+    let sequential = SortKey::draw(ViewMode::Sequential, 3, false, 1, 7, 524_287);
     assert_eq!(rt;
         sequential.decode(),
         KeyFields {
@@ -44,14 +44,14 @@ fn fields_come_back(rt: HostRuntime) {
             blended: false,
             program: 1,
             depth_field: 0,
-            number: 1_048_575
+            number: 524_287
         }
     );
 }
 
 fn bits(mode: ViewMode, program: u16, depth: u32, number: u32) -> u64
     requires program { program ≤ 511 }
-    requires number { number < 2 ^ 20 }
+    requires number { number < 2 ^ 19 }
 {
     SortKey::draw(mode, 1, false, program, depth, number).bits()
 }

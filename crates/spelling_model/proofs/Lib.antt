@@ -20,3 +20,4 @@ pub mod Reading
 mod Examples
 pub mod LineTexts
 pub mod Writing
+pub mod Fronts

@@ -57,7 +57,7 @@ lines_of_text bytes = kept_lines (split_at 10 bytes) (pieces_free bytes)
 
 -- ---- the text of lines
 
-line_joined : (fs : List Field) → line_text fs ≡ joined_by 32 fs ++ 10 ∷ []
+pub line_joined : (fs : List Field) → line_text fs ≡ joined_by 32 fs ++ 10 ∷ []
 line_joined [] = refl
 line_joined (f ∷ []) = refl
 line_joined (f ∷ g ∷ fs) = ap (λ k. f ++ 32 ∷ k) (line_joined (g ∷ fs)) ∙ sym (append_assoc f (32 ∷ joined_by 32 (g ∷ fs)) (10 ∷ []))

@@ -2,7 +2,7 @@
 use Rattle.std.proofs.Common.{◌≡◌, true, not, List, [], ◌∷◌, ◌++◌, Option, Some, None, Ok, refl, subst, sym, append_assoc}
 use Rattle.std.specs.List.{list_all}
 use Rattle.std.proofs.lemmas.List.{append-nil}
-use Rattle.scene_model.specs.Scene.{views_in}
+use Rattle.scene_model.specs.Scene.{newest_version, views_in}
 use Rattle.scene_model.specs.Field.{Read, ◌>>=◌, bad_byte, misplaced_word, unknown_version, find_word}
 use Rattle.scene_model.specs.Grammar.{Field, field, Word, scene_word, size_word, encoders_word, room_word, latency_word, frame_word, encoder_word, beside_word, done_word, journal_word, layout_word, vertex_buffer_word, index_buffer_word, texture_word, frame_buffer_word, program_word, uniform_word, update_word, texel_update_word, destroy_word, view_word, order_word, state_word, stencil_word, scissor_word, transform_word, vertices_word, indices_word, transient_vertices_word, transient_indices_word, bind_word, set_word, submit_word, touch_word, blit_word, words, whole_language, can_stand, says_latency, is_next_of, last_encoder, blocks_of_last, is_in_place, Reading, unless, is_text_byte, is_other_version, are_filled_before, after_word, after_fields}
 use Rattle.spelling_model.proofs.Read.{bind_ok, same_ok, unless_ok, both}
@@ -74,7 +74,7 @@ kept_step fs r q e =
     by : (o : Option Word) → find_word words (field fs 0) ≡ o → after_fields whole_language r fs o ≡ Ok q → StepTakes fs r q
     by None h e = absurd (cc e)
     by (Some w) h e =
-        let v = bind_ok (unless (not (is_other_version fs)) unknown_version) _ q e in
+        let v = bind_ok (unless (not (is_other_version newest_version fs)) unknown_version) _ q e in
         let place = bind_ok (unless (is_in_place r w fs) misplaced_word) _ q v.2 in
         let filled = bind_ok (are_filled_before w fs) _ q place.2 in
         word_step fs r q w (word_takes (field fs 0) w h) (unless_ok (is_in_place r w fs) misplaced_word place.0 place.1) filled.2

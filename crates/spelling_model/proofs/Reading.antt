@@ -1,5 +1,5 @@
 -- The joining of the two ways of saying a scene's text: bytes are read as a scene exactly where the scene is readable and they spell it.
-use Rattle.std.proofs.Common.{◌≡◌, ℕ, true, List, [], ◌∷◌, ◌++◌, Ok, Result, refl, ap, subst, sym, ◌∙◌, append_assoc}
+use Rattle.std.proofs.Common.{arith, ◌≡◌, ℕ, true, List, [], ◌∷◌, ◌++◌, Ok, Result, refl, ap, subst, sym, ◌∙◌, append_assoc}
 use Rattle.std.specs.Prelude.{codes}
 use Rattle.scene_model.specs.Scene.{Scene, IsVersion}
 use Rattle.scene_model.specs.Grammar.{Field, Stage, at_front, at_size, at_encoders, at_room, at_latency, at_first_frame, in_before, in_block, in_beside, at_end, is_at_end, Reading, nothing_read, scene_read, Fault, scene_of, whole_language}
@@ -62,7 +62,7 @@ same_reading s xs ys version x y =
 read_again : (s : Scene) (text bytes : List ℕ) → scene_of whole_language text ≡ Ok s → Spells bytes s → scene_of whole_language bytes ≡ Ok s
 read_again s text bytes e k =
     let t = fields_read text s e in
-    bytes_read bytes t.1 k.0 (same_reading s (kept_fields bytes) (kept_fields text) (read-version whole_language text s e) k.1 (spells s text e).1 ∙ t.2) t.3 ∙ ap (λ s. Ok s) t.4
+    bytes_read bytes t.1 k.0 (same_reading s (kept_fields bytes) (kept_fields text) (read-version whole_language text s (omega arith) e) k.1 (spells s text e).1 ∙ t.2) t.3 ∙ ap (λ s. Ok s) t.4
 
 -- ---- the laws
 

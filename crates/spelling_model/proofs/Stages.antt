@@ -37,7 +37,7 @@ kept_word : (r q : Reading) (fs : List Field) (w : Word) → find_word words (fi
 kept_word r q fs w is e =
     let t = bind_ok (unless (list_all (list_all is_text_byte) fs) bad_byte) _ q e in
     let k : after_fields whole_language r fs (Some w) ≡ Ok q = ap (after_fields whole_language r fs) (sym is) ∙ t.2 in
-    let v = bind_ok (unless (not (is_other_version fs)) unknown_version) _ q k in
+    let v = bind_ok (unless (not (is_other_version newest_version fs)) unknown_version) _ q k in
     let place = bind_ok (unless (is_in_place r w fs) misplaced_word) _ q v.2 in
     let filled = bind_ok (are_filled_before w fs) _ q place.2 in
     filled.2

@@ -1,7 +1,7 @@
 -- The bytes of a scene's lines, and that they are read as the scene again.
 use Rattle.std.specs.Prelude.{◌≡◌, ℕ, Bool, true, not, ◌==◌, List, [], ◌∷◌, ◌++◌, map, flat_map, length, Ok, codes}
 use Rattle.scene_model.specs.Scene.{SceneFrame, Scene}
-use Rattle.scene_model.specs.Grammar.{Field, says_latency, scene_of, whole_language}
+use Rattle.scene_model.specs.Grammar.{Field, says_latency, scene_of, front_of, whole_language}
 use Rattle.spelling_model.specs.LineSpelling.{spelled_lines}
 use Rattle.spelling_model.specs.Spelling.{MayLeaveRoom, MayLeaveLatency, MayLeaveBesides, IsReadable}
 
@@ -15,6 +15,7 @@ line_text (f ∷ g ∷ fs) = f ++ (codes " " ++ line_text (g ∷ fs))
 abbrev pub scene_text : (with_room with_latency : Bool) → List Bool → Scene → List ℕ
 scene_text with_room with_latency besides s = flat_map line_text (spelled_lines with_room with_latency besides s)
 
+-- whether lines stand beside a frame's drawing
 abbrev pub has_beside : SceneFrame → Bool
 has_beside f = not (length f.beside == 0)
 
@@ -27,3 +28,7 @@ abbrev pub WritingLaw : Type 0
 WritingLaw = (s : Scene) → IsReadable s
     → ((with_room with_latency : Bool) (besides : List Bool) → MayLeaveRoom with_room s → MayLeaveLatency with_latency s.version s.latency → MayLeaveBesides besides s.frames → scene_of whole_language (scene_text with_room with_latency besides s) ≡ Ok s)
     × (scene_of whole_language (written s) ≡ Ok s)
+
+-- what is written of a readable scene is a front of each text that begins with it
+abbrev pub WrittenFrontLaw : Type 0
+WrittenFrontLaw = (s : Scene) (rest : List ℕ) → IsReadable s → front_of whole_language (written s ++ rest) ≡ Ok (s, length (written s))

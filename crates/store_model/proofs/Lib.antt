@@ -1,1 +1,5 @@
 pub mod SlotLaws
+pub mod AttachLaws
+pub mod NewestLaws
+pub mod TargetLaws
+pub mod NothingLaws

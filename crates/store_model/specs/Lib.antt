@@ -1,3 +1,4 @@
 pub mod Slots
 pub mod Buffers
 pub mod Textures
+pub mod Laws

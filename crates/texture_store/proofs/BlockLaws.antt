@@ -121,7 +121,7 @@ in_the_row x y w r c p a b e =
     (and_from (nat_le x c && nat_lt c (x + w)) (nat_le y p) (and_from (nat_le x c) (nat_lt c (x + w)) (le-leb x c a) (lt-ltb c (x + w) b)) (le-leb y p (omega (arith, e))))
     (lt-ltb p (y + (r + 1)) (omega (arith, e)))
 
-column_of : (q width c i : ℕ) → c < width → i ≡ q * width + c → (i % width ≡ c) × (i / width ≡ q)
+pub column_of : (q width c i : ℕ) → c < width → i ≡ q * width + c → (i % width ≡ c) × (i / width ≡ q)
 column_of q width c i lt e =
     let row : i / width ≡ q = ap (λ k. k / width) e ∙ div-mul-add q width c lt in
     let whole : q * width + i % width ≡ q * width + c = ap (λ k. k * width + i % width) (sym row) ∙ div-add-mod' i width ∙ e in

@@ -1,6 +1,6 @@
 pub mod BlockLaws
 pub mod RowLaws
 pub mod CutLaws
+pub mod PartLaws
 pub mod TextureLaws
-pub mod AttachLaws
 pub mod TakeLaws

@@ -10,7 +10,7 @@ use Rattle.fix_math.specs.declared.picture.Texels as picture
 use Rattle.store_model.specs.Slots.{at, changed_at}
 use Rattle.store_model.specs.Textures.{TextureSlot, TargetSlot, sides_at, can_attach_at, texels_in_row, with_depth, attached_texels, slot_out, slot_with, depth_out, depth_back, attached_out, attached_back, Textures, out_at, IsOut, IsOutAt, with_texels_here, slot_texels, out_sides}
 use Rattle.texture_store.specs.Seen.{target_seen, sides_seen}
-use Rattle.texture_store.proofs.AttachLaws.{Keeps, keeps_out, keeps_with, keeps_here, apart_of, one_size, out_taken, at_beside}
+use Rattle.store_model.proofs.AttachLaws.{Keeps, keeps_out, keeps_with, keeps_here, apart_of, one_size, out_taken, at_beside}
 use Rattle.texture_store.proofs.TextureLaws.{over_same}
 
 -- ---- formats and sides are kept

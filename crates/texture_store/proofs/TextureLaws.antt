@@ -7,10 +7,7 @@ use Rattle.gfx_model.specs.Number.{map_from}
 use Rattle.gfx_model.specs.Raster.{Texels}
 use Rattle.store_model.specs.Slots.{at, filled_at, emptied_at, changed_at}
 use Rattle.store_model.specs.Textures.{Held, here, taken, texels_in, slot_texels, texels_in_row, with_texels_here, TextureSlot, TargetSlot, holds, slot_holds, unless_held, unless_holding}
-use Rattle.store_model.proofs.SlotLaws.{changed_again}
-
-pub same_slot : {X : Type 0} (slots : List (Option X)) (i : ℕ) → set slots i (at slots i) ≡ slots
-same_slot slots i = ap (set slots i) (unwrap_or-slice_get slots i None) ∙ set-get_or slots i None
+use Rattle.store_model.proofs.SlotLaws.{changed_again, same_slot}
 
 -- a thing that is taken out and put back as it was
 pub back_again : {X : Type 0} (slots : List (Option X)) (i : ℕ) (x : X) → Some x ≡ at slots i → filled_at i x (emptied_at i slots) ≡ slots

@@ -1,4 +1,5 @@
 pub mod Block
+pub mod Cut
 pub mod Seen
 pub mod Held
 pub mod Inside

@@ -2,34 +2,38 @@
 use Rattle.std.specs.Prelude.{ℕ, List, Option, option_map}
 use Rattle.fix_math.specs.declared.picture.Texels as texels
 use Rattle.fix_math.specs.Seen.{texels_seen}
-use Rattle.gfx_model.specs.Number.{map_from}
 use Rattle.gfx_model.specs.Raster.{Texels}
 use Rattle.gfx_model.specs.Resources.{TexelSource, fill_source, bytes_source}
 use Rattle.store_model.specs.Textures.{Region}
 use Rattle.texture_store.specs.declared.source.BlitBox.{BlitBox}
 use Rattle.texture_store.specs.declared.source.TexSource.{TexSource}
-use Rattle.texture_store.specs.declared.source.TexSource.TheVariants as sources
+use Rattle.texture_store.specs.declared.source.TexSource.TheVariants as own_sources
+use Rattle.texture_store.specs.declared.source.TexelSource as lent
+use Rattle.texture_store.specs.declared.source.TexelSource.TheVariants as sources
 use Rattle.texture_store.specs.declared.rows.Cut.{Cut}
-use Rattle.texture_store.specs.Block.{in_block, texel_of_row}
 
-abbrev pub source_seen : TexSource → TexelSource
+-- a source whose bytes are lent
+abbrev pub source_seen : lent.TexelSource → TexelSource
 source_seen (sources.Fill color) = fill_source color
-source_seen (sources.Bytes bytes) = bytes_source bytes.items
+source_seen (sources.Bytes bytes) = bytes_source bytes.now
 
+-- a source that owns its bytes
+abbrev pub own_source_seen : TexSource → TexelSource
+own_source_seen (own_sources.Fill color) = fill_source color
+own_source_seen (own_sources.Bytes bytes) = bytes_source bytes.items
+
+-- the region of a blit
 abbrev pub region_seen : BlitBox → Region
 region_seen b = record { dx = b.dx; dy = b.dy; sx = b.sx; sy = b.sy; w = b.w; h = b.h }
 
+-- a region that is cut
 abbrev pub cut_seen : Cut → Region
 cut_seen c = record { dx = c.dx; dy = c.dy; sx = c.sx; sy = c.sy; w = c.w; h = c.h }
 
--- the destination with a region that lies within it and within the source
-abbrev pub cut_copied : Region → Texels → Texels → Texels
-cut_copied r source d = record d {
-  texels = map_from (in_block d.width r.dx r.dy r.w r.h (texel_of_row source.texels source.width r.dx r.dy r.sx r.sy)) 0 d.texels;
-}
-
+-- the texels of a colour texture and of a depth texture, if there is one
 abbrev pub target_seen : texels.Texels × Option texels.Texels → Texels × Option Texels
 target_seen p = (texels_seen p.0, option_map texels_seen p.1)
 
+-- the sides of texels
 abbrev pub sides_seen : texels.Texels → ℕ × ℕ
 sides_seen t = (t.width, t.height)

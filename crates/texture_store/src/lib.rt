@@ -9,7 +9,7 @@ mod targets;
 mod texture;
 mod textures;
 
-pub use source::{BlitBox, TexSource};
+pub use source::{BlitBox, TexSource, TexelSource};
 pub use store::TextureStore;
 
 #[cfg(test)]

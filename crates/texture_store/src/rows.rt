@@ -1,12 +1,8 @@
 // Texels moved row by row.
-ghost use Rattle.std.specs.Prelude.{◌≡◌, ◌+◌, ◌-◌, ◌*◌, ◌<◌, ◌≤◌, ◌++◌, length, map, take, drop, slice_index_or, IfOk};
-ghost use Rattle.std.specs.List.{range_with_len};
+ghost use Rattle.std.specs.Prelude.{◌≡◌, ◌+◌, ◌*◌, ◌≤◌, ◌++◌, length, take, drop, IfOk};
 ghost use Rattle.gfx_model.specs.Number.{map_from};
-ghost use Rattle.gfx_model.specs.Raster.{no_color};
-ghost use Rattle.gfx_model.specs.World.{texel_in};
-ghost use Rattle.texture_store.specs.Block.{in_block, texel_of_row, texel_of_bytes};
+ghost use Rattle.texture_store.specs.Block.{in_block, texel_of_row, texels_of_bytes, part_of as part_of_picture};
 
-use fix_math::Rect;
 use std::alloc::{AllocError, Global};
 
 /// A region that lies within its source and its destination.
@@ -65,50 +61,38 @@ pub(crate) fn copy_rows(
     }
 }
 
-fn texel(bytes: &[u8], number: usize) -> [u8; 4]
-    requires { 4 * number + 4 ≤ length bytes.now }
-    ensures { result ≡ texel_in bytes.now number }
+/// Bytes as texels of four each; what makes no whole texel is left out.
+pub(crate) fn as_texels(bytes: &[u8]) -> &[[u8; 4]]
+    ensures { result.now ≡ texels_of_bytes bytes.now }
 {
-    let at = 4 * number;
-    [bytes[at], bytes[at + 1], bytes[at + 2], bytes[at + 3]]
+    let (texels, _) = bytes.as_chunks::<4>();
+    texels
 }
 
-// The texels of bytes from a number on.
-fn put_texels(to: &mut [[u8; 4]], at: usize, bytes: &[u8], first: usize, w: u16)
-    requires room { at + w ≤ length to.old }
-    requires enough { 4 * (first + w) ≤ length bytes.now }
-    ensures { to.new ≡ take at to.old ++ map (texel_in bytes.now) (range_with_len first w) ++ drop (at + w) to.old }
+/// The texels of bytes, in memory of their own.
+pub(crate) fn texels_of(alloc: Global, bytes: &[u8]) -> Result<Vec<[u8; 4]>, AllocError>
+    ensures { IfOk result (λ texels. texels.items ≡ texels_of_bytes bytes.now) }
 {
-    for k in 0..w {
-        to[at + k as usize] = texel(bytes, first + k as usize);
-    }
-}
-
-/// Writes the texels of bytes, four a texel, into a rectangle.
-pub(crate) fn write_rows(to: &mut [[u8; 4]], width: u16, rect: &Rect, bytes: &[u8])
-    requires right { rect.now.x + rect.now.w ≤ width }
-    requires below { (rect.now.y + rect.now.h) * width ≤ length to.old }
-    requires enough { length bytes.now ≡ 4 * (rect.now.w * rect.now.h) }
-    ensures { to.new ≡ map_from (in_block width rect.now.x rect.now.y rect.now.w rect.now.h (texel_of_bytes bytes.now rect.now.x rect.now.y rect.now.w)) 0 to.old }
-{
-    for r in 0..rect.h {
-        let at = place(rect.y as u32 + r as u32, width, rect.x);
-        put_texels(to, at, bytes, place(r as u32, rect.w, 0), rect.w);
-    }
-}
-
-/// The texels of bytes, four a texel.
-pub(crate) fn texels_of(
-    alloc: Global,
-    bytes: &[u8],
-    count: usize,
-) -> Result<Vec<[u8; 4]>, AllocError>
-    requires { length bytes.now ≡ 4 * count }
-    ensures { IfOk result (λ texels. texels.items ≡ map (texel_in bytes.now) (range_with_len 0 count)) }
-{
-    let mut texels = Vec::with_capacity(alloc, count)?;
-    for k in 0..count {
-        texels.push(texel(bytes, k))?;
-    }
+    let mut texels = Vec::new(alloc);
+    texels.extend_from_slice(as_texels(bytes))?;
     Ok(texels)
+}
+
+/// The part of a picture that a region is copied from, in memory of its own.
+pub(crate) fn part_of(
+    alloc: Global,
+    from: &[[u8; 4]],
+    from_width: u16,
+    cut: &Cut,
+) -> Result<Vec<[u8; 4]>, AllocError>
+    requires right { cut.now.sx + cut.now.w ≤ from_width }
+    requires below { (cut.now.sy + cut.now.h) * from_width ≤ length from.now }
+    ensures { IfOk result (λ part. part.items ≡ part_of_picture from.now from_width cut.now.sx cut.now.sy cut.now.w cut.now.h) }
+{
+    let mut part = Vec::with_capacity(alloc, place(cut.h as u32, cut.w, 0))?;
+    for r in 0..cut.h {
+        let at = place(cut.sy as u32 + r as u32, from_width, cut.sx);
+        part.extend_from_slice(row_of(from, at, cut.w))?;
+    }
+    Ok(part)
 }

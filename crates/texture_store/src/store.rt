@@ -2,16 +2,18 @@
 ghost use Rattle.std.specs.Prelude.{◌≡◌, ◌≢◌, ◌+◌, ◌*◌, ◌<◌, ◌≤◌, true, false, length, map, Some, None, IfOk, IfSome, IsOk, IsSome, MatchOption, MatchResult, option_map, is_some};
 ghost use Rattle.std.specs.Option.{option_and_then};
 ghost use Rattle.gfx_model.specs.Raster as raster;
-ghost use Rattle.gfx_model.specs.Resources.{first_refusal, wrong_kind};
+ghost use Rattle.gfx_model.specs.Words.{texture_kind, frame_buffer_kind, greatest};
+ghost use Rattle.gfx_model.specs.Resources.{first_refusal, wrong_kind, texels_from};
 ghost use Rattle.gfx_model.specs.World.{with_texels_in};
-ghost use Rattle.gfx_words.specs.Seen.{format_seen, refusal_seen};
+ghost use Rattle.gfx_words.specs.Seen.{format_seen, refusal_seen, IsFirstRefusal};
 ghost use Rattle.fix_math.specs.Seen.{rect_seen, texels_seen};
 ghost use Rattle.store_model.specs.Slots.{at, filled_at, emptied_at, changed_at};
-ghost use Rattle.store_model.specs.Textures.{no_textures, texels_at as texels_in_store, new_texture, source_texels, create_refusals, update_refusals, changed_texels, copied_region, can_attach_at, destroyed, attached_texels, target_texels, target_out, attached_back, IsOutAt};
+ghost use Rattle.store_model.specs.Textures.{no_textures, texels_at as texels_in_store, new_texture, create_refusals, update_refusals, changed_texels, copied_region, can_attach_at, destroyed, attached_texels, target_texels, target_out, target_back, IsTextures, IsOutAt};
 ghost use Rattle.texture_store.specs.Seen.{source_seen, region_seen, target_seen, sides_seen};
+ghost use Rattle.texture_store.specs.Cut.{writes_nothing};
 
 use crate::pictures::made;
-use crate::source::{BlitBox, TexSource};
+use crate::source::{BlitBox, TexelSource};
 use crate::targets::{Target, detach_holders};
 use crate::texture::Texture;
 use crate::textures::{
@@ -19,7 +21,7 @@ use crate::textures::{
     texels_at, update_at,
 };
 use fix_math::{Rect, Texels};
-use gfx_words::{Format, Refusal};
+use gfx_words::{Format, Kind, Refusal};
 use slot_row::Row;
 use std::alloc::{AllocError, Global};
 use std::marker::Model;
@@ -49,13 +51,21 @@ impl TextureStore {
     pub fn new(alloc: Global) -> Result<TextureStore, AllocError>
         ensures { IfOk result (λ store. store ≡ no_textures) }
     {
-        let textures = Row::new(alloc, 1024)?;
-        let targets = Row::new(alloc, 128)?;
+        let textures = Row::new(alloc, Kind::Texture.greatest())?;
+        let targets = Row::new(alloc, Kind::FrameBuffer.greatest())?;
         Ok(TextureStore {
             alloc,
             textures,
             targets,
         })
+    }
+
+    /// Does nothing. It tells what holds of each store: how many slots its rows have, and that the textures of each
+    /// frame buffer are there, with their formats and one size.
+    pub fn tell_facts(&self)
+        ensures { IsTextures self.now }
+    {
+        let _ = &self.textures;
     }
 
     /// Makes a texture. The index is below 1,024 and has no texture. `BadSize` exactly where a side is 0 or over
@@ -66,13 +76,13 @@ impl TextureStore {
         width: u16,
         height: u16,
         format: Format,
-        source: TexSource,
+        source: TexelSource<'_>,
     ) -> Result<(), Refusal>
-        requires below { index < 1024 }
+        requires below { index < greatest texture_kind }
         requires free { at self.old.textures index ≡ None }
-        ensures { let refusal = first_refusal (create_refusals width height (source_seen source)) in
+        ensures { let refusal = first_refusal (create_refusals width height (source_seen source.entry)) in
             MatchResult result
-            (λ _. (refusal ≡ None) × (self.new ≡ record self.old { textures = filled_at index (new_texture (format_seen format) (source_texels width height (source_seen source))) self.old.textures }))
+            (λ _. (refusal ≡ None) × (self.new ≡ record self.old { textures = filled_at index (new_texture (format_seen format) (texels_from width height (source_seen source.entry))) self.old.textures }))
             (λ r. (refusal_seen r ≡ refusal) × (self.new ≡ self.old)) }
     {
         let texels = made(self.alloc, width, height, source)?;
@@ -88,7 +98,7 @@ impl TextureStore {
             let refusal = first_refusal (update_refusals texels (rect_seen rect) bytes.now) in
             MatchResult result
             (λ _. (refusal ≡ None) × (self.new ≡ changed_texels (with_texels_in (rect_seen rect) bytes.now) index self.old))
-            (λ r. (refusal_seen r ≡ refusal) × (self.new ≡ self.old))) }
+            (λ r. IsFirstRefusal refusal r × (self.new ≡ self.old))) }
     {
         self.check_update(index, &rect, bytes)?;
         update_at(&mut self.textures, index, &rect, bytes);
@@ -98,7 +108,7 @@ impl TextureStore {
     fn check_update(&self, index: u16, rect: &Rect, bytes: &[u8]) -> Result<(), Refusal>
         ensures { IfSome (texels_in_store self.now index) (λ texels.
             let refusal = first_refusal (update_refusals texels (rect_seen rect.now) bytes.now) in
-            MatchResult result (λ _. refusal ≡ None) (λ r. refusal_seen r ≡ refusal)) }
+            MatchResult result (λ _. refusal ≡ None) (λ r. IsFirstRefusal refusal r)) }
     {
         match texels_at(&self.textures, index) {
             Some(texels) => check_rect(texels, rect, bytes),
@@ -109,7 +119,7 @@ impl TextureStore {
     /// Makes a frame buffer. The index is below 128 and has no frame buffer. `WrongKind` exactly where `color` is no
     /// RGBA8 texture, `depth` is no D24S8 texture, or their sizes differ.
     pub fn attach(&mut self, index: u16, color: u16, depth: Option<u16>) -> Result<(), Refusal>
-        requires below { index < 128 }
+        requires below { index < greatest frame_buffer_kind }
         requires free { at self.old.targets index ≡ None }
         ensures { MatchResult result
             (λ _. (can_attach_at self.old.textures color depth ≡ true) × (self.new ≡ record self.old { targets = filled_at index (record { color = color; depth = depth }) self.old.targets }))
@@ -124,14 +134,16 @@ impl TextureStore {
 
     /// Takes a frame buffer out. Where it is not there, nothing changes.
     pub fn detach(&mut self, index: u16)
-        ensures { self.new ≡ record self.old { targets = emptied_at index self.old.targets } }
+        ensures taken { self.new ≡ record self.old { targets = emptied_at index self.old.targets } }
+        ensures nothing { at self.old.targets index ≡ None → self.new ≡ self.old }
     {
         let _ = self.targets.take(index);
     }
 
     /// Takes a texture out, and the frame buffers that hold it. Where it is not there, nothing changes.
     pub fn destroy(&mut self, index: u16)
-        ensures { self.new ≡ destroyed index self.old }
+        ensures taken { self.new ≡ destroyed index self.old }
+        ensures nothing { at self.old.textures index ≡ None → self.new ≡ self.old }
     {
         let _ = self.textures.take(index);
         detach_holders(&mut self.targets, index);
@@ -198,7 +210,7 @@ impl TextureStore {
     /// buffer has a depth texture, and the sizes are those of the texels that were taken.
     pub fn put_target(&mut self, index: u16, color: Texels, depth: Option<Texels>)
         requires { IsOutAt self.old index (sides_seen color) (option_map sides_seen depth) }
-        ensures { MatchOption (at self.old.targets index) (self.new ≡ self.old) (λ t. self.new ≡ record self.old { textures = attached_back t (texels_seen color) (option_map texels_seen depth) self.old.textures }) }
+        ensures { self.new ≡ target_back index (texels_seen color) (option_map texels_seen depth) self.old }
     {
         if let Some(target) = self.targets.get(index) {
             put_attached(
@@ -212,12 +224,13 @@ impl TextureStore {
     }
 
     /// Copies a region between two textures, cut to both. Within one texture the texels are read as they were; that
-    /// alone takes memory. Where the source is not there or is taken out, nothing changes and it succeeds.
+    /// alone takes memory, for the cut region, and none where nothing is left of it. Where the source is not there or
+    /// is taken out, nothing changes and it succeeds.
     pub fn blit(&mut self, copy: BlitBox) -> Result<(), AllocError>
         ensures copied { MatchOption (texels_in_store self.old copy.src) (self.new ≡ self.old) (λ source.
             MatchResult result (λ _. self.new ≡ changed_texels (copied_region (region_seen copy) source) copy.dst self.old) (λ _. self.new ≡ self.old)) }
         ensures apart { copy.src ≢ copy.dst → IsOk result }
-        ensures away { texels_in_store self.old copy.src ≡ None → IsOk result }
+        ensures nothing { writes_nothing (region_seen copy) (texels_in_store self.old copy.src) ≡ true → IsOk result }
     {
         if copy.src == copy.dst {
             copy_over(&mut self.textures, self.alloc, &copy)

@@ -1,8 +1,10 @@
 // Frame buffers by index: the indices of their textures.
 ghost use Rattle.std.specs.Prelude.{◌≡◌, length, map, slice_set};
+ghost use Rattle.gfx_model.specs.Words.{frame_buffer_kind, greatest};
 ghost use Rattle.store_model.specs.Slots.{at};
 ghost use Rattle.store_model.specs.Textures.{TargetSlot, holds, slot_holds, unless_holding};
 
+use gfx_words::Kind;
 use slot_row::Row;
 use std::marker::Model;
 
@@ -72,10 +74,10 @@ fn detach_one(targets: &mut Row<Target>, index: u16, texture: u16)
 
 /// Takes out the frame buffers that hold a texture.
 pub(crate) fn detach_holders(targets: &mut Row<Target>, texture: u16)
-    requires { length targets.old ≡ 128 }
+    requires { length targets.old ≡ greatest frame_buffer_kind }
     ensures { targets.new ≡ map (unless_holding texture) targets.old }
 {
-    for index in 0..128u16 {
+    for index in 0..Kind::FrameBuffer.greatest() {
         detach_one(targets, index, texture);
     }
 }

@@ -1,5 +1,5 @@
 // Textures, frame buffers and blits with values from outside.
-use crate::{BlitBox, TexSource, TextureStore};
+use crate::{BlitBox, TexSource, TexelSource, TextureStore};
 use fix_math::{Rect, Texels};
 use gfx_words::{Format, Refusal};
 use std::alloc::{AllocError, Global};
@@ -13,6 +13,17 @@ fn put(
     height: u16,
     format: Format,
     source: TexSource,
+) -> Option<Refusal> {
+    put_lent(store, index, width, height, format, source.as_source())
+}
+
+fn put_lent(
+    store: &mut TextureStore,
+    index: u16,
+    width: u16,
+    height: u16,
+    format: Format,
+    source: TexelSource<'_>,
 ) -> Option<Refusal> {
     if index >= 1024 || store.has_texture(index) {
         return Some(Refusal::Full);
@@ -107,6 +118,29 @@ fn blits_over_themselves(rt: HostRuntime) -> Result<(), Fail> {
     assert!(rt; within(rt.alloc(), 0, 1, 0, 0, &[0, 1, 2, 0, 1, 2, 3, 4, 5])?);
     assert!(rt; within(rt.alloc(), 0, 0, 0, 1, &[3, 4, 5, 6, 7, 8, 6, 7, 8])?);
     assert!(rt; within(rt.alloc(), 3, 0, 0, 0, &[0, 1, 2, 3, 4, 5, 6, 7, 8])?);
+    Ok(())
+}
+
+#[test]
+fn blits_between_two(rt: HostRuntime) -> Result<(), Fail> {
+    let mut store = TextureStore::new(rt.alloc())?;
+    let bytes = counted(rt.alloc(), 9)?;
+    let fill = TexSource::Fill([9; 4]);
+    let lent = TexelSource::Bytes(&bytes);
+    assert_eq!(rt; put_lent(&mut store, 0, 3, 3, Format::Rgba8, lent), None);
+    assert_eq!(rt; put(&mut store, 1, 2, 2, Format::Rgba8, fill), None);
+    store.blit(BlitBox {
+        dst: 1,
+        dx: 1,
+        dy: 0,
+        src: 0,
+        sx: 1,
+        sy: 1,
+        w: 5,
+        h: 5,
+    })?;
+    assert!(rt; reds(&store, 1, &[9, 4, 9, 7]));
+    assert!(rt; reds(&store, 0, &[0, 1, 2, 3, 4, 5, 6, 7, 8]));
     Ok(())
 }
 

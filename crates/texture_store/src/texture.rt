@@ -1,12 +1,13 @@
 // One texture: its format, and its texels as long as they are not taken out.
-ghost use Rattle.std.specs.Prelude.{◌≡◌, ◌+◌, ◌*◌, ◌≤◌, length, None, option_map, IfSome, IsOk, MatchResult};
+ghost use Rattle.std.specs.Prelude.{◌≡◌, ◌+◌, ◌*◌, ◌≤◌, length, true, option_map, IfSome, IsOk, MatchResult};
 ghost use Rattle.gfx_model.specs.World.{with_texels_in};
 ghost use Rattle.gfx_words.specs.Seen.{format_seen};
 ghost use Rattle.fix_math.specs.Seen.{rect_seen, texels_seen};
 ghost use Rattle.store_model.specs.Textures.{new_texture, slot_texels, slot_out, slot_with, slot_sides, with_texels_here, copied_region};
 ghost use Rattle.texture_store.specs.Seen.{region_seen};
+ghost use Rattle.texture_store.specs.Cut.{writes_nothing};
 
-use crate::pictures::{copy_of, copy_texels, write_texels};
+use crate::pictures::{copy_texels, copy_within, write_texels};
 use crate::source::BlitBox;
 use fix_math::{Rect, Texels};
 use gfx_words::Format;
@@ -118,19 +119,11 @@ impl Texture {
     /// Copies a region of its own texels, which are read as they were.
     pub(crate) fn copy_within(&mut self, alloc: Global, copy: &BlitBox) -> Result<(), AllocError>
         ensures copied { MatchResult result (λ _. self.new ≡ with_texels_here (λ t. copied_region (region_seen copy.now) t t) self.old) (λ _. self.new ≡ self.old) }
-        ensures away { slot_texels self.old ≡ None → IsOk result }
+        ensures nothing { writes_nothing (region_seen copy.now) (slot_texels self.old) ≡ true → IsOk result }
     {
         match &mut self.held {
-            Held::Here(texels) => copy_over(alloc, texels, copy),
+            Held::Here(texels) => copy_within(alloc, texels, copy),
             Held::Taken { .. } => Ok(()),
         }
     }
-}
-
-fn copy_over(alloc: Global, texels: &mut Texels, copy: &BlitBox) -> Result<(), AllocError>
-    ensures { MatchResult result (λ _. texels_seen texels.new ≡ copied_region (region_seen copy.now) (texels_seen texels.old) (texels_seen texels.old)) (λ _. texels_seen texels.new ≡ texels_seen texels.old) }
-{
-    let source = copy_of(alloc, texels)?;
-    copy_texels(texels, &source, copy);
-    Ok(())
 }

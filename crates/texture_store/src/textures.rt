@@ -2,12 +2,13 @@
 ghost use Rattle.std.specs.Prelude.{◌≡◌, ◌≢◌, ◌+◌, ◌*◌, ◌≤◌, length, true, None, option_map, IfSome, IsOk, IsSome, MatchOption, MatchResult, is_some};
 ghost use Rattle.std.specs.Option.{option_and_then};
 ghost use Rattle.gfx_model.specs.World.{with_texels_in};
-ghost use Rattle.gfx_words.specs.Seen.{format_seen, refusal_seen};
+ghost use Rattle.gfx_words.specs.Seen.{format_seen, IsFirstRefusal};
 ghost use Rattle.gfx_model.specs.Resources.{first_refusal, same_sides as same_sides_of};
 ghost use Rattle.fix_math.specs.Seen.{rect_seen, texels_seen};
 ghost use Rattle.store_model.specs.Slots.{at, changed_at};
 ghost use Rattle.store_model.specs.Textures.{slot_texels, texels_in_row, attached_texels, attached_out, attached_back, IsOut, with_depth as with_depth_of, slot_out, slot_with, with_texels_here, copied_region, can_attach_at, update_refusals, sides_at as sides_of};
 ghost use Rattle.texture_store.specs.Seen.{region_seen, target_seen, sides_seen};
+ghost use Rattle.texture_store.specs.Cut.{writes_nothing};
 
 use crate::source::BlitBox;
 use crate::texture::Texture;
@@ -101,7 +102,7 @@ pub(crate) fn copy_over(
     requires { copy.now.src ≡ copy.now.dst }
     ensures copied { MatchOption (texels_in_row textures.old copy.now.src) (textures.new ≡ textures.old) (λ source.
         MatchResult result (λ _. textures.new ≡ changed_at (with_texels_here (copied_region (region_seen copy.now) source)) copy.now.dst textures.old) (λ _. textures.new ≡ textures.old)) }
-    ensures away { texels_in_row textures.old copy.now.src ≡ None → IsOk result }
+    ensures nothing { writes_nothing (region_seen copy.now) (texels_in_row textures.old copy.now.src) ≡ true → IsOk result }
 {
     let done = copy_itself(textures, alloc, copy);
     done
@@ -109,7 +110,7 @@ pub(crate) fn copy_over(
 
 fn copy_itself(textures: &mut Row<Texture>, alloc: Global, copy: &BlitBox) -> Result<(), AllocError>
     ensures copied { MatchResult result (λ _. textures.new ≡ changed_at (with_texels_here (λ t. copied_region (region_seen copy.now) t t)) copy.now.dst textures.old) (λ _. textures.new ≡ textures.old) }
-    ensures away { texels_in_row textures.old copy.now.dst ≡ None → IsOk result }
+    ensures nothing { writes_nothing (region_seen copy.now) (texels_in_row textures.old copy.now.dst) ≡ true → IsOk result }
 {
     match textures.take(copy.dst) {
         Some(mut texture) => {
@@ -144,7 +145,7 @@ fn same_sides(a: Option<(u16, u16)>, b: Option<(u16, u16)>) -> bool
 /// `BadRange` exactly where a rectangle passes a side; then `BadSize` exactly where bytes are not four per texel.
 pub(crate) fn check_rect(texels: &Texels, rect: &Rect, bytes: &[u8]) -> Result<(), Refusal>
     ensures { let refusal = first_refusal (update_refusals (texels_seen texels.now) (rect_seen rect.now) bytes.now) in
-        MatchResult result (λ _. refusal ≡ None) (λ r. refusal_seen r ≡ refusal) }
+        MatchResult result (λ _. refusal ≡ None) (λ r. IsFirstRefusal refusal r) }
 {
     if rect.x as u32 + rect.w as u32 > texels.width as u32 {
         return Err(Refusal::BadRange);

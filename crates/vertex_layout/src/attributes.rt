@@ -27,7 +27,7 @@ pub enum AttrType {
 }
 
 /// An attribute with the place of its first byte within a vertex.
-#[derive(Clone, Copy, Drop, Debug)]
+#[derive(Clone, Copy, Drop, PartialEq, Eq, Debug)]
 pub struct PlacedAttr {
     pub attr: Attr,
     pub kind: AttrType,
@@ -93,7 +93,7 @@ const BLANK: PlacedAttr = PlacedAttr {
 };
 
 /// Attributes in order, of one to four components each, none of them twice. It takes no memory.
-#[derive(Clone, Copy)]
+#[derive(Clone, Copy, Debug)]
 pub struct AttrList {
     slots: [PlacedAttr; 7],
     count: u8,

@@ -8,7 +8,7 @@ use Rattle.view_table.proofs.Permuted.{is_other, filter_range_same, others_lengt
 
 -- a list of tests names just the ids of a list
 pub record Names (count : ℕ) (named : List Bool) (ids : List ℕ) : Type 0 where
-  pub long : length named ≡ count
+  pub long : count ≤ length named
   pub below : AreBelow count ids
   pub once : is_without_repeat ids ≡ true
   pub names : (v : ℕ) → v < count → slice_index_or named v false ≡ is_among v ids
@@ -18,19 +18,15 @@ others_to : (count : ℕ) (named : List Bool) (ids : List ℕ) → Names count n
 others_to count named ids k =
     filter_range_same (is_unnamed named) (is_other ids) 0 count (λ v l m. ap not (k.names v (omega (arith, m))))
 
-others_are : (count : ℕ) (named : List Bool) (ids : List ℕ) → Names count named ids
-    → unnamed named (length named) ≡ filter (is_other ids) (range_with_len 0 count)
-others_are count named ids k = ap (unnamed named) k.long ∙ others_to count named ids k
-
-pub room_of : (count : ℕ) (named : List Bool) (ids : List ℕ) → Names count named ids → length ids + length (unnamed named (length named)) ≡ count
-room_of count named ids k = ap (λ xs. length ids + length xs) (others_are count named ids k) ∙ others_length count ids k.once k.below
+pub room_of : (count : ℕ) (named : List Bool) (ids : List ℕ) → Names count named ids → length ids + length (unnamed named count) ≡ count
+room_of count named ids k = ap (λ xs. length ids + length xs) (others_to count named ids k) ∙ others_length count ids k.once k.below
 
 pub listed_le : (count : ℕ) (ids : List ℕ) → is_without_repeat ids ≡ true → AreBelow count ids → length ids ≤ count
 listed_le count ids once below = omega (arith, others_length count ids once below)
 
 pub filled : (count : ℕ) (named : List Bool) (ids front new : List ℕ) → Names count named ids → take (length ids) front ≡ ids
-    → new ≡ take (length ids) front ++ unnamed named (length named) → new ≡ in_order count ids
-filled count named ids front new k f e = e ∙ ap (λ xs. xs ++ unnamed named (length named)) f ∙ ap (λ xs. ids ++ xs) (others_are count named ids k)
+    → new ≡ take (length ids) front ++ unnamed named count → new ≡ in_order count ids
+filled count named ids front new k f e = e ∙ ap (λ xs. xs ++ unnamed named count) f ∙ ap (λ xs. ids ++ xs) (others_to count named ids k)
 
 pub filled_below : (count : ℕ) (ids new : List ℕ) → AreBelow count ids → is_without_repeat ids ≡ true → new ≡ in_order count ids → AreBelow (length new) new
 filled_below count ids new below once e =

@@ -1,8 +1,9 @@
 -- What a table keeps: its order, and the answers that its calls give.
-use Rattle.std.proofs.Common.{◌≡◌, ◌<◌, ◌+◌, ℕ, Bool, true, false, not, ◌||◌, nat_le, nat_lt, List, [], ◌∷◌, ◌++◌, length, map, replicate, take, drop, filter, slice_index, slice_index_or, slice_set, Option, Some, None, zero, suc, refl, sym, ap, ◌∙◌, arith}
+use Rattle.std.proofs.Common.{◌≡◌, ◌<◌, ◌≤◌, ◌+◌, ℕ, Bool, true, false, not, ◌||◌, nat_le, nat_lt, List, [], ◌∷◌, ◌++◌, length, map, replicate, take, drop, filter, slice_index, slice_index_or, slice_set, Option, Some, None, zero, suc, refl, sym, ap, subst, ◌∙◌, arith}
+use mathlib.Core.Logic.{⊎_elim}
 use Rattle.std.specs.List.{range_with_len, list_any}
 use Rattle.std.proofs.lemmas.Bool.{or_parts, leb-false, le-ltb}
-use Rattle.std.proofs.lemmas.List.{get_or_read, length-map, length-replicate, map-set, append-nil, drop_all, take_all, take-append-le}
+use Rattle.std.proofs.lemmas.List.{get_or_read, length-map, length-replicate, map-set, append-nil, drop_all, take_all, take-append-le, length-take-le}
 use Rattle.std.proofs.lemmas.List.FromFn.{length-range_with_len, get_or-range_with_len}
 use Rattle.gfx_model.specs.Number.{is_among, is_without_repeat, place_of}
 use Rattle.gfx_model.specs.Views as model
@@ -10,7 +11,7 @@ use Rattle.gfx_model.specs.Resources.{Refusal, first_refusal, refusals, set_view
 use Rattle.view_table.specs.declared.views.View.{View}
 use Rattle.view_table.specs.Seen.{view_seen}
 use Rattle.view_table.specs.Answered.{views_alone}
-use Rattle.view_table.specs.Order.{AreBelow, in_order, IsOrder}
+use Rattle.view_table.specs.Order.{AreBelow, in_order, IsOrder, IsViewTable}
 use Rattle.view_table.proofs.Lists.{at_place, place_at}
 use Rattle.view_table.proofs.Permuted.{is_other, order_length, order_has, order_without, order_below}
 use Rattle.view_table.proofs.Filled.{listed_le}
@@ -36,37 +37,39 @@ no_repeat count listed sequence positions k = ap is_without_repeat k.ordered ∙
 -- ---- positions and views
 
 -- the position p that is read for a view
-pub record IsPosition (now : model.Views) (count view p : ℕ) : Type 0 where
+pub record IsPosition (now : model.Views) (view p : ℕ) : Type 0 where
   pub position : p ≡ model.position_of_view now view
   pub inverse : slice_index (model.view_order now) p ≡ view
-  pub below : p < count
+  pub below : p < model.view_count now
 
-pub position_read : (items : List View) (listed : ℕ) (sequence positions : List ℕ) (now : model.Views) (count view p : ℕ)
-    → length items ≡ count → IsOrder (length items) listed sequence positions → views_of items (take listed sequence) ≡ now
-    → view < count → p ≡ slice_index_or positions view p → IsPosition now count view p
-position_read items listed sequence positions now count view p long k e h r =
+pub position_read : (items : List View) (listed : ℕ) (sequence positions : List ℕ) (now : model.Views) (view p : ℕ)
+    → IsOrder (length items) listed sequence positions → views_of items (take listed sequence) ≡ now
+    → view < model.view_count now → p ≡ slice_index_or positions view p → IsPosition now view p
+position_read items listed sequence positions now view p k e h r =
     let o : model.view_order now ≡ sequence = order_is items listed sequence positions now k e in
-    let h2 : view < length items = omega (arith, h, long) in
-    let value : p ≡ place_of view sequence = get_or_read positions view p (omega (arith, h2, k.positions_length)) r 0 ∙ k.placed view h2 in
-    let found = at_place view sequence (has_view (length items) listed sequence positions view k h2) in
+    let count : model.view_count now ≡ length items = count_is items (take listed sequence) now (length items) e refl in
+    let within : view < length items = omega (arith, h, count) in
+    let value : p ≡ place_of view sequence = get_or_read positions view p (omega (arith, within, k.positions_length)) r 0 ∙ k.placed view within in
+    let found = at_place view sequence (has_view (length items) listed sequence positions view k within) in
     record {
       position = value ∙ ap (place_of view) (sym o);
       inverse = ap (λ xs. slice_index xs p) o ∙ ap (slice_index sequence) value ∙ found.1;
-      below = omega (arith, value, found.0, k.sequence_length, long);
+      below = omega (arith, value, found.0, k.sequence_length, count);
     }
 
 -- the view v that is read at a position
-pub record IsViewAt (now : model.Views) (count position v : ℕ) : Type 0 where
+pub record IsViewAt (now : model.Views) (position v : ℕ) : Type 0 where
   pub view : v ≡ slice_index (model.view_order now) position
   pub inverse : model.position_of_view now v ≡ position
-  pub below : v < count
+  pub below : v < model.view_count now
 
-pub view_read : (items : List View) (listed : ℕ) (sequence positions : List ℕ) (now : model.Views) (count position v : ℕ)
-    → length items ≡ count → IsOrder (length items) listed sequence positions → views_of items (take listed sequence) ≡ now
-    → position < count → v ≡ slice_index_or sequence position v → IsViewAt now count position v
-view_read items listed sequence positions now count position v long k e h r =
+pub view_read : (items : List View) (listed : ℕ) (sequence positions : List ℕ) (now : model.Views) (position v : ℕ)
+    → IsOrder (length items) listed sequence positions → views_of items (take listed sequence) ≡ now
+    → position < model.view_count now → v ≡ slice_index_or sequence position v → IsViewAt now position v
+view_read items listed sequence positions now position v k e h r =
     let o : model.view_order now ≡ sequence = order_is items listed sequence positions now k e in
-    let within : position < length sequence = omega (arith, h, k.sequence_length, long) in
+    let count : model.view_count now ≡ length items = count_is items (take listed sequence) now (length items) e refl in
+    let within : position < length sequence = omega (arith, h, k.sequence_length, count) in
     let value : v ≡ slice_index sequence position = get_or_read sequence position v within r 0 in
     let there : slice_index (in_order (length items) (take listed sequence)) position < length items
     = order_below (length items) (take listed sequence) k.below position (omega (arith, within, ap length k.ordered)) in
@@ -74,8 +77,31 @@ view_read items listed sequence positions now count position v long k e h r =
     record {
       view = value ∙ ap (λ xs. slice_index xs position) (sym o);
       inverse = ap (place_of v) o ∙ ap (λ w. place_of w sequence) value ∙ place_at sequence (no_repeat (length items) listed sequence positions k) position within;
-      below = omega (arith, value, same, there, long);
+      below = omega (arith, value, same, there, count);
     }
+
+-- ---- what every table keeps
+
+table_of : (items : List View) (listed : ℕ) (sequence positions : List ℕ) → model.IsViewCount (length items)
+    → IsOrder (length items) listed sequence positions → IsViewTable (views_of items (take listed sequence))
+table_of items listed sequence positions c k =
+    let same : length (map view_seen items) ≡ length items = length-map items view_seen in
+    record {
+      count = rw same c;
+      listed = rw same (omega (arith, length-take-le listed sequence, k.room));
+      listed_below = rw same k.below;
+      listed_once = k.distinct;
+      ordered = rw same (order_length (length items) (take listed sequence) k.distinct k.below);
+      below = rw same (order_below (length items) (take listed sequence) k.below);
+      once = rw same (order_without (length items) (take listed sequence) k.distinct);
+    }
+
+pub table_seen : (items : List View) (listed : ℕ) (sequence positions : List ℕ) (now : model.Views) → model.IsViewCount (length items)
+    → IsOrder (length items) listed sequence positions → views_of items (take listed sequence) ≡ now → IsViewTable now
+table_seen items listed sequence positions now c k e = subst IsViewTable e (table_of items listed sequence positions c k)
+
+pub most_of : (n : ℕ) → model.IsViewCount n → n ≤ 512
+most_of n c = ⊎_elim (λ e. omega (arith, e)) (λ e. omega (arith, e)) c
 
 -- ---- a new table
 
@@ -141,11 +167,11 @@ map-replicate f (suc n) x y e = rw (e, map-replicate f n x y e) refl
 abbrev pub to_back : model.View → model.View
 to_back w = record w { target = None }
 
-pub new_table : (items : List View) (sequence positions : List ℕ) (n : ℕ) → map view_seen items ≡ replicate n model.plain_view
-    → sequence ≡ range_with_len 0 n → positions ≡ range_with_len 0 n → (length items ≡ n) × IsOrder (length items) 0 sequence positions
-new_table items sequence positions n e s p =
+pub new_table : (items : List View) (sequence positions : List ℕ) (n : ℕ) → model.IsViewCount n → map view_seen items ≡ replicate n model.plain_view
+    → sequence ≡ range_with_len 0 n → positions ≡ range_with_len 0 n → model.IsViewCount (length items) × IsOrder (length items) 0 sequence positions
+new_table items sequence positions n c e s p =
     let long : length items ≡ n = sym (length-map items view_seen) ∙ ap length e ∙ length-replicate n model.plain_view in
-    (long, rw (long, s, p) (new_order n))
+    (rw long c, rw (long, s, p) (new_order n))
 
 abbrev with_settings : List model.View → List ℕ → model.Views
 with_settings xs order = record { settings = xs; order = order }
@@ -161,7 +187,7 @@ put_view items order now view v e =
 
 -- ---- the two lists after a new order
 
-pub written : (n : ℕ) (new old : List ℕ) → length new ≡ n → length old ≡ n → take n (new ++ drop (length new) old) ≡ new
+pub written : {A : Type 0} (n : ℕ) (new old : List A) → length new ≡ n → length old ≡ n → take n (new ++ drop (length new) old) ≡ new
 written n new old e f =
     ap (take n) (ap (λ rest. new ++ rest) (drop_all (length new) old (omega (arith, e, f))) ∙ append-nil new) ∙ take_all n new (omega (arith, e))
 

@@ -4,3 +4,4 @@ pub mod Others
 pub mod Permuted
 pub mod Filled
 pub mod Kept
+pub mod TargetLaws

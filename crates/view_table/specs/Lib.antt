@@ -1,3 +1,4 @@
 pub mod Seen
 pub mod Answered
 pub mod Order
+pub mod Targets

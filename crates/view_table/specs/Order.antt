@@ -2,6 +2,7 @@
 use Rattle.std.specs.Prelude.{ℕ, ◌≡◌, ◌<◌, ◌≤◌, Bool, true, false, not, List, ◌++◌, length, take, filter, slice_index, slice_index_or}
 use Rattle.std.specs.List.{range_with_len}
 use Rattle.gfx_model.specs.Number.{is_among, is_without_repeat, place_of}
+use Rattle.gfx_model.specs.Views.{Views, IsViewCount, view_count, view_order}
 
 -- the listed views, then the others below a count ascending
 abbrev pub in_order : ℕ → List ℕ → List ℕ
@@ -26,3 +27,13 @@ pub record IsOrder (count listed : ℕ) (sequence positions : List ℕ) : Type 0
   pub distinct : is_without_repeat (take listed sequence) ≡ true
   pub ordered : sequence ≡ in_order count (take listed sequence)
   pub placed : (view : ℕ) → view < count → slice_index positions view ≡ place_of view sequence
+
+-- what every table keeps: one of the two numbers of views, and an order in which each view stands once
+pub record IsViewTable (vs : Views) : Type 0 where
+  pub count : IsViewCount (view_count vs)
+  pub listed : length vs.order ≤ view_count vs
+  pub listed_below : AreBelow (view_count vs) vs.order
+  pub listed_once : is_without_repeat vs.order ≡ true
+  pub ordered : length (view_order vs) ≡ view_count vs
+  pub below : AreBelow (view_count vs) (view_order vs)
+  pub once : is_without_repeat (view_order vs) ≡ true

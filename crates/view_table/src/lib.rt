@@ -3,9 +3,11 @@
 
 mod order;
 mod table;
+mod targets;
 mod views;
 
-pub use table::{VIEWS, ViewTable};
+pub use table::ViewTable;
+pub use targets::LiveTargets;
 pub use views::{Clear, View};
 
 #[cfg(test)]

@@ -4,7 +4,9 @@ ghost use Rattle.std.specs.List.{list_any};
 ghost use Rattle.gfx_model.specs.Number.{is_among, is_without_repeat, place_of};
 ghost use Rattle.view_table.specs.Order.{AreBelow, in_order, unnamed};
 
-use crate::VIEWS;
+use gfx_words::MOST_VIEWS;
+
+const MOST: usize = MOST_VIEWS as usize;
 
 /// Whether a list names a view that there is not, where there are `count` views.
 pub fn has_stranger(ids: &[u16], count: usize) -> bool
@@ -14,13 +16,13 @@ pub fn has_stranger(ids: &[u16], count: usize) -> bool
 }
 
 /// Which views a list names; None where it names one twice.
-pub fn named_once(ids: &[u16]) -> Option<[bool; VIEWS]>
-    requires { AreBelow VIEWS ids.now }
+pub fn named_once(ids: &[u16]) -> Option<[bool; MOST]>
+    requires { AreBelow MOST ids.now }
     ensures { MatchOption result
         (is_without_repeat ids.now ≡ false)
-        (λ named. (is_without_repeat ids.now ≡ true) × ((v : ℕ) → v < VIEWS → slice_index_or named v false ≡ is_among v ids.now)) }
+        (λ named. (is_without_repeat ids.now ≡ true) × ((v : ℕ) → v < MOST → slice_index_or named v false ≡ is_among v ids.now)) }
 {
-    let mut named = [false; VIEWS];
+    let mut named = [false; MOST];
     for id in ids {
         if named[*id as usize] {
             return None;
@@ -30,14 +32,15 @@ pub fn named_once(ids: &[u16]) -> Option<[bool; VIEWS]>
     Some(named)
 }
 
-// puts the views that are not named behind the listed ones.
+// puts the views that are not named behind the listed ones
 fn put_others(sequence: &mut [u16], listed: usize, named: &[bool])
-    requires room { listed + length (unnamed named.now (length named.now)) ≡ length sequence.old }
-    requires count { length named.now < 2 ^ 16 }
-    ensures { sequence.new ≡ take listed sequence.old ++ unnamed named.now (length named.now) }
+    requires room { listed + length (unnamed named.now (length sequence.old)) ≡ length sequence.old }
+    requires tests { length sequence.old ≤ length named.now }
+    requires count { length sequence.old < 2 ^ 16 }
+    ensures { sequence.new ≡ take listed sequence.old ++ unnamed named.now (length sequence.old) }
 {
     let mut at = listed;
-    for view in 0..named.len() {
+    for view in 0..sequence.len() {
         if !named[view] {
             sequence[at] = view as u16;
             at += 1;
@@ -68,14 +71,14 @@ fn put_listed(sequence: &mut [u16], ids: &[u16])
 
 /// Puts the listed views in front and the others behind them, and writes down the position of each.
 pub fn put_in_order(sequence: &mut [u16], positions: &mut [u16], ids: &[u16], named: &[bool])
-    requires sequence { length sequence.old ≡ VIEWS }
-    requires positions { length positions.old ≡ VIEWS }
-    requires below { AreBelow VIEWS ids.now }
+    requires positions { length positions.old ≡ length sequence.old }
+    requires count { length sequence.old < 2 ^ 16 }
+    requires below { AreBelow (length sequence.old) ids.now }
     requires once { is_without_repeat ids.now ≡ true }
-    requires tests { length named.now ≡ VIEWS }
-    requires named { (v : ℕ) → v < VIEWS → slice_index_or named.now v false ≡ is_among v ids.now }
-    ensures sequence { sequence.new ≡ in_order VIEWS ids.now }
-    ensures positions { (v : ℕ) → v < VIEWS → slice_index positions.new v ≡ place_of v sequence.new }
+    requires tests { length sequence.old ≤ length named.now }
+    requires named { (v : ℕ) → v < length sequence.old → slice_index_or named.now v false ≡ is_among v ids.now }
+    ensures sequence { sequence.new ≡ in_order (length sequence.old) ids.now }
+    ensures positions { (v : ℕ) → v < length sequence.old → slice_index positions.new v ≡ place_of v sequence.new }
 {
     put_listed(sequence, ids);
     put_others(sequence, ids.len(), named);

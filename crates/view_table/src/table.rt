@@ -2,27 +2,25 @@
 ghost use Rattle.std.specs.Prelude.{◌≡◌, ◌<◌, ◌≤◌, IfOk, MatchOption, MatchResult, ◌&&◌, nat_le, map, replicate, slice_index};
 ghost use Rattle.std.specs.List.{range_with_len};
 ghost use Rattle.gfx_model.specs.Resources.{set_view_rect, set_view_scissor, set_view_clear, set_view_mode, set_view_transform, set_view_order, reset_view};
-ghost use Rattle.gfx_model.specs.Views.{plain_view, new_views, view_count, view_at, view_order, position_of_view, set_view};
+ghost use Rattle.gfx_model.specs.Views.{plain_view, new_views, IsViewCount, view_count, view_at, view_order, position_of_view, set_view};
 ghost use Rattle.gfx_words.specs.Seen.{mode_seen};
 ghost use Rattle.fix_math.specs.Seen.{rect_seen, affine_seen};
 ghost use Rattle.view_table.specs.Seen.{view_seen};
 
 use crate::order::{has_stranger, named_once, put_in_order};
-use crate::{Clear, View};
+use crate::targets::keep_targets;
+use crate::{Clear, LiveTargets, View};
 use bitflags::Flags;
 use fix_math::{Affine, Rect};
 use gfx_words::{ClearFlags, Handle, Refusal, ViewMode};
 use std::alloc::{AllocError, Global};
 use std::marker::Model;
 
-/// How many views there are.
-pub const VIEWS: usize = 256;
-
 const GREATEST_DEPTH: u32 = 16_777_215;
 
 /// The settings of each view and the order of the views.
 ///
-/// Settings stay until they are changed. Only `new` and `copy` take memory.
+/// There are 256 or 512 views. Settings stay until they are changed. Only `new` and `copy` take memory.
 #[derive(Drop)]
 pub struct ViewTable {
     settings: Vec<View>,
@@ -35,32 +33,31 @@ pub struct ViewTable {
 
 impl Model for ViewTable {
     ghost use Rattle.std.specs.Prelude.{◌≡◌, ◌<◌, ◌^◌, map, take, length};
-    ghost use Rattle.gfx_model.specs.Views.{Views};
+    ghost use Rattle.gfx_model.specs.Views.{Views, IsViewCount};
     ghost use Rattle.view_table.specs.Seen.{view_seen};
     ghost use Rattle.view_table.specs.Order.{IsOrder};
-    ghost use Rattle.view_table.specs.declared.table.TheConstants.{VIEWS};
 
     ghost Value = { Views };
 
     ghost view = { λ t. record { settings = map view_seen t.settings.items; order = take t.listed t.sequence.items } };
 
-    ghost invariant = { λ t. (length t.settings.items ≡ VIEWS) × IsOrder (length t.settings.items) t.listed t.sequence.items t.positions.items };
+    ghost invariant = { λ t. IsViewCount (length t.settings.items) × IsOrder (length t.settings.items) t.listed t.sequence.items t.positions.items };
 }
 
-fn plain_views(alloc: Global) -> Result<Vec<View>, AllocError>
-    ensures { IfOk result (λ v. map view_seen v.items ≡ replicate VIEWS plain_view) }
+fn plain_views(alloc: Global, count: u16) -> Result<Vec<View>, AllocError>
+    ensures { IfOk result (λ v. map view_seen v.items ≡ replicate count plain_view) }
 {
     let plain = View {
         target: None,
         ..View::plain()
     };
-    vec![in alloc; plain; VIEWS]
+    vec![in alloc; plain; count as usize]
 }
 
-fn counting(alloc: Global) -> Result<Vec<u16>, AllocError>
-    ensures { IfOk result (λ v. v.items ≡ range_with_len 0 VIEWS) }
+fn counting(alloc: Global, count: u16) -> Result<Vec<u16>, AllocError>
+    ensures { IfOk result (λ v. v.items ≡ range_with_len 0 count) }
 {
-    (0..VIEWS as u16).collect(alloc)
+    (0..count).collect(alloc)
 }
 
 fn is_clear(flags: u8, depth: u32) -> bool
@@ -71,14 +68,17 @@ fn is_clear(flags: u8, depth: u32) -> bool
 
 impl ViewTable {
     ghost use Rattle.view_table.specs.Answered.{AnswersCall, AnswersTarget};
+    ghost use Rattle.view_table.specs.Order.{IsViewTable};
+    ghost use Rattle.view_table.specs.Targets.{with_targets_kept};
 
-    /// Every view is as after a reset, and the ids are the order.
-    pub fn new(alloc: Global) -> Result<ViewTable, AllocError>
-        ensures { IfOk result (λ t. t ≡ new_views VIEWS) }
+    /// A table of 256 or 512 views. Every view is as after a reset, and the ids are the order.
+    pub fn new(alloc: Global, views: u16) -> Result<ViewTable, AllocError>
+        requires { IsViewCount views }
+        ensures { IfOk result (λ t. t ≡ new_views views) }
     {
-        let settings = plain_views(alloc)?;
-        let sequence = counting(alloc)?;
-        let positions = counting(alloc)?;
+        let settings = plain_views(alloc, views)?;
+        let sequence = counting(alloc, views)?;
+        let positions = counting(alloc, views)?;
         Ok(ViewTable {
             settings,
             sequence,
@@ -100,6 +100,21 @@ impl ViewTable {
             positions,
             listed: self.listed,
         })
+    }
+
+    /// How many views there are.
+    pub fn count(&self) -> u16
+        ensures same { result ≡ view_count self.now }
+        ensures counted { IsViewCount (view_count self.now) }
+    {
+        self.settings.len() as u16
+    }
+
+    /// What every table keeps: its number of views, and an order in which each view stands once.
+    pub fn tell_facts(&self)
+        ensures { IsViewTable self.now }
+    {
+        let _ = &self.settings;
     }
 
     fn settings_of(&self, view: u16) -> Result<View, Refusal>
@@ -210,6 +225,13 @@ impl ViewTable {
         Ok(())
     }
 
+    /// Takes away each target that the test refuses: that view has the back buffer.
+    pub fn keep_targets<T: LiveTargets>(&mut self, test: &T)
+        ensures { self.new ≡ with_targets_kept (T.is_kept test.now) self.old }
+    {
+        keep_targets(&mut self.settings, test);
+    }
+
     /// Sets the view as it is at first. `BadView` exactly where there is no such view.
     pub fn reset_view(&mut self, view: u16) -> Result<(), Refusal>
         ensures { AnswersCall result (reset_view view) self.old self.new }
@@ -256,20 +278,20 @@ impl ViewTable {
 
     /// The position of a view in the order.
     pub fn position(&self, view: u16) -> u16
-        requires { view < VIEWS }
+        requires { view < view_count self.now }
         ensures position { result ≡ position_of_view self.now view }
         ensures inverse { slice_index (view_order self.now) result ≡ view }
-        ensures below { result < VIEWS }
+        ensures below { result < view_count self.now }
     {
         self.positions[view as usize]
     }
 
     /// The view at a position of the order.
     pub fn view_at(&self, position: u16) -> u16
-        requires { position < VIEWS }
+        requires { position < view_count self.now }
         ensures view { result ≡ slice_index (view_order self.now) position }
         ensures inverse { position_of_view self.now result ≡ position }
-        ensures below { result < VIEWS }
+        ensures below { result < view_count self.now }
     {
         self.sequence[position as usize]
     }

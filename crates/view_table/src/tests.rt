@@ -1,23 +1,25 @@
 // The order of the views from outside, and the limits of the settings.
-use crate::{Clear, VIEWS, View, ViewTable};
+ghost use Rattle.std.specs.Prelude.{nat_lt};
+
+use crate::{Clear, LiveTargets, View, ViewTable};
 use fix_math::{Affine, Rect};
 use gfx_words::{Handle, Info, Kind, Refusal, ViewMode};
 use std::alloc::AllocError;
 use std::process::Abort;
 
 fn order_of(rt: &impl Abort, table: &ViewTable, first: &[u16]) {
-    for position in 0..VIEWS as u16 {
+    for position in 0..table.count() {
         assert_eq!(rt; table.position(table.view_at(position)), position);
     }
     for (position, view) in first.iter().enumerate() {
-        assert!(rt; position < VIEWS);
+        assert!(rt; position < table.count() as usize);
         assert_eq!(rt; table.view_at(position as u16), *view);
     }
 }
 
 #[test]
 fn listed_views_come_first(rt: HostRuntime) -> Result<(), AllocError> {
-    let mut table = ViewTable::new(rt.alloc())?;
+    let mut table = ViewTable::new(rt.alloc(), 256)?;
     order_of(&rt, &table, &[0, 1, 2, 3]);
     assert_eq!(rt; table.set_order(&[9, 1, 255]), Ok(()));
     order_of(&rt, &table, &[9, 1, 255, 0, 2, 3, 4, 5, 6, 7, 8, 10, 11]);
@@ -29,7 +31,7 @@ fn listed_views_come_first(rt: HostRuntime) -> Result<(), AllocError> {
 
 #[test]
 fn orders_of_all_and_of_more(rt: HostRuntime) -> Result<(), AllocError> {
-    let mut table = ViewTable::new(rt.alloc())?;
+    let mut table = ViewTable::new(rt.alloc(), 256)?;
     let mut ids = Vec::new(rt.alloc());
     for view in 0..256u16 {
         ids.push(255 - view)?;
@@ -48,7 +50,7 @@ fn orders_of_all_and_of_more(rt: HostRuntime) -> Result<(), AllocError> {
 
 #[test]
 fn settings_at_their_limits(rt: HostRuntime) -> Result<(), AllocError> {
-    let mut table = ViewTable::new(rt.alloc())?;
+    let mut table = ViewTable::new(rt.alloc(), 256)?;
     let rect = Rect {
         x: 1,
         y: 2,
@@ -98,5 +100,54 @@ fn settings_at_their_limits(rt: HostRuntime) -> Result<(), AllocError> {
     assert!(rt; table.get(254) == Some(&View::plain()) && table.get(256).is_none());
     assert_eq!(rt; table.reset_view(255), Ok(()));
     assert!(rt; table.get(255) == Some(&View::plain()));
+    Ok(())
+}
+
+#[test]
+fn five_hundred_and_twelve_views(rt: HostRuntime) -> Result<(), AllocError> {
+    let mut table = ViewTable::new(rt.alloc(), 512)?;
+    assert_eq!(rt; table.count(), 512);
+    assert_eq!(rt; table.set_order(&[511, 0]), Ok(()));
+    order_of(&rt, &table, &[511, 0, 1, 2, 3]);
+    assert_eq!(rt; table.set_order(&[512]), Err(Refusal::BadView));
+    assert_eq!(rt; table.set_mode(511, ViewMode::Sequential), Ok(()));
+    assert_eq!(rt;
+        table.set_mode(512, ViewMode::Sequential),
+        Err(Refusal::BadView)
+    );
+    let copied = table.copy()?;
+    order_of(&rt, &copied, &[511, 0, 1, 2, 3]);
+    assert!(rt; copied.get(511) == table.get(511) && copied.get(512).is_none());
+    let mut ids = Vec::new(rt.alloc());
+    for view in 0..512u16 {
+        ids.push(511 - view)?;
+    }
+    assert_eq!(rt; table.set_order(&ids), Ok(()));
+    order_of(&rt, &table, &[511, 510, 509]);
+    ids.push(0)?;
+    assert_eq!(rt; table.set_order(&ids), Err(Refusal::BadRange));
+    Ok(())
+}
+
+struct IndexBelow(u16);
+
+impl LiveTargets for IndexBelow {
+    ghost is_kept = { λ test h. nat_lt h.index test.0 };
+
+    fn keeps(&self, target: Handle) -> bool {
+        target.index() < self.0
+    }
+}
+
+#[test]
+fn dead_targets_go(rt: HostRuntime) -> Result<(), AllocError> {
+    let mut table = ViewTable::new(rt.alloc(), 256)?;
+    let dead = Some(Handle::of(Kind::FrameBuffer, 7, 1, Info::Plain));
+    let live = Some(Handle::of(Kind::FrameBuffer, 6, 2, Info::Plain));
+    assert_eq!(rt; table.set_target(3, dead), Ok(()));
+    assert_eq!(rt; table.set_target(255, live), Ok(()));
+    table.keep_targets(&IndexBelow(7));
+    assert!(rt; table.get(3) == Some(&View::plain()));
+    assert!(rt; table.get(255).map(|view| view.target) == Some(live));
     Ok(())
 }

@@ -1,4 +1,4 @@
-use Rattle.std.proofs.Common.{◌≡◌, ap, ◌∙◌}
+use Rattle.std.proofs.Common.{ap, ◌∙◌}
 use Rattle.gfx_model.specs.World.{with_bytes_at}
 use Rattle.store_model.specs.Slots.{filled_at}
 use Rattle.store_model.proofs.SlotLaws.{changed_again}

@@ -1,4 +1,4 @@
-use Rattle.std.proofs.Common.{◌≡◌, ap, ◌∙◌}
+use Rattle.std.proofs.Common.{ap, ◌∙◌}
 use Rattle.gfx_words.specs.Seen.{value_seen}
 use Rattle.store_model.specs.Slots.{filled_at}
 use Rattle.store_model.specs.Buffers.{with_slot_value}

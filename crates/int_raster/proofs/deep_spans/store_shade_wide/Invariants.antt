@@ -1,8 +1,8 @@
-use Rattle.std.proofs.Common.{◌≡◌, ◌+◌, ◌*◌}
+use Rattle.std.proofs.Common.{◌≡◌, ◌+◌}
 use Rattle.gfx_model.specs.Number.{map_from}
 use Rattle.tri_cover.specs.Slope.{ramp_at}
 use Rattle.tri_cover.specs.Widened.{wide_at}
-use Rattle.int_raster.specs.Places.{deep_pixels, spanned, by_place}
+use Rattle.int_raster.specs.Places.{deep_pixels, spanned, in_row}
 use Rattle.int_raster.specs.Seen.{step_seen}
 use Rattle.int_raster.proofs.deep_spans.store_shade_wide.Given as goal
 
@@ -14,5 +14,5 @@ invariant-loop-x l = record {
   blue : l.blue ≡ ramp_at l.fn.shade.blue l.x l.fn.span.y;
   alpha : l.alpha ≡ ramp_at l.fn.shade.alpha l.x l.fn.span.y;
   new : l.new ≡ wide_at l.fn.depth l.x l.fn.span.y;
-  done : deep_pixels l.colors l.depths ≡ map_from (spanned (by_place l.fn.span.width (step_seen l.fn.draw l.fn.setup)) (l.fn.span.y * l.fn.span.width + l.fn.span.first) (l.fn.span.y * l.fn.span.width + l.x)) 0 (deep_pixels l.fn.colors l.fn.depths);
+  done : deep_pixels l.colors l.depths ≡ map_from (spanned (in_row l.fn.span.start l.fn.span.y (step_seen l.fn.draw l.fn.setup)) (l.fn.span.start + l.fn.span.first) (l.fn.span.start + l.x)) 0 (deep_pixels l.fn.colors l.fn.depths);
 }

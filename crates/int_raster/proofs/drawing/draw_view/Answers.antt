@@ -1,23 +1,45 @@
-use Rattle.std.proofs.Common.{◌≤◌, length, fold, arith, ap, sym, ◌∙◌}
-use Rattle.std.proofs.lemmas.List.{take_all}
-use Rattle.std.proofs.lemmas.List.Sums.{fold_more}
-use Rattle.std.proofs.lemmas.List.Folds.{fold-map}
+use Rattle.std.proofs.Common.{◌≡◌, None, Some, option_map, fold, ap, sym, ◌∙◌}
+use Rattle.fix_math.specs.Lending.{refilled}
+use Rattle.fix_math.specs.Seen.{texels_seen}
 use Rattle.int_raster.specs.Drawing.{drawn_prepared}
-use Rattle.int_raster.specs.Seen.{surface_seen, prepared_seen}
+use Rattle.int_raster.specs.Bands.{deep, flat_drawn, deep_drawn}
+use Rattle.int_raster.proofs.Wholes.{refill}
+use Rattle.int_raster.proofs.Stacks.{flat_surface, deep_surface}
 use Rattle.int_raster.proofs.drawing.draw_view.Goals as goal
 
-pub loop-draw-preserved : goal.loop-draw-preserved
-loop-draw-preserved c =
-    let items = c.as_slice-draw-items.result.now in
-    c.draw_one.ensures
-    ∙ (λ i. drawn_prepared (c.loop-draw.invariant i) (prepared_seen (c.draw-item.is i)))
-    ∙ sym (fold_more (λ s d. drawn_prepared s (prepared_seen d)) (surface_seen c.args.surface.now) items c.loop-draw.draw-index c.draw-item.result c.loop-draw-test.true)
+pub returns-in-None : goal.returns-in-None
+returns-in-None c =
+    let s = c.args.surface.now in
+    let w = s.color.width in
+    let h = s.color.height in
+    let old = s.color.texels in
+    let new = c.draw_flat_list.new.colors in
+    let ds = c.args.list.now in
+    let none : c.args.surface.now.depth ≡ None = c.in-None.is in
+    let lent : c.as_mut_slice-colors.result.now ≡ c.args.surface.now.color.texels = c.as_mut_slice-colors.ensures.value in
+    let back : refilled old new ≡ new = refill old new (rw lent at c.draw_flat_list.auto.colors) in
+    let drawn : new ≡ flat_drawn w 0 old ds = rw lent at c.draw_flat_list.ensures in
+    (λ i. record { color = record { width = w; height = h; texels = (back ∙ drawn) i }; depth = option_map texels_seen (none i) })
+    ∙ sym (flat_surface w h old ds)
+    ∙ sym (λ i. fold drawn_prepared (record { color = record { width = w; height = h; texels = old }; depth = option_map texels_seen (none i) }) ds)
 
-pub returns : goal.returns
-returns c =
-    let items = c.as_slice-draw-items.result.now in
-    let all : length items ≤ c.loop-draw.draw-index = omega arith in
-    c.loop-draw.invariant
-    ∙ ap (fold (λ s d. drawn_prepared s (prepared_seen d)) (surface_seen c.args.surface.now)) (take_all c.loop-draw.draw-index items all)
-    ∙ sym (fold-map drawn_prepared prepared_seen (surface_seen c.args.surface.now) items)
-    ∙ ap (fold drawn_prepared (surface_seen c.args.surface.now)) c.as_slice-draw-items.ensures
+pub returns-in-Some : goal.returns-in-Some
+returns-in-Some c =
+    let s = c.args.surface.now in
+    let d = c.in-Some.depth in
+    let w = s.color.width in
+    let h = s.color.height in
+    let old = s.color.texels in
+    let new = c.draw_deep_list.new.colors in
+    let before = d.texels in
+    let after = c.draw_deep_list.new.depths in
+    let ds = c.args.list.now in
+    let some : c.args.surface.now.depth ≡ Some d = c.in-Some.is in
+    let lent : c.as_mut_slice-colors.result.now ≡ c.args.surface.now.color.texels = c.as_mut_slice-colors.ensures.value in
+    let lent_too : c.as_mut_slice.result.now ≡ c.in-Some.depth.texels = c.as_mut_slice.ensures.value in
+    let back : refilled old new ≡ new = refill old new (rw lent at c.draw_deep_list.auto.colors) in
+    let back_deep : refilled before after ≡ after = refill before after (rw lent_too at c.draw_deep_list.auto.depths) in
+    let drawn : deep new after ≡ deep_drawn w 0 (deep old before) ds = rw (lent, lent_too) at c.draw_deep_list.ensures in
+    (λ i. record { color = record { width = w; height = h; texels = (back ∙ ap (λ b. b.colors) drawn) i }; depth = Some (record { width = d.width; height = d.height; texels = (back_deep ∙ ap (λ b. b.depths) drawn) i }) })
+    ∙ sym (deep_surface w h d.width d.height (deep old before) ds)
+    ∙ sym (λ i. fold drawn_prepared (record { color = record { width = w; height = h; texels = old }; depth = option_map texels_seen (some i) }) ds)

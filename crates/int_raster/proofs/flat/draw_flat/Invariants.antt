@@ -1,10 +1,10 @@
 use Rattle.std.proofs.Common.{◌≡◌, fold, take}
 use Rattle.gfx_model.specs.Number.{map_from}
-use Rattle.int_raster.specs.Places.{flat_pixels, by_place}
+use Rattle.int_raster.specs.Places.{below, flat_pixels, by_place}
 use Rattle.int_raster.specs.Seen.{change_seen}
 use Rattle.int_raster.proofs.flat.draw_flat.Given as goal
 
 -- the triangles before the index are drawn
 abbrev pub invariant-loop-setup : goal.invariant-loop-setup
 invariant-loop-setup l =
-    flat_pixels l.colors ≡ fold (λ qs s. map_from (by_place l.fn.width (change_seen l.fn.draw s)) 0 qs) (flat_pixels l.fn.colors) (take l.setup-index l.setup-items)
+    flat_pixels l.colors ≡ fold (λ qs s. map_from (by_place l.fn.rows.width (below l.fn.rows.top (change_seen l.fn.draw s))) 0 qs) (flat_pixels l.fn.colors) (take l.setup-index l.fn.triangles)

@@ -1,6 +1,6 @@
-use Rattle.std.proofs.Common.{◌≡◌, ◌<◌, [], slice_index_or, ◌+◌, ◌*◌, arith, ap, ◌∙◌}
+use Rattle.std.proofs.Common.{◌≡◌, ◌<◌, [], slice_index_or, ◌+◌, arith, ap, ◌∙◌}
 use Rattle.gfx_model.specs.Number.{map_from}
-use Rattle.int_raster.specs.Places.{flat_pixel, flat_pixels, spanned, by_place}
+use Rattle.int_raster.specs.Places.{flat_pixel, flat_pixels, spanned, in_row}
 use Rattle.int_raster.specs.Seen.{step_seen}
 use Rattle.int_raster.proofs.Changes.{span_none}
 use Rattle.int_raster.proofs.Along.{flat_more, opaque_flat}
@@ -8,19 +8,19 @@ use Rattle.int_raster.proofs.flat.fill.Goals as goal
 
 pub loop-x-init : goal.loop-x-init
 loop-x-init c =
-    span_none (by_place c.args.span.now.width (step_seen c.args.draw.now c.args.setup.now)) (c.args.span.now.y * c.args.span.now.width + c.args.span.now.first) (flat_pixels c.args.colors.now)
+    span_none (in_row c.args.span.now.start c.args.span.now.y (step_seen c.args.draw.now c.args.setup.now)) (c.args.span.now.start + c.args.span.now.first) (flat_pixels c.args.colors.now)
 
 pub loop-x-preserved : goal.loop-x-preserved
 loop-x-preserved c =
     let s = c.args.span.now in
     let here : c.loop-x.x < s.after = c.loop-x-test.true in
-    flat_more (step_seen c.args.draw.now c.args.setup.now) s.width s.y s.first c.loop-x.x c.args.colors.now c.loop-x.colors c.whole-bytes.result
-    c.loop-x.invariant c.loop-x.auto.x (omega (arith, here, s.within)) c.requires.inside
+    flat_more (step_seen c.args.draw.now c.args.setup.now) s.start s.y s.first c.loop-x.x c.args.colors.now c.loop-x.colors c.whole-bytes.result
+    c.loop-x.invariant c.loop-x.auto.x (omega (arith, here, c.requires.inside))
     (ap flat_pixel c.whole-bytes.ensures
-    ∙ opaque_flat c.args.draw.now c.args.setup.now c.loop-x.x s.y c.args.color (slice_index_or c.loop-x.colors (s.y * s.width + c.loop-x.x) []) c.requires.opaque (c.requires.paints c.loop-x.x c.loop-x.auto.x here))
+    ∙ opaque_flat c.args.draw.now c.args.setup.now c.loop-x.x s.y c.args.color (slice_index_or c.loop-x.colors (s.start + c.loop-x.x) []) c.requires.opaque (c.requires.paints c.loop-x.x c.loop-x.auto.x here))
 
 pub returns : goal.returns
 returns c =
     let last : c.loop-x.x ≡ c.args.span.now.after = omega arith in
     c.loop-x.invariant
-    ∙ ap (λ n. map_from (spanned (by_place c.args.span.now.width (step_seen c.args.draw.now c.args.setup.now)) (c.args.span.now.y * c.args.span.now.width + c.args.span.now.first) (c.args.span.now.y * c.args.span.now.width + n)) 0 (flat_pixels c.args.colors.now)) last
+    ∙ ap (λ n. map_from (spanned (in_row c.args.span.now.start c.args.span.now.y (step_seen c.args.draw.now c.args.setup.now)) (c.args.span.now.start + c.args.span.now.first) (c.args.span.now.start + n)) 0 (flat_pixels c.args.colors.now)) last

@@ -1,10 +1,10 @@
-use Rattle.std.proofs.Common.{◌≡◌, ◌+◌, ◌*◌}
+use Rattle.std.proofs.Common.{◌≡◌, ◌+◌}
 use Rattle.gfx_model.specs.Number.{map_from}
-use Rattle.int_raster.specs.Places.{flat_pixels, spanned, by_place}
+use Rattle.int_raster.specs.Places.{flat_pixels, spanned, in_row}
 use Rattle.int_raster.specs.Seen.{step_seen}
 use Rattle.int_raster.proofs.flat.store.Given as goal
 
 -- the pixels before the column are stepped
 abbrev pub invariant-loop-x : goal.invariant-loop-x
 invariant-loop-x l =
-    flat_pixels l.colors ≡ map_from (spanned (by_place l.fn.span.width (step_seen l.fn.draw l.fn.setup)) (l.fn.span.y * l.fn.span.width + l.fn.span.first) (l.fn.span.y * l.fn.span.width + l.x)) 0 (flat_pixels l.fn.colors)
+    flat_pixels l.colors ≡ map_from (spanned (in_row l.fn.span.start l.fn.span.y (step_seen l.fn.draw l.fn.setup)) (l.fn.span.start + l.fn.span.first) (l.fn.span.start + l.x)) 0 (flat_pixels l.fn.colors)

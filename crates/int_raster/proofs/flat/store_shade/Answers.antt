@@ -1,7 +1,7 @@
-use Rattle.std.proofs.Common.{◌≡◌, ◌<◌, ◌+◌, ◌*◌, ◌/◌, ◌^◌, [], ◌∷◌, slice_index_or, arith, ap, ◌∙◌}
+use Rattle.std.proofs.Common.{◌≡◌, ◌<◌, ◌+◌, ◌/◌, ◌^◌, [], ◌∷◌, slice_index_or, arith, ap, ◌∙◌}
 use Rattle.gfx_model.specs.Number.{map_from}
 use Rattle.gfx_model.specs.Vertex.{Color}
-use Rattle.int_raster.specs.Places.{flat_pixels, spanned, by_place}
+use Rattle.int_raster.specs.Places.{flat_pixels, spanned, in_row}
 use Rattle.int_raster.specs.Painted.{shade_at}
 use Rattle.int_raster.specs.Seen.{step_seen}
 use Rattle.int_raster.proofs.Changes.{span_none}
@@ -15,7 +15,7 @@ loop-x-init c = record {
   green = c.value_at-green.ensures;
   blue = c.value_at-blue.ensures;
   alpha = c.value_at-alpha.ensures;
-  done = span_none (by_place c.args.span.now.width (step_seen c.args.draw.now c.args.setup.now)) (c.args.span.now.y * c.args.span.now.width + c.args.span.now.first) (flat_pixels c.args.colors.now);
+  done = span_none (in_row c.args.span.now.start c.args.span.now.y (step_seen c.args.draw.now c.args.setup.now)) (c.args.span.now.start + c.args.span.now.first) (flat_pixels c.args.colors.now);
 }
 
 pub loop-x-preserved : goal.loop-x-preserved
@@ -31,9 +31,9 @@ loop-x-preserved c =
       green = ramp_more r.green c.loop-x.x s.y c.loop-x.green i.green;
       blue = ramp_more r.blue c.loop-x.x s.y c.loop-x.blue i.blue;
       alpha = ramp_more r.alpha c.loop-x.x s.y c.loop-x.alpha i.alpha;
-      done = flat_more (step_seen c.args.draw.now c.args.setup.now) s.width s.y s.first c.loop-x.x c.args.colors.now c.loop-x.colors bytes
-          i.done c.loop-x.auto.x (omega (arith, here, s.within)) c.requires.inside
-          (opaque_flat c.args.draw.now c.args.setup.now c.loop-x.x s.y bytes (slice_index_or c.loop-x.colors (s.y * s.width + c.loop-x.x) []) c.requires.opaque
+      done = flat_more (step_seen c.args.draw.now c.args.setup.now) s.start s.y s.first c.loop-x.x c.args.colors.now c.loop-x.colors bytes
+          i.done c.loop-x.auto.x (omega (arith, here, c.requires.inside))
+          (opaque_flat c.args.draw.now c.args.setup.now c.loop-x.x s.y bytes (slice_index_or c.loop-x.colors (s.start + c.loop-x.x) []) c.requires.opaque
           (shade ∙ c.requires.paints c.loop-x.x c.loop-x.auto.x here));
     }
 
@@ -41,4 +41,4 @@ pub returns : goal.returns
 returns c =
     let last : c.loop-x.x ≡ c.args.span.now.after = omega arith in
     c.loop-x.invariant.done
-    ∙ ap (λ n. map_from (spanned (by_place c.args.span.now.width (step_seen c.args.draw.now c.args.setup.now)) (c.args.span.now.y * c.args.span.now.width + c.args.span.now.first) (c.args.span.now.y * c.args.span.now.width + n)) 0 (flat_pixels c.args.colors.now)) last
+    ∙ ap (λ n. map_from (spanned (in_row c.args.span.now.start c.args.span.now.y (step_seen c.args.draw.now c.args.setup.now)) (c.args.span.now.start + c.args.span.now.first) (c.args.span.now.start + n)) 0 (flat_pixels c.args.colors.now)) last

@@ -1,7 +1,7 @@
-use Rattle.std.proofs.Common.{◌≡◌, ◌+◌, ◌*◌}
+use Rattle.std.proofs.Common.{◌≡◌, ◌+◌}
 use Rattle.gfx_model.specs.Number.{map_from}
 use Rattle.tri_cover.specs.Slope.{ramp_at}
-use Rattle.int_raster.specs.Places.{flat_pixels, spanned, by_place}
+use Rattle.int_raster.specs.Places.{flat_pixels, spanned, in_row}
 use Rattle.int_raster.specs.Seen.{step_seen}
 use Rattle.int_raster.proofs.flat.store_shade.Given as goal
 
@@ -12,5 +12,5 @@ invariant-loop-x l = record {
   green : l.green ≡ ramp_at l.fn.shade.green l.x l.fn.span.y;
   blue : l.blue ≡ ramp_at l.fn.shade.blue l.x l.fn.span.y;
   alpha : l.alpha ≡ ramp_at l.fn.shade.alpha l.x l.fn.span.y;
-  done : flat_pixels l.colors ≡ map_from (spanned (by_place l.fn.span.width (step_seen l.fn.draw l.fn.setup)) (l.fn.span.y * l.fn.span.width + l.fn.span.first) (l.fn.span.y * l.fn.span.width + l.x)) 0 (flat_pixels l.fn.colors);
+  done : flat_pixels l.colors ≡ map_from (spanned (in_row l.fn.span.start l.fn.span.y (step_seen l.fn.draw l.fn.setup)) (l.fn.span.start + l.fn.span.first) (l.fn.span.start + l.x)) 0 (flat_pixels l.fn.colors);
 }

@@ -1,31 +1,31 @@
-use Rattle.std.proofs.Common.{◌≡◌, arith, ap, ◌∙◌}
+use Rattle.std.proofs.Common.{◌+◌, ◌≡◌, arith, ap, ◌∙◌}
 use Rattle.std.proofs.lemmas.Bool.{and_parts}
 use Rattle.std.proofs.lemmas.List.{length-map}
 use Rattle.std.proofs.lemmas.Option.{IfSome_then}
 use Rattle.gfx_model.specs.Number.{map_from}
 use Rattle.gfx_model.specs.Raster.{contains, covers}
 use Rattle.fix_math.specs.Seen.{rect_seen}
-use Rattle.int_raster.specs.Places.{flat_pixel, flat_pixels, above, is_drawn}
+use Rattle.int_raster.specs.Places.{below, flat_pixel, flat_pixels, above, is_drawn}
 use Rattle.int_raster.specs.Seen.{facing_seen, step_seen, change_seen}
-use Rattle.int_raster.proofs.Raster.{drawn_column, row_more, rows_before, rows_behind}
+use Rattle.int_raster.proofs.Raster.{next_row, drawn_column, row_more, rows_before, rows_behind}
 use Rattle.int_raster.proofs.flat.triangle_flat.Goals as goal
 
-pub loop-y-init : goal.loop-y-init
-loop-y-init c =
+pub loop-row-init : goal.loop-row-init
+loop-row-init c =
     let d = c.args.draw.now in
     let f = facing_seen c.args.draw.now c.args.setup.now in
     record {
       sides = c.sides-sides.ensures;
-      done = rows_before (step_seen c.args.draw.now c.args.setup.now) (is_drawn (rect_seen d.cut) f) c.args.width c.args.height c.drawn_rows-top.result.0 (flat_pixels c.args.colors.now) c.requires.wide
+      done = rows_before (below c.args.rows.now.top (step_seen c.args.draw.now c.args.setup.now)) (λ x y. is_drawn (rect_seen d.cut) f x (c.args.rows.now.top + y)) c.args.rows.now.width c.args.rows.now.count c.drawn_rows-top.result.0 (flat_pixels c.args.colors.now) c.args.rows.now.wide
           (length-map c.args.colors.now flat_pixel ∙ c.requires.whole)
-          (λ x y b t. let p = and_parts (contains (rect_seen d.cut) x y) (covers f.triangle x y) t in (c.drawn_rows-top.ensures.all x y b p.0 p.1).0);
+          (λ x y b t. let p = and_parts (contains (rect_seen d.cut) x (c.args.rows.now.top + y)) (covers f.triangle x (c.args.rows.now.top + y)) t in (c.drawn_rows-top.ensures.all x y b p.0 p.1).0);
     }
 
 pub drawn_columns-first-requires-clause-upper : goal.drawn_columns-first-requires-clause-upper
-drawn_columns-first-requires-clause-upper c = (c.drawn_rows-top.ensures.first c.loop-y.y c.loop-y.auto.y c.loop-y-test.true).0
+drawn_columns-first-requires-clause-upper c = (c.drawn_rows-top.ensures.first c.loop-row.row c.loop-row.auto.row c.loop-row-test.true).0
 
 pub drawn_columns-first-requires-clause-lower : goal.drawn_columns-first-requires-clause-lower
-drawn_columns-first-requires-clause-lower c = (c.drawn_rows-top.ensures.first c.loop-y.y c.loop-y.auto.y c.loop-y-test.true).1
+drawn_columns-first-requires-clause-lower c = (c.drawn_rows-top.ensures.first c.loop-row.row c.loop-row.auto.row c.loop-row-test.true).1
 
 pub draw_span-requires-clause-paints : goal.draw_span-requires-clause-paints
 draw_span-requires-clause-paints c =
@@ -34,26 +34,26 @@ draw_span-requires-clause-paints c =
     let ends = c.drawn_columns-first.result in
     let within = c.drawn_columns-first.ensures.within in
     IfSome_then c.painter_of-painter.result c.painter_of-painter.ensures
-    (λ p h x lo hi. h x c.loop-y.y (omega (arith, hi, within)) (omega (arith, c.loop-y-test.true, c.drawn_rows-top.ensures.within))
-    (drawn_column (rect_seen d.cut) f ends.0 ends.1 x c.loop-y.y (c.drawn_columns-first.ensures.columns x (omega (arith, hi, within))) lo hi))
+    (λ p h x lo hi. h x (c.args.rows.now.top + c.loop-row.row) (omega (arith, hi, within)) (omega (arith, c.loop-row-test.true, c.drawn_rows-top.ensures.within))
+    (drawn_column (rect_seen d.cut) f ends.0 ends.1 x (c.args.rows.now.top + c.loop-row.row) (c.drawn_columns-first.ensures.columns x (omega (arith, hi, within))) lo hi))
 
-pub loop-y-preserved : goal.loop-y-preserved
-loop-y-preserved c =
+pub loop-row-preserved : goal.loop-row-preserved
+loop-row-preserved c =
     let d = c.args.draw.now in
     let f = facing_seen c.args.draw.now c.args.setup.now in
     record {
-      sides = c.next_sides-sides.ensures;
-      done = row_more (step_seen c.args.draw.now c.args.setup.now) (is_drawn (rect_seen d.cut) f) c.args.width c.loop-y.y c.drawn_columns-first.result.0 c.drawn_columns-first.result.1
-          (flat_pixels c.args.colors.now) (flat_pixels c.loop-y.colors) (flat_pixels c.draw_span.new.colors)
-          c.requires.wide c.drawn_columns-first.ensures.within c.drawn_columns-first.ensures.columns c.loop-y.invariant.done c.draw_span.ensures;
+      sides = next_row c.next_sides-sides.result c.args.setup.now c.args.rows.now.top c.loop-row.row c.next_sides-sides.ensures;
+      done = row_more (step_seen c.args.draw.now c.args.setup.now) (is_drawn (rect_seen d.cut) f) c.args.rows.now.width c.args.rows.now.top c.loop-row.row c.drawn_columns-first.result.0 c.drawn_columns-first.result.1
+          (flat_pixels c.args.colors.now) (flat_pixels c.loop-row.colors) (flat_pixels c.draw_span.new.colors)
+          c.args.rows.now.wide c.drawn_columns-first.ensures.within c.drawn_columns-first.ensures.columns c.loop-row.invariant.done c.draw_span.ensures;
     }
 
 pub returns : goal.returns
 returns c =
     let d = c.args.draw.now in
     let f = facing_seen c.args.draw.now c.args.setup.now in
-    let last : c.loop-y.y ≡ c.drawn_rows-top.result.1 = omega arith in
-    rows_behind (step_seen c.args.draw.now c.args.setup.now) (is_drawn (rect_seen d.cut) f) c.args.width c.args.height c.drawn_rows-top.result.1 (flat_pixels c.args.colors.now) (flat_pixels c.loop-y.colors) c.requires.wide
+    let last : c.loop-row.row ≡ c.drawn_rows-top.result.1 = omega arith in
+    rows_behind (below c.args.rows.now.top (step_seen c.args.draw.now c.args.setup.now)) (λ x y. is_drawn (rect_seen d.cut) f x (c.args.rows.now.top + y)) c.args.rows.now.width c.args.rows.now.count c.drawn_rows-top.result.1 (flat_pixels c.args.colors.now) (flat_pixels c.loop-row.colors) c.args.rows.now.wide
     (length-map c.args.colors.now flat_pixel ∙ c.requires.whole)
-    (λ x y b t. let p = and_parts (contains (rect_seen d.cut) x y) (covers f.triangle x y) t in (c.drawn_rows-top.ensures.all x y b p.0 p.1).1)
-    (c.loop-y.invariant.done ∙ ap (λ n. map_from (above c.args.width n (change_seen c.args.draw.now c.args.setup.now)) 0 (flat_pixels c.args.colors.now)) last)
+    (λ x y b t. let p = and_parts (contains (rect_seen d.cut) x (c.args.rows.now.top + y)) (covers f.triangle x (c.args.rows.now.top + y)) t in (c.drawn_rows-top.ensures.all x y b p.0 p.1).1)
+    (c.loop-row.invariant.done ∙ ap (λ n. map_from (above c.args.rows.now.width n (below c.args.rows.now.top (change_seen c.args.draw.now c.args.setup.now))) 0 (flat_pixels c.args.colors.now)) last)

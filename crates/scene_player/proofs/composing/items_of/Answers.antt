@@ -1,7 +1,7 @@
 use Rattle.std.proofs.Common.{map}
 use Rattle.scene_model.specs.Fold.{accepted_of}
 use Rattle.scene_model.specs.Journal.{item_of}
-use Rattle.scene_text.specs.Seen.{entry_seen}
+use Rattle.triangle_text.specs.Seen.{entry_seen}
 use Rattle.scene_player.proofs.ItemsOfFrame.{found-next}
 use Rattle.scene_player.proofs.composing.items_of.Goals as goal
 

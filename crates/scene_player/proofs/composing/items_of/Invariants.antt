@@ -2,7 +2,7 @@ use Rattle.std.proofs.Common.{◌≡◌, map, take}
 use Rattle.std.specs.List.{filter_map}
 use Rattle.scene_model.specs.Fold.{accepted_of}
 use Rattle.scene_model.specs.Journal.{item_of}
-use Rattle.scene_text.specs.Seen.{entry_seen}
+use Rattle.triangle_text.specs.Seen.{entry_seen}
 use Rattle.scene_world.specs.Items.{item_seen}
 use Rattle.scene_player.proofs.composing.items_of.Given as goal
 

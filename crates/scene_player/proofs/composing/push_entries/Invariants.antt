@@ -1,6 +1,6 @@
 use Rattle.std.proofs.Common.{◌≡◌, ◌++◌, map}
 use Rattle.scene_model.specs.Journal.{entries_of}
-use Rattle.scene_text.specs.Seen.{entry_seen}
+use Rattle.triangle_text.specs.Seen.{entry_seen}
 use Rattle.scene_player.proofs.composing.push_entries.Given as goal
 
 abbrev pub invariant-loop-ordinal : goal.invariant-loop-ordinal

@@ -1,7 +1,7 @@
 use Rattle.std.proofs.Common.{◌≡◌, ap, ◌∙◌, arith, length, map, [], ◌∷◌}
 use Rattle.std.proofs.lemmas.List.{length-append}
 use Rattle.scene_model.specs.Fold.{lines_of}
-use Rattle.scene_text.specs.Seen.{block_seen, encoder_line_seen}
+use Rattle.triangle_text.specs.Seen.{block_seen, encoder_line_seen}
 use Rattle.scene_player.specs.Lines.{progress_seen}
 use Rattle.scene_player.proofs.BundlesRecorded.{recorded-more}
 use Rattle.scene_player.proofs.composing.record_all.Goals as goal

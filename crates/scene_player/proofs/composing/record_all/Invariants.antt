@@ -1,7 +1,7 @@
 use Rattle.std.proofs.Common.{◌≡◌, map, length}
 use Rattle.std.specs.List.{range_with_len}
 use Rattle.scene_model.specs.Fold.{accepted_of, recording_of}
-use Rattle.scene_text.specs.Seen.{scene_seen, frame_seen}
+use Rattle.triangle_text.specs.Seen.{scene_seen, frame_seen}
 use Rattle.scene_player.specs.Lines.{progress_seen}
 use Rattle.scene_player.proofs.composing.record_all.Given as goal
 

@@ -1,7 +1,7 @@
 use Rattle.std.proofs.Common.{◌≡◌, map, take}
 use Rattle.scene_model.specs.Fold.{accepted_of}
 use Rattle.scene_model.specs.Journal.{serial_from}
-use Rattle.scene_text.specs.Seen.{entry_seen}
+use Rattle.triangle_text.specs.Seen.{entry_seen}
 use Rattle.scene_player.proofs.composing.serial_entries.Given as goal
 
 abbrev pub invariant-loop-encoder : goal.invariant-loop-encoder

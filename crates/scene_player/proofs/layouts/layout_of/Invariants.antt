@@ -1,6 +1,6 @@
 use Rattle.std.proofs.Common.{◌≡◌, map, take}
 use Rattle.vertex_layout.specs.Building.{built}
-use Rattle.scene_text.specs.Seen.{part_seen}
+use Rattle.triangle_text.specs.Seen.{part_seen}
 use Rattle.scene_player.proofs.layouts.layout_of.Given as goal
 
 abbrev pub invariant-loop-part : goal.invariant-loop-part

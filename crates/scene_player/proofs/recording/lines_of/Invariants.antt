@@ -1,5 +1,5 @@
 use Rattle.std.proofs.Common.{◌≡◌, map, drop}
-use Rattle.scene_text.specs.Seen.{block_seen}
+use Rattle.triangle_text.specs.Seen.{block_seen}
 use Rattle.scene_model.specs.Fold.{lines_of}
 use Rattle.scene_player.proofs.recording.lines_of.Given as goal
 

@@ -2,8 +2,8 @@ use Rattle.std.proofs.Common.{◌≡◌, ◌≤◌, map, take}
 use Rattle.std.specs.Prelude.{fold}
 use Rattle.gfx_model.specs.Recorder.{begun}
 use Rattle.scene_model.specs.Fold.{after_encoder_line}
-use Rattle.scene_text.specs.Seen as text
-use Rattle.scene_text.specs.Seen.{encoder_line_seen}
+use Rattle.triangle_text.specs.Seen as text
+use Rattle.triangle_text.specs.Seen.{encoder_line_seen}
 use Rattle.scene_player.specs.Lines.{progress_seen}
 use Rattle.scene_player.proofs.recording.record.Given as goal
 

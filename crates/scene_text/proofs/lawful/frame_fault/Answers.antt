@@ -1,4 +1,4 @@
-use Rattle.std.proofs.Common.{◌+◌, refl, ◌∙◌, arith}
+use Rattle.std.proofs.Common.{refl, ◌∙◌, arith}
 use Rattle.std.proofs.lemmas.List.{length-set}
 use Rattle.scene_text.proofs.FaultPlaces.{none_taken, entry_refused, entry_passes, taken_next}
 use Rattle.scene_text.proofs.lawful.frame_fault.Goals as goal

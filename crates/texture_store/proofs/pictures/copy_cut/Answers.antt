@@ -1,4 +1,4 @@
-use Rattle.std.proofs.Common.{◌≡◌, ◌+◌, length, ap, sym, ◌∙◌, arith}
+use Rattle.std.proofs.Common.{◌≡◌, ◌+◌, length, ap, ◌∙◌}
 use Rattle.gfx_model.specs.Number.{map_from}
 use Rattle.fix_math.specs.Lending.{refilled}
 use Rattle.texture_store.specs.Block.{in_block, texel_of_row}
@@ -10,11 +10,6 @@ copy_rows-requires-clause-below c =
     rows_fit (c.args.cut.now.dy + c.args.cut.now.h) c.args.texels.now.height c.args.texels.now.width (length c.as_mut_slice-to.result.now) c.requires.below
     (ap length c.as_mut_slice-to.ensures.value ∙ c.args.texels.now.whole)
 
-pub copy_rows-requires-clause-from_below : goal.copy_rows-requires-clause-from_below
-copy_rows-requires-clause-from_below c =
-    rows_fit (c.args.cut.now.sy + c.args.cut.now.h) c.args.source.now.height c.args.source.now.width (length c.as_slice.result.now) c.requires.from_below
-    (ap length c.as_slice.ensures ∙ c.args.source.now.whole)
-
 pub returns : goal.returns
 returns c =
     let w = c.args.texels.now.width in
@@ -22,10 +17,7 @@ returns c =
     let old = c.args.texels.now.texels in
     let new = c.copy_rows.new.to in
     let cut = c.args.cut.now in
-    let source = c.args.source.now in
     let lent : c.as_mut_slice-to.result.now ≡ c.args.texels.now.texels = c.as_mut_slice-to.ensures.value in
     let back : refilled old new ≡ new = refill old new (c.copy_rows.auto.to ∙ ap length lent) in
-    let rows = c.copy_rows.ensures
-    ∙ ap (λ from. map_from (in_block w cut.dx cut.dy cut.w cut.h (texel_of_row from source.width cut.dx cut.dy cut.sx cut.sy)) 0 c.as_mut_slice-to.result.now) c.as_slice.ensures
-    ∙ ap (map_from (in_block w cut.dx cut.dy cut.w cut.h (texel_of_row source.texels source.width cut.dx cut.dy cut.sx cut.sy)) 0) lent in
+    let rows = c.copy_rows.ensures ∙ ap (map_from (in_block w cut.dx cut.dy cut.w cut.h (texel_of_row c.args.from.now c.args.from_width cut.dx cut.dy cut.sx cut.sy)) 0) lent in
     (λ i. record { width = w; height = h; texels = back i }) ∙ (λ i. record { width = w; height = h; texels = rows i })

@@ -1,33 +1,25 @@
-use Rattle.std.proofs.Common.{◌≡◌, ◌⊎◌, inl, inr, ap, sym, ◌∙◌, arith}
-use Rattle.gfx_model.specs.Raster.{Texels}
+use Rattle.std.proofs.Common.{◌≡◌, ◌+◌, length, ap, ◌∙◌}
 use Rattle.fix_math.specs.Seen.{texels_seen}
-use Rattle.store_model.specs.Textures.{Region}
-use Rattle.texture_store.specs.Seen.{region_seen, cut_copied}
-use Rattle.texture_store.proofs.CutLaws.{cut_w, cut_h, cut_same, cut_empty}
+use Rattle.texture_store.specs.Seen.{region_seen, cut_seen}
+use Rattle.texture_store.specs.Cut.{cut_copied}
+use Rattle.texture_store.proofs.CutLaws.{rows_fit, cut_same, empty_cut}
 use Rattle.texture_store.proofs.pictures.copy_texels.Goals as goal
-use Rattle.texture_store.proofs.pictures.copy_texels.Goals.{then-w-eq0-via-then-w-eq0, then-w-eq0-via-else-w-eq0+then-h-eq0}
 
-pub returns-then-w-eq0 : goal.returns-then-w-eq0
-returns-then-w-eq0 c =
-    let r : Region = region_seen c.args.copy.now in
-    let source : Texels = texels_seen c.args.source.now in
-    let d : Texels = texels_seen c.args.texels.now in
-    let wide : c.least-w.result ≡ cut_w r source d = omega (arith, c.least-w.ensures, c.saturating_sub.ensures, c.saturating_sub-2.ensures) in
-    let high : c.least-h.result ≡ cut_h r source d = omega (arith, c.least-h.ensures, c.saturating_sub-3.ensures, c.saturating_sub-4.ensures) in
-    let none : (cut_w r source d ≡ 0) ⊎ (cut_h r source d ≡ 0) = elim c.then-w-eq0.branch [
-      | then-w-eq0-via-then-w-eq0 w ↦ inl (sym wide ∙ w.if-w-eq0.true)
-      | then-w-eq0-via-else-w-eq0+then-h-eq0 w ↦ inr (sym high ∙ w.if-h-eq0.true)
-    ] in
-    cut_empty r source d c.args.texels.now.whole none
+pub copy_cut-requires-clause-from_below : goal.copy_cut-requires-clause-from_below
+copy_cut-requires-clause-from_below c =
+    let source = c.args.source.now in
+    rows_fit (c.in-Some.cut.sy + c.in-Some.cut.h) source.height source.width (length c.as_slice.result.now) c.in-Some.ensures.from.1 (ap length c.as_slice.ensures ∙ source.whole)
 
-pub returns : goal.returns
-returns c =
-    let r : Region = region_seen c.args.copy.now in
-    let source : Texels = texels_seen c.args.source.now in
-    let d : Texels = texels_seen c.args.texels.now in
-    let wide : c.least-w.result ≡ cut_w r source d = omega (arith, c.least-w.ensures, c.saturating_sub.ensures, c.saturating_sub-2.ensures) in
-    let high : c.least-h.result ≡ cut_h r source d = omega (arith, c.least-h.ensures, c.saturating_sub-3.ensures, c.saturating_sub-4.ensures) in
+pub returns-in-Some : goal.returns-in-Some
+returns-in-Some c =
+    let source = c.args.source.now in
+    let d = c.args.texels.now in
     c.copy_cut.ensures
-    ∙ ap (λ w. cut_copied (record r { w = w; h = c.least-h.result }) source d) wide
-    ∙ ap (λ h. cut_copied (record r { w = cut_w r source d; h = h }) source d) high
-    ∙ cut_same r source d c.args.texels.now.whole
+    ∙ ap (λ from. cut_copied (cut_seen c.in-Some.cut) from source.width (texels_seen c.args.texels.now)) c.as_slice.ensures
+    ∙ ap (λ r. cut_copied r source.texels source.width (texels_seen c.args.texels.now)) c.in-Some.ensures.cut.1
+    ∙ cut_same (region_seen c.args.copy.now) (texels_seen c.args.source.now) (texels_seen c.args.texels.now) d.whole
+
+pub returns-in_default : goal.returns-in_default
+returns-in_default c =
+    let d = c.args.texels.now in
+    empty_cut (region_seen c.args.copy.now) (texels_seen c.args.source.now) (texels_seen c.args.texels.now) d.whole c.in_default.ensures.cut

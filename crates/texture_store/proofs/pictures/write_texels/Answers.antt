@@ -1,19 +1,20 @@
-use Rattle.std.proofs.Common.{◌≡◌, length, ap, ◌∙◌}
-use Rattle.gfx_model.specs.Number.{map_from}
-use Rattle.gfx_model.specs.Raster.{Texels}
-use Rattle.fix_math.specs.Lending.{refilled}
-use Rattle.texture_store.specs.Block.{in_block, texel_of_bytes}
-use Rattle.texture_store.proofs.CutLaws.{refill}
+use Rattle.std.proofs.Common.{◌≡◌, ◌+◌, ◌*◌, ◌/◌, ◌≤◌, length, ap, ◌∙◌, arith}
+use Rattle.gfx_model.specs.World.{texel_in}
+use Rattle.std.proofs.lemmas.List.FromFn.{length-map-range_with_len}
+use Rattle.fix_math.specs.Seen.{rect_seen, texels_seen}
+use Rattle.texture_store.specs.Cut.{cut_copied}
+use Rattle.texture_store.proofs.PartLaws.{bytes_same}
 use Rattle.texture_store.proofs.pictures.write_texels.Goals as goal
+
+pub copy_cut-requires-clause-from_below : goal.copy_cut-requires-clause-from_below
+copy_cut-requires-clause-from_below c =
+    let r = c.args.rect.now in
+    let size : length c.as_texels.result.now ≡ length c.args.bytes.now / 4 = ap length c.as_texels.ensures ∙ length-map-range_with_len (texel_in c.args.bytes.now) 0 (length c.args.bytes.now / 4) in
+    omega (arith, size, c.requires.enough)
 
 pub returns : goal.returns
 returns c =
-    let w = c.args.texels.now.width in
-    let h = c.args.texels.now.height in
-    let old = c.args.texels.now.texels in
-    let new = c.write_rows.new.to in
     let r = c.args.rect.now in
-    let lent : c.as_mut_slice-to.result.now ≡ c.args.texels.now.texels = c.as_mut_slice-to.ensures.value in
-    let back : refilled old new ≡ new = refill old new (c.write_rows.auto.to ∙ ap length lent) in
-    let rows = c.write_rows.ensures ∙ ap (map_from (in_block w r.x r.y r.w r.h (texel_of_bytes c.args.bytes.now r.x r.y r.w)) 0) lent in
-    (λ i. record { width = w; height = h; texels = back i }) ∙ (λ i. record { width = w; height = h; texels = rows i })
+    c.copy_cut.ensures
+    ∙ ap (λ from. cut_copied (record { dx = r.x; dy = r.y; sx = 0; sy = 0; w = r.w; h = r.h }) from r.w (texels_seen c.args.texels.now)) c.as_texels.ensures
+    ∙ bytes_same (rect_seen c.args.rect.now) c.args.bytes.now (texels_seen c.args.texels.now) c.requires.enough

@@ -7,4 +7,4 @@ use Rattle.view_table.proofs.table.plain_views.Goals as goal
 
 pub returns : goal.returns
 returns c =
-    IfOk-weaker c.vec.result _ _ (λ v same. ap (map view_seen) (same (λ y e. e)) ∙ map-replicate view_seen 256 _ plain_view (ap to_back c.plain.ensures)) c.vec.ensures.items_if_clones_equal
+    IfOk-weaker c.vec.result _ _ (λ v same. ap (map view_seen) (same (λ y e. e)) ∙ map-replicate view_seen c.args.count _ plain_view (ap to_back c.plain.ensures)) c.vec.ensures.items_if_clones_equal

@@ -1,5 +1,8 @@
-use Rattle.std.proofs.Common.{rules, arith, ap, ◌∙◌, sym, refl}
+use Rattle.std.proofs.Common.{rules, ℕ, length, subst, arith, ap, ◌∙◌, sym, refl}
 use Rattle.gfx_model.specs.Words.{place_of_handle}
+use Rattle.schedule_model.specs.Machine.{place_at}
+use Rattle.hold_table.specs.Words.{IsUpTo}
+use Rattle.hold_table.specs.Views.{SeatView}
 use Rattle.hold_table.proofs.Steps.{asks_keep}
 use Rattle.hold_table.proofs.PlaceLaws.{word-stays_usable, word-stays_refused, told_of}
 use Rattle.hold_table.proofs.table.HoldTable.name.Goals as goal
@@ -10,6 +13,9 @@ load-word-requires c = (search rules, search rules, asks_keep _ _ _ _ _ (place_o
 pub invariant_of-enc : goal.invariant_of-enc
 invariant_of-enc c = let told = (c.load-word.ensures.2 (place_of_handle c.args.h) (omega (arith, c.place-place.ensures.same))).0 in record {
   frame_is = c.args.enc.now.frame_is ∙ sym (ap (λ m. m.0.frame) told);
+  many = ap (λ m. length m.0.places) told ∙ c.args.enc.now.many;
+  placed = subst (λ (v : SeatView). (q : ℕ) → IsUpTo v.greatest (place_at v.places q)) (ap (λ m. m.0) (sym told)) c.args.enc.now.placed;
+  greatest_most = omega (arith, ap (λ m. m.0.greatest) told, c.args.enc.now.greatest_most);
   is_recorder = ap (λ m. m.0.role) told ∙ c.args.enc.now.is_recorder;
   no_slot = ap (λ m. m.1) told ∙ c.args.enc.now.no_slot;
 }

@@ -1,5 +1,8 @@
-use Rattle.std.proofs.Common.{rules, arith, ap, ◌∙◌, sym, length, length-set}
-use Rattle.schedule_model.specs.Machine.{free}
+use Rattle.std.proofs.Common.{rules, ℕ, subst, arith, ap, ◌∙◌, sym, length, length-set}
+use Rattle.schedule_model.specs.Machine.{place_at, free}
+use Rattle.hold_table.specs.Words.{IsUpTo}
+use Rattle.hold_table.specs.Views.{SeatView}
+use Rattle.hold_table.proofs.PlaceLaws.{up_to-set}
 use Rattle.hold_table.proofs.Steps.{reclaims_keep}
 use Rattle.hold_table.proofs.table.HoldTable.place_free.Goals as goal
 
@@ -11,6 +14,9 @@ invariant_of-api c = let told = c.store.ensures.2 c.args.place (omega arith) in 
   frame_is = c.args.api.now.frame_is ∙ sym (ap (λ m. m.0.frame) told);
   frame_most = c.args.api.now.frame_most;
   many = ap (λ m. length m.0.places) told ∙ length-set c.args.api.now.seat.me.0.places c.args.place free ∙ c.args.api.now.many;
+  placed = subst (λ (v : SeatView). (q : ℕ) → IsUpTo v.greatest (place_at v.places q)) (ap (λ m. m.0) (sym told)) (up_to-set c.args.api.now.seat.me.0.greatest c.args.api.now.seat.me.0.greatest c.args.place (free) c.args.api.now.seat.me.0.places (omega arith) (omega arith) c.args.api.now.placed);
+  greatest_most = omega (arith, ap (λ m. m.0.greatest) told, c.args.api.now.greatest_most);
   is_api = ap (λ m. m.0.role) told ∙ c.args.api.now.is_api;
+  all_learnt = ap (λ m. m.0.shows) told ∙ c.args.api.now.all_learnt;
   no_slot = ap (λ m. m.1) told ∙ c.args.api.now.no_slot;
 }

@@ -1,5 +1,5 @@
 use Rattle.std.proofs.Common.{map}
-use Rattle.scene_text.specs.Seen.{name_seen}
+use Rattle.triangle_text.specs.Seen.{name_seen}
 use Rattle.scene_player.proofs.progress.Progress.play_line.Goals as goal
 
 pub returns-in-Layout-clause-after : goal.returns-in-Layout-clause-after

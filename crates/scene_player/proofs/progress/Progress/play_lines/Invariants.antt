@@ -1,6 +1,6 @@
 use Rattle.std.proofs.Common.{◌≡◌, ◌≤◌, ◌+◌, map, take}
 use Rattle.scene_model.specs.Fold.{after_lines}
-use Rattle.scene_text.specs.Seen.{name_seen, resource_line_seen}
+use Rattle.triangle_text.specs.Seen.{name_seen, resource_line_seen}
 use Rattle.scene_player.specs.Lines.{progress_seen}
 use Rattle.scene_player.proofs.progress.Progress.play_lines.Given as goal
 

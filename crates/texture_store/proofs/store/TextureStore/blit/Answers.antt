@@ -1,7 +1,7 @@
 use Rattle.std.proofs.Common.{◌≡◌, refl, ◌∙◌}
 use Rattle.store_model.specs.Textures.{copied_region, texels_in_row}
 use Rattle.texture_store.specs.Seen.{region_seen}
-use Rattle.texture_store.proofs.AttachLaws.{all_kept}
+use Rattle.store_model.proofs.AttachLaws.{all_kept}
 use Rattle.texture_store.proofs.TakeLaws.{stays_over, stays_apart, stays_keeps, stays_long}
 use Rattle.texture_store.proofs.store.TextureStore.blit.Goals as goal
 

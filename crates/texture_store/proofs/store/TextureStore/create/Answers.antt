@@ -1,8 +1,8 @@
 use Rattle.std.proofs.Common.{◌≡◌, length, None, Some, subst, sym, ap, ◌∙◌}
 use Rattle.std.proofs.lemmas.List.{length-set}
 use Rattle.store_model.specs.Slots.{at}
-use Rattle.texture_store.specs.Inside.{AllAttached}
-use Rattle.texture_store.proofs.AttachLaws.{all_kept, keeps_filled}
+use Rattle.store_model.specs.Textures.{AllAttached}
+use Rattle.store_model.proofs.AttachLaws.{all_kept, keeps_filled}
 use Rattle.texture_store.proofs.store.TextureStore.create.Goals as goal
 
 pub invariant_of-self : goal.invariant_of-self

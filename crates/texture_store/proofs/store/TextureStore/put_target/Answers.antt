@@ -4,7 +4,7 @@ use Rattle.fix_math.specs.Seen.{texels_seen}
 use Rattle.store_model.specs.Slots.{at}
 use Rattle.store_model.specs.Textures.{TargetSlot, IsOut}
 use Rattle.texture_store.specs.Seen.{sides_seen}
-use Rattle.texture_store.proofs.AttachLaws.{all_kept}
+use Rattle.store_model.proofs.AttachLaws.{all_kept}
 use Rattle.texture_store.proofs.TakeLaws.{put_out, stays_back, stays_equal, stays_keeps, stays_long, sides_again}
 use Rattle.texture_store.proofs.store.TextureStore.put_target.Goals as goal
 

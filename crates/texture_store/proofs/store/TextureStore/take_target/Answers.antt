@@ -1,6 +1,6 @@
 use Rattle.std.proofs.Common.{◌≡◌, ap, ◌∙◌}
 use Rattle.store_model.specs.Slots.{at}
-use Rattle.texture_store.proofs.AttachLaws.{all_kept}
+use Rattle.store_model.proofs.AttachLaws.{all_kept}
 use Rattle.texture_store.proofs.TakeLaws.{stays_out, stays_equal, stays_keeps, stays_long}
 use Rattle.texture_store.proofs.store.TextureStore.take_target.Goals as goal
 

@@ -2,7 +2,7 @@ use Rattle.std.proofs.Common.{◌≡◌, length, refl, ap, ◌∙◌}
 use Rattle.std.proofs.lemmas.List.{length-set}
 use Rattle.gfx_model.specs.World.{with_texels_in}
 use Rattle.fix_math.specs.Seen.{rect_seen}
-use Rattle.texture_store.proofs.AttachLaws.{all_kept, keeps_here}
+use Rattle.store_model.proofs.AttachLaws.{all_kept, keeps_here}
 use Rattle.texture_store.proofs.store.TextureStore.update.Goals as goal
 
 pub invariant_of-self : goal.invariant_of-self

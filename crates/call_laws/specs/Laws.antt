@@ -1,0 +1,24 @@
+-- The laws of what the calls of the API thread write for the renderer.
+use Rattle.std.specs.Prelude.{◌≡◌, ℕ, List, []}
+use Rattle.std.specs.List.{AllByRecursion}
+use Rattle.gfx_model.specs.World.{World, Content, Surface, Item, FrameContent}
+use Rattle.gfx_model.specs.Resources.{ResourceCall, opening}
+use Rattle.store_laws.specs.ByIndex.{FrameData, first_stores}
+use Rattle.store_laws.specs.Says.{Says, left}
+use Rattle.store_laws.specs.Run.{empty_world, pictures_by_index, pictures_of}
+use Rattle.call_laws.specs.Calls.{Written, after_call, IsWritten, IsAccepted}
+use Rattle.call_laws.specs.Context.{data_of, content_by, HasTargets, HasItem, ContextFrames}
+
+-- an accepted call writes just what it does to the world
+abbrev pub CallLaw : Type 0
+CallLaw = (place : ℕ → ℕ) (first : List (ℕ × Content)) (v : Written) (call : ResourceCall) → IsWritten place first v → IsAccepted place first v call → IsWritten place first (after_call v call)
+
+-- what the calls of a frame wrote, with items and targets of things that are there, says what the definition's frame has
+abbrev pub FrameSaysLaw : Type 0
+FrameSaysLaw = (place : ℕ → ℕ) (w : World) (gone : List ℕ) (v : Written) (items : List Item) → IsWritten place (left gone w).things v → HasTargets v.resources v.resources.views
+    → AllByRecursion (HasItem v.resources) items → Says place w (data_of v items) (content_by gone v items) v.dying
+
+-- a context's frames, rendered by index in order, have the definition's pictures
+abbrev pub RunLaw : Type 0
+RunLaw = (place : ℕ → ℕ) (back : Surface) (views latency frame serial : ℕ) (fs : List FrameData) (cs : List FrameContent) → ContextFrames place (empty_world back) [] (opening views latency frame serial) fs cs
+    → pictures_by_index (first_stores back) fs ≡ pictures_of (empty_world back) cs

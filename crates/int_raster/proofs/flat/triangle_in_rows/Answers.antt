@@ -1,0 +1,18 @@
+use Rattle.std.proofs.Common.{◌+◌, ◌∙◌, rules}
+use Rattle.std.proofs.lemmas.List.{length-map}
+use Rattle.std.proofs.lemmas.Bool.{and_parts}
+use Rattle.gfx_model.specs.Raster.{contains, covers}
+use Rattle.fix_math.specs.Seen.{rect_seen}
+use Rattle.int_raster.specs.Places.{below, is_drawn, flat_pixel, flat_pixels}
+use Rattle.int_raster.specs.Seen.{facing_seen, step_seen}
+use Rattle.int_raster.proofs.Raster.{rows_none}
+use Rattle.int_raster.proofs.flat.triangle_in_rows.Goals as goal
+
+pub returns-else-meets : goal.returns-else-meets
+returns-else-meets c =
+    let d = c.args.draw.now in
+    let f = facing_seen c.args.draw.now c.args.setup.now in
+    let top = c.args.rows.now.top in
+    rows_none (below top (step_seen c.args.draw.now c.args.setup.now)) (λ x y. is_drawn (rect_seen d.cut) f x (top + y)) c.args.rows.now.width c.args.rows.now.count (flat_pixels c.args.colors.now) c.args.rows.now.wide
+    (length-map c.args.colors.now flat_pixel ∙ c.requires.whole)
+    (λ x y b t. let p = and_parts (contains (rect_seen d.cut) x (top + y)) (covers f.triangle x (top + y)) t in c.meets.ensures x y (search rules) b p.0 p.1)

@@ -1,0 +1,108 @@
+// Bands of rows, and the draws of a list on each.
+ghost use Rattle.std.specs.Prelude.{◌≡◌, ◌≤◌, ◌*◌, length};
+ghost use Rattle.std.specs.Thread.{IsSync};
+ghost use Rattle.int_raster.specs.Bands.{deep, flat_drawn, deep_drawn};
+
+use crate::deep::draw_deep;
+use crate::flat::draw_flat;
+use crate::lists::DrawList;
+use crate::rows::Rows;
+use fix_math::tell_texels;
+use std::thread::{Threads, join_mut};
+
+/// Makes the draws of a list on a band without depth.
+pub(crate) fn draw_flat_list(rows: &Rows, list: &DrawList<'_>, colors: &mut [[u8; 4]])
+    requires { length colors.old ≡ rows.now.width * rows.now.count }
+    ensures { colors.new ≡ flat_drawn rows.now.width rows.now.top colors.old list.now }
+{
+    for index in 0..list.len() {
+        let (draw, triangles) = list.draw(index);
+        draw_flat(colors, rows, &draw, triangles);
+    }
+}
+
+/// Makes the draws of a list on a band with depth.
+pub(crate) fn draw_deep_list(
+    rows: &Rows,
+    list: &DrawList<'_>,
+    colors: &mut [[u8; 4]],
+    depths: &mut [[u8; 4]],
+)
+    requires whole { length colors.old ≡ rows.now.width * rows.now.count }
+    requires same { length depths.old ≡ length colors.old }
+    ensures { deep colors.new depths.new ≡ deep_drawn rows.now.width rows.now.top (deep colors.old depths.old) list.now }
+{
+    for index in 0..list.len() {
+        let (draw, triangles) = list.draw(index);
+        draw_deep(colors, depths, rows, &draw, triangles);
+        tell_texels(depths);
+    }
+}
+
+/// Makes the draws of a list on a band without depth, in several bands side by side.
+pub(crate) fn flat_bands<R: Threads + Sync>(
+    rt: &R,
+    rows: &Rows,
+    list: &DrawList<'_>,
+    bands: u32,
+    colors: &mut [[u8; 4]],
+)
+    requires { length colors.old ≡ rows.now.width * rows.now.count }
+    ensures { colors.new ≡ flat_drawn rows.now.width rows.now.top colors.old list.now }
+{
+    if bands < 2 {
+        draw_flat_list(rows, list, colors);
+        return;
+    }
+    let less = bands / 2;
+    let more = bands - less;
+    let (upper, lower) = rows.cut(less, bands);
+    let (above, under) = colors.split_at_mut(upper.width as usize * upper.count as usize);
+    join_mut(
+        rt,
+        &mut ||
+            requires { IsSync R.row × (length above.now ≡ upper.width * upper.count) }
+            ensures { above.exit.now ≡ flat_drawn upper.width upper.top above.entry.now list.entry.now }
+        { flat_bands(rt, &upper, list, less, above) },
+        &mut ||
+            requires { IsSync R.row × (length under.now ≡ lower.width * lower.count) }
+            ensures { under.exit.now ≡ flat_drawn lower.width lower.top under.entry.now list.entry.now }
+        { flat_bands(rt, &lower, list, more, under) },
+    );
+}
+
+/// Makes the draws of a list on a band with depth, in several bands side by side.
+pub(crate) fn deep_bands<R: Threads + Sync>(
+    rt: &R,
+    rows: &Rows,
+    list: &DrawList<'_>,
+    bands: u32,
+    colors: &mut [[u8; 4]],
+    depths: &mut [[u8; 4]],
+)
+    requires whole { length colors.old ≡ rows.now.width * rows.now.count }
+    requires same { length depths.old ≡ length colors.old }
+    ensures { deep colors.new depths.new ≡ deep_drawn rows.now.width rows.now.top (deep colors.old depths.old) list.now }
+{
+    if bands < 2 {
+        draw_deep_list(rows, list, colors, depths);
+        return;
+    }
+    let less = bands / 2;
+    let more = bands - less;
+    let (upper, lower) = rows.cut(less, bands);
+    let middle = upper.width as usize * upper.count as usize;
+    let (above, under) = colors.split_at_mut(middle);
+    let (near, far) = depths.split_at_mut(middle);
+    join_mut(
+        rt,
+        &mut ||
+            requires { IsSync R.row × (length above.now ≡ upper.width * upper.count) × (length near.now ≡ length above.now) }
+            ensures { deep above.exit.now near.exit.now ≡ deep_drawn upper.width upper.top (deep above.entry.now near.entry.now) list.entry.now }
+        { deep_bands(rt, &upper, list, less, above, near) },
+        &mut ||
+            requires { IsSync R.row × (length under.now ≡ lower.width * lower.count) × (length far.now ≡ length under.now) }
+            ensures { deep under.exit.now far.exit.now ≡ deep_drawn lower.width lower.top (deep under.entry.now far.entry.now) list.entry.now }
+        { deep_bands(rt, &lower, list, more, under, far) },
+    );
+}

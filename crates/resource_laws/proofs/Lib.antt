@@ -1,0 +1,11 @@
+pub mod KindLaws
+pub mod AttachLaws
+pub mod BareCalls
+pub mod BareEffects
+pub mod LawfulLaws
+pub mod DeathLaws
+pub mod LiveLaws
+pub mod StartLaws
+pub mod CallLaws
+pub mod RunLaws
+pub mod DestroyOrder
