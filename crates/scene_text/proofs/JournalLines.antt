@@ -1,15 +1,18 @@
 -- Reading a journal, entry by entry and line by line.
 use Rattle.std.proofs.Common.{◌≡◌, ℕ, zero, suc, ◌+◌, ◌-◌, ◌<◌, ◌≤◌, nat_le, Bool, true, false, ◌&&◌, ◌==◌, cond, List, [], ◌∷◌, ◌++◌, length, map, sum_by, take, drop, get_or, Option, Some, None, Result, Ok, Err, bytes_eq, codes, refl, ap, subst, sym, ◌∙◌, arith}
+use Rattle.std.specs.List.{AllByRecursion}
 use Rattle.std.specs.Option.{MatchOption}
 use Rattle.std.specs.Prelude.{IfOk}
 use Rattle.std.specs.Borrow.{Bor}
+use Rattle.std.proofs.lemmas.Bool.{leb-true}
 use Rattle.std.proofs.lemmas.Bool.Decides.{nat_tests}
 use Rattle.std.proofs.lemmas.List.{append_assoc, append-nil, length-map, drop_more, drop_all}
 use Rattle.std.proofs.lemmas.List.Sums.{sum_by-cons}
 use Rattle.scene_model.specs.Field.{split_at, with_head, is_numeral, value_onto}
 use Rattle.scene_model.specs.Grammar.{is_skipped}
 use Rattle.scene_model.specs.Journal.{Entry, Journal}
-use Rattle.scene_model.specs.JournalText.{number_within, entry_from, entry_of_pieces, entry_field, EntriesRead, entries_onto, entries_in, entries_behind, entries_of_line, with_first, after_line, at_last_piece, journal_pieces, journal_of}
+use Rattle.scene_model.specs.JournalText.{number_within, entry_from, entry_of_pieces, entry_field, EntriesRead, entries_onto, entries_in, entries_behind, entries_of_line, with_first, after_line, at_last_piece, journal_pieces, journal_of, greatest_encoder, greatest_ordinal}
+use Rattle.scene_model.specs.TextLaws.{IsSpellable}
 use Rattle.scene_text.specs.declared.journal.JournalEntry.{JournalEntry}
 use Rattle.scene_text.specs.Seen.{entry_seen}
 use Rattle.scene_text.specs.declared.journal.JournalFault.{JournalFault}
@@ -214,3 +217,91 @@ pieces_entries (p ∷ q ∷ rest) (suc n) j e = by (is_skipped p) e (pieces_entr
 -- a journal has no more entries than its text has bytes
 pub journal_short : (bytes : List ℕ) (n : ℕ) (j : Journal) → journal_of bytes n ≡ Ok j → entry_count j ≤ length bytes
 journal_short bytes n j e = omega (arith, pieces_entries (split_at 10 bytes) n j e, pieces_short 10 bytes)
+
+-- ---- the numbers of entries that are read
+
+both_of : (a b : Bool) → (a && b) ≡ true → (a ≡ true) × (b ≡ true)
+both_of true b e = (refl, e)
+both_of false b e = absurd (cc e)
+
+number_small : (high : ℕ) (f : List ℕ) (n : ℕ) → number_within high f ≡ Some n → n ≤ high
+number_small high f n e = by (is_numeral f && nat_le (value_onto 0 f) high) refl e
+  where
+    by : (b : Bool) → (is_numeral f && nat_le (value_onto 0 f) high) ≡ b → cond {A = Option ℕ} b (Some (value_onto 0 f)) None ≡ Some n → n ≤ high
+    by true h e =
+        let same : value_onto 0 f ≡ n = cc e in
+        subst (λ k. k ≤ high) same (leb-true (value_onto 0 f) high (both_of (is_numeral f) (nat_le (value_onto 0 f) high) h).1)
+    by false h e = absurd (cc e)
+
+entry_small : (a b : Option ℕ) (n : Entry) → ((x : ℕ) → a ≡ Some x → x ≤ greatest_encoder) → ((x : ℕ) → b ≡ Some x → x ≤ greatest_ordinal) → entry_from a b ≡ Some n → IsSpellable n
+entry_small None b n p q e = absurd (cc e)
+entry_small (Some x) None n p q e = absurd (cc e)
+entry_small (Some x) (Some y) n p q e = subst IsSpellable (the_entry x y n e) (p x refl, q y refl)
+  where
+    the_entry : (x y : ℕ) (n : Entry) → entry_from (Some x) (Some y) ≡ Some n → record { encoder = x; ordinal = y } ≡ n
+    the_entry x y n e = cc e
+
+field_small : (ps : List (List ℕ)) (n : Entry) → entry_of_pieces ps ≡ Some n → IsSpellable n
+field_small [] n e = absurd (cc e)
+field_small (a ∷ []) n e = absurd (cc e)
+field_small (a ∷ b ∷ []) n e = entry_small (number_within greatest_encoder a) (number_within greatest_ordinal b) n (number_small greatest_encoder a) (number_small greatest_ordinal b) e
+field_small (a ∷ b ∷ c ∷ rest) n e = absurd (cc e)
+
+abbrev AreSmall : List Entry → Type 0
+AreSmall es = AllByRecursion IsSpellable es
+
+entries_small : (fs : List (List ℕ)) → AreSmall (entries_in fs).entries
+entries_small [] = tt
+entries_small (f ∷ fs) = by (entry_field f) refl (entries_small fs)
+  where
+    by : (o : Option Entry) → entry_field f ≡ o → AreSmall (entries_in fs).entries → AreSmall (entries_onto o (entries_in fs)).entries
+    by None e h = tt
+    by (Some n) e h = (field_small (split_at 58 f) n e, h)
+
+behind_small : (fs : List (List ℕ)) → AreSmall (entries_behind fs).entries
+behind_small [] = tt
+behind_small (w ∷ fs) = by (bytes_eq w (codes "j")) (entries_small fs)
+  where
+    by : (b : Bool) → AreSmall (entries_in fs).entries → AreSmall (cond b (entries_in fs) (read_as [] false)).entries
+    by true h = h
+    by false h = tt
+
+abbrev IsSmall : Journal → Type 0
+IsSmall j = AllByRecursion AreSmall j
+
+pieces_small : (ps : List (List ℕ)) (n : ℕ) (j : Journal) → journal_pieces ps n ≡ Ok j → IsSmall j
+pieces_small [] n j e = absurd (cc e)
+pieces_small (p ∷ []) zero j e = last p e
+  where
+    last : (p : List ℕ) → at_last_piece 0 p ≡ Ok j → IsSmall j
+    last [] e = let same : [] ≡ j = cc e in subst IsSmall same tt
+    last (b ∷ bs) e = absurd (cc e)
+pieces_small (p ∷ []) (suc n) j e = last p e
+  where
+    last : (p : List ℕ) → at_last_piece (suc n) p ≡ Ok j → IsSmall j
+    last [] e = absurd (cc e)
+    last (b ∷ bs) e = absurd (cc e)
+pieces_small (p ∷ q ∷ rest) zero j e = by (is_skipped p) e (pieces_small (q ∷ rest) 0 j)
+  where
+    by : (b : Bool) → as_read b (journal_pieces (q ∷ rest) 0) (Err 0) ≡ Ok j → (journal_pieces (q ∷ rest) 0 ≡ Ok j → IsSmall j) → IsSmall j
+    by true e later = later e
+    by false e later = absurd (cc e)
+pieces_small (p ∷ q ∷ rest) (suc n) j e = by (is_skipped p) e (pieces_small (q ∷ rest) (suc n) j) (pieces_small (q ∷ rest) n)
+  where
+    joined : (r : Result Journal ℕ) → with_first (entries_of_line p).entries r ≡ Ok j → ((k : Journal) → r ≡ Ok k → IsSmall k) → IsSmall j
+    joined (Ok k) e later =
+        let same : (entries_of_line p).entries ∷ k ≡ j = cc e in
+        subst IsSmall same (behind_small (split_at 32 p), later k refl)
+    joined (Err place) e later = absurd (cc e)
+
+    whole : (b : Bool) → as_read b (with_first (entries_of_line p).entries (journal_pieces (q ∷ rest) n)) (Err (length (entries_of_line p).entries)) ≡ Ok j → ((k : Journal) → journal_pieces (q ∷ rest) n ≡ Ok k → IsSmall k) → IsSmall j
+    whole true e later = joined (journal_pieces (q ∷ rest) n) e later
+    whole false e later = absurd (cc e)
+
+    by : (b : Bool) → as_read b (journal_pieces (q ∷ rest) (suc n)) (after_line (entries_of_line p) (journal_pieces (q ∷ rest) n)) ≡ Ok j → (journal_pieces (q ∷ rest) (suc n) ≡ Ok j → IsSmall j) → ((k : Journal) → journal_pieces (q ∷ rest) n ≡ Ok k → IsSmall k) → IsSmall j
+    by true e later below = later e
+    by false e later below = whole (entries_of_line p).is_whole e below
+
+-- the entries of a journal that is read are in their ranges
+pub journal_small : (bytes : List ℕ) (n : ℕ) (j : Journal) → journal_of bytes n ≡ Ok j → AllByRecursion (AllByRecursion IsSpellable) j
+journal_small bytes n j e = pieces_small (split_at 10 bytes) n j e

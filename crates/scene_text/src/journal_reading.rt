@@ -2,6 +2,8 @@
 ghost use Rattle.std.specs.Prelude.{◌≡◌, ◌+◌, ◌<◌, ◌≤◌, ◌^◌, ℕ, List, ◌∷◌, length, option_map, Result, IfOk};
 ghost use Rattle.scene_model.specs.Journal as model;
 ghost use Rattle.scene_model.specs.JournalText.{number_within, entry_field, entries_in, entries_behind, entries_of_line, after_line, journal_pieces, at_last_piece, journal_of};
+ghost use Rattle.scene_model.specs.TextLaws.{IsSpellable};
+ghost use Rattle.std.specs.List.{AllByRecursion};
 ghost use Rattle.scene_text.specs.Fields.{texts};
 ghost use Rattle.scene_text.specs.Seen.{entry_seen, journal_seen};
 ghost use Rattle.scene_text.specs.Journals.{ReadsJournal, Passes, entry_count, behind_frames, entries_seen, frames_read, IsOnePiece};
@@ -207,6 +209,7 @@ pub fn read_journal(alloc: Global, bytes: &[u8], frames: u32) -> Result<Journal,
     requires { length bytes.now ≤ 4294967294 }
     ensures exact { ReadsJournal result (journal_of bytes.now frames) }
     ensures few { IfOk result (λ j. entry_count (journal_seen j) ≤ length bytes.now) }
+    ensures spellable { IfOk result (λ j. AllByRecursion (AllByRecursion IsSpellable) (journal_seen j)) }
 {
     let mut reading = JournalReading {
         frames: Vec::new(alloc),

@@ -1,5 +1,8 @@
 // How a journal is written.
-ghost use Rattle.std.specs.Prelude.{◌≡◌, ◌++◌, map, flat_map, IfOk};
+ghost use Rattle.std.specs.Prelude.{◌≡◌, ◌++◌, map, flat_map, length, Ok, IfOk};
+ghost use Rattle.std.specs.List.{AllByRecursion};
+ghost use Rattle.scene_model.specs.JournalText.{journal_of};
+ghost use Rattle.scene_model.specs.TextLaws.{IsSpellable};
 ghost use Rattle.scene_model.specs.Output.{entry_text, journal_line, journal_text};
 ghost use Rattle.scene_text.specs.Seen.{entry_seen, journal_seen};
 
@@ -46,13 +49,15 @@ fn put_frames(text: &mut Vec<u8>, frames: &[Sequence<JournalEntry>]) -> Result<(
     Ok(())
 }
 
-/// The text of a journal: a line for each frame, and no skipped lines.
+/// The text of a journal: a line for each frame, and no skipped lines. It is read as that journal again; the numbers of an
+/// entry are in their ranges by their types, and `read_journal` tells it of what it answers.
 ///
 /// # Errors
 ///
 /// `AllocError` where no memory is left for the text.
 pub fn write_journal(alloc: Global, journal: &Journal) -> Result<Vec<u8>, AllocError>
     ensures text { IfOk result (λ v. v.items ≡ journal_text (journal_seen journal.now)) }
+    ensures again { IfOk result (λ v. AllByRecursion (AllByRecursion IsSpellable) (journal_seen journal.now) → journal_of v.items (length (journal_seen journal.now)) ≡ Ok (journal_seen journal.now)) }
 {
     let mut text = Vec::new(alloc);
     put_frames(&mut text, journal.frames.as_slice())?;
