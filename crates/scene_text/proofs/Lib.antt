@@ -1,0 +1,14 @@
+pub mod Splits
+pub mod Pairs
+pub mod Found
+pub mod Lasts
+pub mod Lines
+pub mod HexDigits
+pub mod JournalLines
+pub mod FaultPlaces
+pub mod WordTables
+pub mod LineParts
+pub mod Fronts
+pub mod LineTails
+pub mod WrittenScenes
+pub mod Bounded

@@ -1,0 +1,14 @@
+pub mod LineWords
+pub mod Seen
+pub mod SeenWords
+pub mod SeenReading
+pub mod Gives
+pub mod Reads
+pub mod Digits
+pub mod Fields
+pub mod Names
+pub mod SeenNames
+pub mod Spelled
+pub mod WrittenParts
+pub mod Bounds
+pub mod Journals

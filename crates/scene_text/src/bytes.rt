@@ -1,0 +1,133 @@
+// Bytes and colours.
+ghost use Rattle.std.specs.Prelude.{◌≡◌, ◌*◌, length};
+ghost use Rattle.std.specs.List.{list_all};
+ghost use Rattle.scene_model.specs.Field.{hex_byte, hex_pairs, hex_bytes, color_field, source_field};
+ghost use Rattle.scene_text.specs.Digits.{is_hex, digit_of, pair_of, pairs_of};
+ghost use Rattle.scene_text.specs.Gives.{Gives, MayGive};
+ghost use Rattle.scene_text.specs.Seen.{source_seen};
+
+use crate::fault::{Cause, LineFault};
+use crate::scene::TexSource;
+use crate::sequence::Sequence;
+use crate::words::is;
+use std::alloc::Global;
+
+/// Whether a byte is a digit of sixteen: 0 to 9 or a to f.
+#[inline(always)]
+fn is_hex(byte: u8) -> bool
+    ensures { result ≡ is_hex byte }
+{
+    (byte >= b'0' && byte <= b'9') || (byte >= b'a' && byte <= b'f')
+}
+
+/// The value of a digit.
+#[inline(always)]
+fn digit_of(byte: u8) -> u8
+    ensures { result ≡ digit_of byte }
+{
+    if byte <= b'9' {
+        byte.saturating_sub(48)
+    } else {
+        byte.saturating_sub(87)
+    }
+}
+
+/// The byte of two digits.
+#[inline(always)]
+fn pair_of(a: u8, b: u8) -> u8
+    ensures { result ≡ pair_of a b }
+{
+    digit_of(a).wrapping_mul(16).wrapping_add(digit_of(b))
+}
+
+/// The byte of two digits, if they are digits.
+fn hex_pair(a: u8, b: u8) -> Result<u8, Cause>
+    ensures { Gives (λ v. v) result (hex_byte a b) }
+{
+    if !is_hex(a) {
+        return Err(Cause::Misspelt);
+    }
+    if !is_hex(b) {
+        return Err(Cause::Misspelt);
+    }
+    Ok(pair_of(a, b))
+}
+
+/// Eight digits: red, green, blue and alpha.
+pub fn color_field(field: &[u8]) -> Result<[u8; 4], Cause>
+    ensures { Gives (λ c. c) result (color_field field.now) }
+{
+    let [a, b, c, d, e, f, g, h] = field else {
+        return Err(Cause::Misspelt);
+    };
+    let red = hex_pair(*a, *b)?;
+    let green = hex_pair(*c, *d)?;
+    let blue = hex_pair(*e, *f)?;
+    let alpha = hex_pair(*g, *h)?;
+    Ok([red, green, blue, alpha])
+}
+
+/// Whether each byte is a digit. It does not stop early, so that the loop goes by vectors.
+fn all_hex(digits: &[u8]) -> bool
+    ensures { result ≡ list_all is_hex digits.now }
+{
+    let mut all = true;
+    for byte in digits {
+        all &= is_hex(*byte);
+    }
+    all
+}
+
+/// Puts the bytes of pairs of digits in their places.
+fn put_pairs(digits: &[u8], bytes: &mut [u8])
+    requires { length digits.now ≡ 2 * length bytes.old }
+    ensures { bytes.new ≡ pairs_of digits.now }
+{
+    for place in 0..bytes.len() {
+        bytes[place] = pair_of(digits[2 * place], digits[2 * place + 1]);
+    }
+}
+
+/// The bytes of pairs of digits.
+fn pairs(alloc: Global, digits: &[u8]) -> Result<Vec<u8>, LineFault>
+    ensures { MayGive (λ v. v.items) result (hex_pairs digits.now) }
+{
+    if digits.len() % 2 == 1 {
+        return Err(LineFault::Bad(Cause::Misspelt));
+    }
+    if !all_hex(digits) {
+        return Err(LineFault::Bad(Cause::Misspelt));
+    }
+    let mut bytes = vec![in alloc; 0u8; digits.len() / 2]?;
+    put_pairs(digits, &mut bytes);
+    Ok(bytes)
+}
+
+/// Pairs of digits, at least one, or `-` for no bytes.
+pub fn hex_bytes(alloc: Global, field: &[u8]) -> Result<Sequence<u8>, LineFault>
+    ensures { MayGive (λ v. v) result (hex_bytes field.now) }
+{
+    if is(field, b"-") {
+        return Ok(Sequence::new(alloc));
+    }
+    if field.is_empty() {
+        return Err(LineFault::Bad(Cause::Misspelt));
+    }
+    let bytes = pairs(alloc, field)?;
+    Ok(Sequence::from_vec(bytes))
+}
+
+/// `fill:COLOR` or `hex:HEX`.
+pub fn source_field(alloc: Global, field: &[u8]) -> Result<TexSource, LineFault>
+    ensures { MayGive source_seen result (source_field field.now) }
+{
+    if field.starts_with(b"fill:") {
+        let color = color_field(&field[5..])?;
+        return Ok(TexSource::Fill { color });
+    }
+    if field.starts_with(b"hex:") {
+        let bytes = hex_bytes(alloc, &field[4..])?;
+        return Ok(TexSource::Bytes { bytes });
+    }
+    Err(LineFault::Bad(Cause::Misspelt))
+}

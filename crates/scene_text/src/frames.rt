@@ -1,0 +1,107 @@
+// The frames that are being read, and what goes to the end of the last one.
+ghost use Rattle.std.specs.Prelude.{◌≡◌, [], ◌∷◌, ◌++◌, map, IfOk};
+ghost use Rattle.scene_model.specs.Grammar as model;
+ghost use Rattle.scene_text.specs.Seen.{resource_line_seen, encoder_line_seen, block_seen, frame_seen};
+
+use crate::scene::{EncBlock, EncLine, ResLine, SceneFrame};
+use crate::sequence::Sequence;
+use std::alloc::{AllocError, Global};
+
+/// The encoder of the last block.
+fn last_of(blocks: &[EncBlock]) -> Option<u8>
+    ensures { result ≡ model.last_encoder (map block_seen blocks.now) }
+{
+    match blocks {
+        [] => None,
+        [.., block] => Some(block.encoder),
+    }
+}
+
+/// The encoder of the last block of the last frame.
+pub fn last_encoder(frames: &[SceneFrame]) -> Option<u8>
+    ensures { result ≡ model.last_encoder (model.blocks_of_last (map frame_seen frames.now)) }
+{
+    match frames {
+        [] => None,
+        [.., frame] => last_of(frame.blocks.as_slice()),
+    }
+}
+
+/// A frame without lines.
+pub fn add_frame(alloc: Global, frames: &mut Vec<SceneFrame>) -> Result<(), AllocError>
+    ensures { IfOk result (λ _. map frame_seen frames.new.items ≡ map frame_seen frames.old.items ++ model.empty_frame ∷ []) }
+{
+    let before = Sequence::new(alloc);
+    let blocks = Sequence::new(alloc);
+    let beside = Sequence::new(alloc);
+    frames.push(SceneFrame {
+        before,
+        blocks,
+        beside,
+    })?;
+    Ok(())
+}
+
+/// A line before the blocks.
+pub fn add_before(frames: &mut Vec<SceneFrame>, line: ResLine) -> Result<(), AllocError>
+    ensures { IfOk result (λ _. map frame_seen frames.new.items ≡ model.on_last (model.with_before_line (resource_line_seen line)) (map frame_seen frames.old.items)) }
+{
+    match frames.last_mut() {
+        Some(frame) => frame.before.push(line)?,
+        None => drop(line),
+    }
+    Ok(())
+}
+
+/// A line beside the blocks.
+pub fn add_beside(frames: &mut Vec<SceneFrame>, line: ResLine) -> Result<(), AllocError>
+    ensures { IfOk result (λ _. map frame_seen frames.new.items ≡ model.on_last (model.with_beside_line (resource_line_seen line)) (map frame_seen frames.old.items)) }
+{
+    match frames.last_mut() {
+        Some(frame) => frame.beside.push(line)?,
+        None => drop(line),
+    }
+    Ok(())
+}
+
+/// A block without lines.
+pub fn add_block(alloc: Global, frames: &mut Vec<SceneFrame>, encoder: u8) -> Result<(), AllocError>
+    ensures { IfOk result (λ _. map frame_seen frames.new.items ≡ model.on_last (model.with_block encoder) (map frame_seen frames.old.items)) }
+{
+    let lines = Sequence::new(alloc);
+    let block = EncBlock { encoder, lines };
+    match frames.last_mut() {
+        Some(frame) => frame.blocks.push(block)?,
+        None => drop(block),
+    }
+    Ok(())
+}
+
+/// A line of the last block of a list.
+fn add_to_last(blocks: &mut Vec<EncBlock>, line: EncLine) -> Result<(), AllocError>
+    ensures { IfOk result (λ _. map block_seen blocks.new.items ≡ model.on_last (model.with_line (encoder_line_seen line)) (map block_seen blocks.old.items)) }
+{
+    match blocks.last_mut() {
+        Some(block) => block.lines.push(line)?,
+        None => drop(line),
+    }
+    Ok(())
+}
+
+fn add_to_blocks(blocks: &mut Sequence<EncBlock>, line: EncLine) -> Result<(), AllocError>
+    ensures { IfOk result (λ _. map block_seen blocks.new ≡ model.on_last (model.with_line (encoder_line_seen line)) (map block_seen blocks.old)) }
+{
+    add_to_last(&mut blocks.all, line)?;
+    Ok(())
+}
+
+/// A line of the last block.
+pub fn add_encoder_line(frames: &mut Vec<SceneFrame>, line: EncLine) -> Result<(), AllocError>
+    ensures { IfOk result (λ _. map frame_seen frames.new.items ≡ model.on_last (model.with_encoder_line (encoder_line_seen line)) (map frame_seen frames.old.items)) }
+{
+    match frames.last_mut() {
+        Some(frame) => add_to_blocks(&mut frame.blocks, line)?,
+        None => drop(line),
+    }
+    Ok(())
+}

@@ -1,0 +1,178 @@
+// The names that are bound, each with its place.
+ghost use Rattle.std.specs.Prelude.{◌≡◌, ◌<◌, ◌^◌, [], map, length, IfOk};
+ghost use Rattle.scene_model.specs.Grammar.{text_of};
+ghost use Rattle.scene_text.specs.Seen.{name_seen};
+ghost use Rattle.std.specs.List.{list_all};
+ghost use Rattle.scene_model.specs.Field.{used_name, optional_name, create_name, is_name, find_name, is_name_byte, is_lower};
+ghost use Rattle.scene_text.specs.Gives.{Gives, MayGive};
+ghost use Rattle.scene_text.specs.Names.{only_place};
+
+use crate::fault::{Cause, LineFault};
+use crate::scene::SceneName;
+use crate::sequence::Sequence;
+use crate::words::is;
+use indexmap::IndexMap;
+use std::alloc::{AllocError, Global};
+use std::marker::Model;
+
+// How many names there are at most.
+const MOST: usize = 4_294_967_295;
+
+/// The names in the order in which they were bound first, and whether a `uniform` line bound them.
+#[derive(Drop)]
+pub struct Names {
+    bound: IndexMap<Vec<u8>, bool>,
+}
+
+impl Model for Names {
+    ghost use Rattle.std.specs.Prelude.{◌≤◌, List, map};
+    ghost use Rattle.indexmap.specs.IndexMap.{index_map_len};
+    ghost use Rattle.scene_model.specs.Field.{BoundName};
+    ghost use Rattle.scene_text.specs.SeenNames.{bound_name};
+
+    ghost Value = { List BoundName };
+
+    ghost view = { λ n. map bound_name n.bound.entries };
+
+    ghost invariant = { λ n. index_map_len n.bound ≤ 4294967295 };
+}
+
+fn is_lower(byte: u8) -> bool
+    ensures { result ≡ is_lower byte }
+{
+    byte >= b'a' && byte <= b'z'
+}
+
+fn is_name_byte(byte: u8) -> bool
+    ensures { result ≡ is_name_byte byte }
+{
+    is_lower(byte) || (byte >= b'0' && byte <= b'9') || byte == b'_'
+}
+
+fn all_name_bytes(bytes: &[u8]) -> bool
+    ensures { result ≡ list_all is_name_byte bytes.now }
+{
+    bytes.iter().all(|b| is_name_byte(*b))
+}
+
+fn is_name(field: &[u8]) -> bool
+    ensures { result ≡ is_name field.now }
+{
+    match field {
+        [] => false,
+        [first, rest @ ..] => {
+            if !is_lower(*first) {
+                return false;
+            }
+            if !all_name_bytes(rest) {
+                return false;
+            }
+            rest.len() <= 31
+        }
+    }
+}
+
+impl Names {
+    pub fn new(alloc: Global) -> Names
+        ensures { result ≡ [] }
+    {
+        Names {
+            bound: IndexMap::new(alloc),
+        }
+    }
+
+    /// The place of a name that an earlier line binds.
+    pub fn used(&self, field: &[u8]) -> Result<u32, Cause>
+        ensures { Gives (λ n. n) result (used_name self.now field.now) }
+    {
+        if !is_name(field) {
+            return Err(Cause::NoName);
+        }
+        match self.bound.get_index_of(field) {
+            Some(place) => Ok(place as u32),
+            None => Err(Cause::NameIsNotBound),
+        }
+    }
+
+    /// The same, or none for `-`.
+    pub fn optional(&self, field: &[u8]) -> Result<Option<u32>, Cause>
+        ensures { Gives (λ n. n) result (optional_name self.now field.now) }
+    {
+        if is(field, b"-") {
+            return Ok(None);
+        }
+        let name = self.used(field)?;
+        Ok(Some(name))
+    }
+
+    /// The place that a create line's name takes. Nothing is bound yet.
+    pub fn place(&self, field: &[u8], by_uniform: bool) -> Result<u32, Cause>
+        ensures { Gives (λ n. n) result (only_place (create_name self.now by_uniform field.now)) }
+    {
+        if !is_name(field) {
+            return Err(Cause::NoName);
+        }
+        match self.bound.get_full(field) {
+            Some((place, _, bound_by_uniform)) => {
+                if !by_uniform {
+                    return Err(Cause::NameIsBound);
+                }
+                if !*bound_by_uniform {
+                    return Err(Cause::NameIsBound);
+                }
+                Ok(place as u32)
+            }
+            None => {
+                let place = self.bound.len();
+                Ok(place as u32)
+            }
+        }
+    }
+
+    /// Binds a create line's name, and answers its place.
+    pub fn create(
+        &mut self,
+        alloc: Global,
+        field: &[u8],
+        by_uniform: bool,
+    ) -> Result<u32, LineFault>
+        ensures { MayGive (λ n. (n, self.new)) result (create_name self.old by_uniform field.now) }
+    {
+        if !is_name(field) {
+            return Err(LineFault::Bad(Cause::NoName));
+        }
+        match self.bound.get_full(field) {
+            Some((place, _, bound_by_uniform)) => {
+                if !by_uniform {
+                    return Err(LineFault::Bad(Cause::NameIsBound));
+                }
+                if !*bound_by_uniform {
+                    return Err(LineFault::Bad(Cause::NameIsBound));
+                }
+                Ok(place as u32)
+            }
+            None => {
+                let place = self.bound.len();
+                if place >= MOST {
+                    return Err(LineFault::OutOfMemory);
+                }
+                let text = Vec::from_slice(alloc, field)?;
+                self.bound.insert(text, by_uniform)?;
+                Ok(place as u32)
+            }
+        }
+    }
+
+    /// The texts of the names.
+    pub fn into_names(self, alloc: Global) -> Result<Vec<SceneName>, AllocError>
+        ensures { IfOk result (λ v. map name_seen v.items ≡ map text_of self) }
+    {
+        let mut names = Vec::new(alloc);
+        for text in self.bound.into_keys() {
+            names.push(SceneName {
+                text: Sequence::from_vec(text),
+            })?;
+        }
+        Ok(names)
+    }
+}

@@ -1,0 +1,35 @@
+// Splits bytes at a separator.
+ghost use Rattle.std.specs.Prelude.{◌≡◌, ◌<◌, ◌+◌, ◌^◌, [], ◌∷◌, length, take, drop, MatchOption, IfOk, IfSome};
+ghost use Rattle.scene_model.specs.Field.{split_at};
+ghost use Rattle.scene_text.specs.Fields.{texts};
+
+use memchr::memchr;
+use std::alloc::AllocError;
+
+/// The place of the first separator.
+pub fn find(bytes: &[u8], separator: u8) -> Option<usize>
+    ensures cases { MatchOption result
+        (split_at separator bytes.now ≡ bytes.now ∷ [])
+        (λ n. (n < length bytes.now) × (split_at separator bytes.now ≡ take n bytes.now ∷ split_at separator (drop (n + 1) bytes.now))) }
+    ensures small { IfSome result (λ n. n < 2 ^ 63) }
+{
+    memchr(separator, bytes)
+}
+
+/// The parts between the separators, in place of what the list held.
+pub fn split_fields<'a>(
+    line: &'a [u8],
+    separator: u8,
+    fields: &mut Vec<&'a [u8]>,
+) -> Result<(), AllocError>
+    ensures { IfOk result (λ _. texts fields.new.items ≡ split_at separator line.now) }
+{
+    fields.clear();
+    let mut rest = line;
+    while let Some(n) = find(rest, separator) {
+        fields.push(&rest[..n])?;
+        rest = &rest[n + 1..];
+    }
+    fields.push(rest)?;
+    Ok(())
+}
