@@ -236,10 +236,10 @@ fn sizes_of_commands(rt: HostRuntime) -> Result<(), Fail> {
         },
         Command::CreateProgram { index: 3, kind: 2 },
     ];
-    let mut sum = 1;
+    let mut sum: usize = 1;
     for command in &commands {
         assert!(rt; command.size() <= MOST_COMMAND_BYTES);
-        sum += command.size() as usize;
+        sum = sum.saturating_add(command.size() as usize);
     }
     assert_eq!(rt; bytes_of(rt.alloc(), &commands)?.as_slice().len(), sum);
     assert_eq!(rt; sum, 33);
