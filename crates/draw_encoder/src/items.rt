@@ -108,7 +108,7 @@ pub enum Item {
 
 /// What one encoder recorded in a frame: its items in order, its transient bytes, its uniform values,
 /// and the number that was handed to `end`.
-#[derive(Drop, Debug)]
+#[derive(Drop)]
 pub struct Recording {
     pub encoder: u8,
     pub frame: u32,

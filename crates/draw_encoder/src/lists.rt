@@ -8,7 +8,7 @@ use gfx_words::Handle;
 use std::marker::Model;
 
 /// The items of a recording, in order. Contracts see the list.
-#[derive(Drop, Debug)]
+#[derive(Drop)]
 pub struct Items {
     all: Vec<Item>,
 }
@@ -62,7 +62,7 @@ pub(crate) fn put_item(items: &mut Vec<Item>, item: Item)
 }
 
 /// The transient bytes of a recording. Contracts see the list.
-#[derive(Drop, Debug)]
+#[derive(Drop)]
 pub struct Bytes {
     all: Vec<u8>,
 }
@@ -92,7 +92,7 @@ impl Bytes {
 }
 
 /// The uniform values of a recording, in the order in which they were set. Contracts see the list.
-#[derive(Drop, Debug)]
+#[derive(Drop)]
 pub struct UniformSets {
     all: Vec<UniformSet>,
 }
