@@ -11,9 +11,9 @@ ghost use Rattle.scene_player.specs.Lines.{IsFirst, progress_seen};
 use crate::frame::Frame;
 use crate::progress::Progress;
 use crate::recording::{Recording, lines_of, record};
-use triangle_text::{JournalEntry, Scene, SceneFrame};
 use scene_world::Item;
 use std::alloc::{AllocError, Global};
+use triangle_text::{JournalEntry, Scene, SceneFrame};
 
 /// What each encoder records in a frame, one after another.
 fn record_all(

@@ -2,8 +2,8 @@
 ghost use Rattle.std.specs.Prelude.{◌≡◌, length};
 
 use crate::recording::Recording;
-use triangle_text::JournalEntry;
 use scene_world::{Content, ViewClear};
+use triangle_text::JournalEntry;
 
 /// What a frame is drawn from: what it creates behind the things that there are, the views' clears as they stand after its
 /// lines, what each encoder recorded, and the items in the order of their numbers. With it goes the number of dropped

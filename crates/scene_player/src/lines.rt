@@ -18,9 +18,9 @@ use crate::names::Names;
 use crate::progress::Progress;
 use gfx_words::{Handle, ProgramKind, Refusal, UniformKind};
 use scene_calls::Resources;
-use triangle_text::{Clear, LayoutPart, ResLine, SceneName};
 use scene_world::{Content, ViewClear};
 use std::alloc::{AllocError, Global};
+use triangle_text::{Clear, LayoutPart, ResLine, SceneName};
 
 /// The text of a name.
 fn text_of(names: &[SceneName], name: u32) -> &[u8]

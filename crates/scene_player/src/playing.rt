@@ -16,8 +16,8 @@ use crate::notes::push_frame;
 use crate::progress::Progress;
 use crate::renderer::{Canvas, Outcome};
 use io_edge::Sink;
-use triangle_text::{Journal, JournalEntry, Scene, SceneFrame, Sequence};
 use std::alloc::{AllocError, Global};
+use triangle_text::{Journal, JournalEntry, Scene, SceneFrame, Sequence};
 
 /// What the frames of a scene leave: how they ended, the entries of each frame that was played, and the report.
 #[derive(Drop)]

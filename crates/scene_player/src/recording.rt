@@ -14,10 +14,10 @@ use crate::dropping::drops;
 use crate::progress::Progress;
 use gfx_words::{Refusal, UniformValue};
 use scene_calls::Recorder;
-use triangle_text::{EncBlock, EncLine, Room};
 use scene_world::Item;
 use std::alloc::{AllocError, Global};
 use std::marker::Model;
+use triangle_text::{EncBlock, EncLine, Room};
 
 /// An encoder in a frame, and how many of its lines were dropped.
 #[derive(Drop)]

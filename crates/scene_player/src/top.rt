@@ -17,10 +17,10 @@ use crate::renderer::Outcome;
 use crate::status::Status;
 use crate::words::is_play;
 use io_edge::{Gate, Sink, Source};
-use triangle_text::{Journal, Scene, SceneFault, Sequence, read};
 use std::alloc::Global;
 use std::sync::Wait;
 use std::thread::Threads;
+use triangle_text::{Journal, Scene, SceneFault, Sequence, read};
 
 /// What a play leaves: how it ended, the entries of each frame that was played, and the sink.
 #[derive(Drop)]
