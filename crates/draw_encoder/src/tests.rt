@@ -291,17 +291,17 @@ fn two_recorders_at_once(rt: HostRuntime) -> Result<(), Fail> {
     Ok(())
 }
 
-// Collects eight bundles, and adds up the numbers that they were ended with.
-fn collect_eight<C: Naming, R: Wait>(rt: &R, shared: &Shared<C>) -> u32 {
+// Collects four bundles, and adds up the numbers that they were ended with.
+fn collect_four<C: Naming, R: Wait>(rt: &R, shared: &Shared<C>) -> u32 {
     let mut sum = 0u32;
-    for _ in 0..8u8 {
+    for _ in 0..4u8 {
         let (recording, _) = shared.collect(rt).part();
         sum = sum.wrapping_add(recording.dropped);
     }
     sum
 }
 
-fn eight<C: Naming + Send + Sync, R: Threads + Wait + Sync>(
+fn four<C: Naming + Send + Sync, R: Threads + Wait + Sync>(
     rt: &R,
     alloc: Global,
     table: HoldTable,
@@ -318,26 +318,18 @@ fn eight<C: Naming + Send + Sync, R: Threads + Wait + Sync>(
     let b = begun(alloc, &shared, &mut api, 1)?;
     let c = begun(alloc, &shared, &mut api, 2)?;
     let d = begun(alloc, &shared, &mut api, 3)?;
-    let e = begun(alloc, &shared, &mut api, 4)?;
-    let f = begun(alloc, &shared, &mut api, 5)?;
-    let g = begun(alloc, &shared, &mut api, 6)?;
-    let h = begun(alloc, &shared, &mut api, 7)?;
     a.end(rt, 1);
     b.end(rt, 10);
     c.end(rt, 100);
     d.end(rt, 1000);
-    e.end(rt, 10_000);
-    f.end(rt, 100_000);
-    g.end(rt, 1_000_000);
-    h.end(rt, 10_000_000);
-    let (sum, _) = thread::join(rt, || collect_eight(rt, &shared), || ());
+    let (sum, _) = thread::join(rt, || collect_four(rt, &shared), || ());
     Some(sum)
 }
 
 #[test]
-fn eight_bundles(rt: HostRuntime) -> Result<(), Fail> {
+fn four_bundles(rt: HostRuntime) -> Result<(), Fail> {
     let (table, api) = HoldTable::new(rt.alloc(), 0)?;
-    let sum = eight::<Brand, _>(&rt, rt.alloc(), table, api);
-    assert_eq!(rt; sum, Some(11_111_111));
+    let sum = four::<Brand, _>(&rt, rt.alloc(), table, api);
+    assert_eq!(rt; sum, Some(1_111));
     Ok(())
 }
