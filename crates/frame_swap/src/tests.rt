@@ -1,4 +1,4 @@
-// Both ends in one thread, and a thread that renders.
+// A thread that renders, at each latency.
 ghost use Rattle.std.specs.Prelude.{◌≡◌, ◌≤◌, []};
 ghost use Rattle.frame_record.specs.Links.{frames_of};
 ghost use Rattle.frame_swap.specs.Ends.{api_table, api_knows, render_table, render_knows};
@@ -30,34 +30,6 @@ fn frame(rt: &HostRuntime, number: u32) -> Result<Frame, Fail> {
         Vec::new(alloc),
         Vec::new(alloc),
     ))
-}
-
-#[test]
-fn frames_come_back_in_their_order(rt: HostRuntime) -> Result<(), Fail> {
-    let (mut api, mut end) = swap_pair(rt.alloc(), 2)?;
-    assert!(rt; end.try_take().is_err());
-    api.give(&rt, frame(&rt, 7)?);
-    api.give(&rt, frame(&rt, 8)?);
-    assert!(rt; api.try_take_back().is_none());
-    let first = end.take(&rt).ok_or("no frame")?;
-    assert!(rt; first.number == 7 && first.payloads.len() == 1);
-    end.give_back(RenderedFrame {
-        frame: first,
-        outcome: Outcome::PictureFault,
-    });
-    let back = api.take_back(&rt);
-    assert!(rt; back.frame.number == 7 && back.outcome == Outcome::PictureFault);
-    let second = end.take(&rt).ok_or("no frame")?;
-    end.give_back(RenderedFrame {
-        frame: second,
-        outcome: Outcome::Skipped,
-    });
-    let back = api.take_back(&rt);
-    assert!(rt; back.frame.number == 8 && back.outcome == Outcome::Skipped);
-    api.stop();
-    assert!(rt; end.take(&rt).is_none());
-    api.close(end);
-    Ok(())
 }
 
 // Renders each frame until the stop.
