@@ -12,6 +12,8 @@ mod settings;
 mod shelf;
 mod stacks;
 mod table;
+#[cfg(test)]
+mod tests;
 mod updates;
 
 pub use book::Book;

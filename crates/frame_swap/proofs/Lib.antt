@@ -1,0 +1,5 @@
+pub mod Ring
+pub mod Steps
+pub mod Slots
+pub mod WholeSeat
+pub mod Events

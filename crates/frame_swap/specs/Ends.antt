@@ -1,0 +1,31 @@
+-- What a clause says of the two ends.
+use Rattle.std.specs.Prelude.{ℕ, List}
+use Rattle.atomic_table.specs.Seated.{TableId}
+use Rattle.frame_swap.specs.Views.{SwapView}
+use Rattle.frame_record.specs.declared.frame.Frame.{Frame}
+use Rattle.frame_record.specs.declared.frame.RenderedFrame.{RenderedFrame}
+use Rattle.frame_swap.specs.declared.ends.ApiEnd.{ApiEnd}
+use Rattle.frame_swap.specs.declared.ends.RenderEnd.{RenderEnd}
+
+-- the table that an end is of
+abbrev pub api_table : ApiEnd → TableId
+api_table e = e.seat.table_id
+
+abbrev pub render_table : RenderEnd → TableId
+render_table e = e.seat.table_id
+
+-- what an end knows
+abbrev pub api_knows : ApiEnd → SwapView
+api_knows e = e.seat.me.0
+
+abbrev pub render_knows : RenderEnd → SwapView
+render_knows e = e.seat.me.0
+
+abbrev pub given_by : ApiEnd → List Frame
+given_by e = e.seat.me.0.given
+
+abbrev pub back_by : ApiEnd → List RenderedFrame
+back_by e = e.seat.me.0.back
+
+abbrev pub latency_of : ApiEnd → ℕ
+latency_of e = e.latency

@@ -1,0 +1,112 @@
+-- Which event of the schedule each kind of step is.
+use Rattle.std.specs.Prelude.{◌≡◌, ◌≢◌, ℕ, true, false, List, [], ◌∷◌, ◌++◌, map, length, take, slice_set, Some}
+use Rattle.std.specs.List.{list_all}
+use mathlib.Core.Option.{some}
+use lib.ListN.{get_elem?}
+use Rattle.atomic_table.specs.Table.{State as TableState, Step, Act, stepped, carried_after}
+use Rattle.schedule_model.specs.Machine as machine
+use Rattle.schedule_model.specs.Machine.{State, Event, Thing, give, take_frame, return_frame, take_back, step, has_no_work, is_usable, opening}
+use Rattle.frame_record.specs.declared.frame.Frame.{Frame}
+use Rattle.frame_record.specs.declared.frame.Outcome.{Outcome}
+use Rattle.frame_record.specs.declared.frame.Outcome.TheVariants as outcomes
+use Rattle.frame_record.specs.declared.frame.RenderedFrame.{RenderedFrame}
+use Rattle.frame_swap.specs.declared.content.Content.TheVariants.{Given, Back}
+use Rattle.frame_swap.specs.Views.{Side, api, render, SwapView, Slot, Slots, Mine}
+use Rattle.frame_swap.specs.Rule.{IsHeld}
+use Rattle.frame_swap.specs.contracts.view.LawTableRuleOptionContentViewU8.TheImpl.{ghosts as table_rule}
+use Rattle.frame_swap.specs.contracts.view.ClaimPlayOptionContentView.TheImpl.{ghosts as claim_kind}
+use Rattle.frame_swap.specs.contracts.view.GivePlayOptionContentView.TheImpl.{ghosts as give_kind}
+use Rattle.frame_swap.specs.contracts.view.TakePlayOptionContentView.TheImpl.{ghosts as take_kind}
+use Rattle.frame_swap.specs.contracts.view.ReturnPlayOptionContentView.TheImpl.{ghosts as return_kind}
+use Rattle.frame_swap.specs.contracts.view.TakeBackPlayOptionContentView.TheImpl.{ghosts as back_kind}
+use Rattle.frame_swap.specs.contracts.view.StopPlayOptionContentView.TheImpl.{ghosts as stop_kind}
+
+-- ---- what a table stands for
+
+abbrev pub Table : Type 0
+Table = TableState Slot SwapView
+
+-- an outcome as the schedule has it
+abbrev pub outcome_seen : Outcome → machine.Outcome
+outcome_seen outcomes.Shown = machine.shown
+outcome_seen outcomes.PictureFault = machine.picture_fault
+outcome_seen outcomes.OutOfMemory = machine.out_of_memory
+outcome_seen outcomes.Skipped = machine.skipped
+
+-- where it stands what the render end took and returned: in the API end's view, where that is the whole, or in the render end's
+pub data IsOther (views : List SwapView) (me other : SwapView) : Type 0 where
+  is_same : me.is_whole ≡ true → other ≡ me → IsOther views me other
+  is_render : (j : ℕ) → get_elem? views j ≡ some other → other.side ≡ render → IsOther views me other
+
+-- the views of the two ends
+pub record Ends (views : List SwapView) (me other : SwapView) : Type 0 where
+  pub first : get_elem? views 0 ≡ some me
+  pub is_api : me.side ≡ api
+  pub second : IsOther views me other
+
+-- what the ends know stands for the lists of the schedule: its given frames have the numbers of those that were given, as many of them are
+-- taken, returned and back, and they were returned with the same outcomes. Of the names of frames nothing is said
+pub record Stands (me other : SwapView) (m : State) : Type 0 where
+  pub given : map (λ f. f.number) m.given ≡ map (λ f. f.number) me.given
+  pub taken : m.taken ≡ take (length other.taken) m.given
+  pub returned : map (λ x. x.0) m.returned ≡ take (length other.returned) m.given
+  pub outcomes : map (λ x. x.1) m.returned ≡ map (λ r. outcome_seen r.outcome) other.returned
+  pub back : m.back ≡ take (length me.back) m.returned
+
+-- a table stands for a state of the schedule
+abbrev pub StandsFor : Table → State → Type 0
+StandsFor s m = (me : SwapView) × (other : SwapView) × Ends s.views me other × Stands me other m
+
+-- the event is allowed in the state, and the table stands for the state after it
+abbrev pub IsEvent : ℕ → Table → State → Event → Type 0
+IsEvent latency t m e = (n : State) × (step latency m e ≡ Some n) × StandsFor t n
+
+-- ---- the steps, as the table's base makes them
+
+-- the seat id, whose view is v, makes a step of a kind, which tells of the number r
+pub record Plays (then : Step Slot → Mine → ℕ → Mine → Type 0) (id : ℕ) (v : SwapView) (hand : Slots) (at : Step Slot) (r : ℕ) (s t : Table) : Type 0 where
+  pub was : get_elem? s.views id ≡ some v
+  pub written : ℕ
+  pub act : Act Slot
+  pub w : SwapView
+  pub after : t ≡ stepped s at.word written id hand w act
+  pub told : then at (v, hand) r (w, carried_after hand act)
+
+-- ---- each kind of step, between two tables of which the rule holds
+
+module _ (latency : ℕ) (s t : Table) (m : State) where
+  -- a frame of the schedule's number is given: Give, where the schedule allows it but for the room, which the rule says
+  abbrev pub GiveIs : Type 0
+  GiveIs = (id : ℕ) (v : SwapView) (at : Step Slot) (r : ℕ) (f : Frame) (others : Slots) (targets : List Thing) → v.side ≡ api → f.number ≡ m.frame
+      → has_no_work m ≡ true → m.is_given ≡ false → list_all (is_usable m m.frame) targets ≡ true
+      → Plays give_kind.then id v ((at.word, Some (Given f)) ∷ others) at r s t → IsEvent latency t m (give targets)
+
+  -- the render end takes a frame where it found one: Take; where it found none, or the stop, no event
+  abbrev pub TakeIs : Type 0
+  TakeIs = (id : ℕ) (v : SwapView) (hand : Slots) (at : Step Slot) (r : ℕ) → v.side ≡ render → Plays take_kind.then id v hand at r s t
+      → (r ≡ 1 → IsEvent latency t m take_frame) × (r ≢ 1 → StandsFor t m)
+
+  -- the render end gives a frame back: Return, with the frame's outcome
+  abbrev pub ReturnIs : Type 0
+  ReturnIs = (id : ℕ) (v : SwapView) (at : Step Slot) (r : ℕ) (b : RenderedFrame) (others : Slots) → v.side ≡ render
+      → Plays return_kind.then id v ((at.word, Some (Back b)) ∷ others) at r s t → IsEvent latency t m (return_frame (outcome_seen b.outcome))
+
+  -- the API end takes a frame back where it found one: Back; else no event
+  abbrev pub BackIs : Type 0
+  BackIs = (id : ℕ) (v : SwapView) (hand : Slots) (at : Step Slot) (r : ℕ) → v.side ≡ api → Plays back_kind.then id v hand at r s t
+      → (r ≡ 3 → IsEvent latency t m take_back) × (r ≢ 3 → StandsFor t m)
+
+  -- claims and stops are no events
+  abbrev pub ClaimIs : Type 0
+  ClaimIs = (id : ℕ) (v : SwapView) (hand : Slots) (at : Step Slot) (r : ℕ) → v.side ≡ api → Plays claim_kind.then id v hand at r s t → StandsFor t m
+
+  abbrev pub StopIs : Type 0
+  StopIs = (id : ℕ) (v : SwapView) (hand : Slots) (at : Step Slot) (r : ℕ) → v.side ≡ api → Plays stop_kind.then id v hand at r s t → StandsFor t m
+
+-- a law of each step between two tables of which the rule holds, where the first stands for a state
+abbrev pub OfSteps : (ℕ → Table → Table → State → Type 0) → Type 0
+OfSteps L = (latency : ℕ) (s t : Table) (m : State) → IsHeld latency s → IsHeld latency t → StandsFor s m → L latency s t m
+
+-- a new table stands for the opening state
+abbrev pub NewIsOpening : Type 0
+NewIsOpening = (latency first : ℕ) (s : Table) → s.views ≡ table_rule.first latency ∷ [] → StandsFor s (opening first)

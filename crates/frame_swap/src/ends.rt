@@ -1,0 +1,265 @@
+// The two ends.
+ghost use Rattle.std.specs.Prelude.{◌≡◌, ℕ, ◌+◌, ◌-◌, ◌%◌, [], ◌∷◌, ◌++◌, length, ◌<◌, ◌≤◌, IfOk, IfErr, IfSome, IfNone, MatchOption};
+ghost use Rattle.std.specs.Arc.{arc_value};
+ghost use Rattle.frame_record.specs.Links.{frames_of, out_of, CameBack};
+ghost use Rattle.frame_swap.specs.Views.{api, render, first_view, empty_slots, gave, took, saw, gave_back, came, stopped};
+
+use crate::content::Content;
+use crate::view::{Claim, Give, Law, Learn, Part, Return, Stop, Take, TakeBack, View};
+use atomic_table::{Seat, Table};
+use crossbeam_utils::Backoff;
+use frame_record::{Frame, FrameLink, RenderedFrame};
+use std::alloc::{AllocError, Global};
+use std::sync::{Arc, Wait};
+
+/// The table of the frames: as many words and slots as frames may be out; its key is that number.
+pub type FrameTable = Table<Option<Content>, View, u8, Law, Global>;
+
+/// The end that gives frames and takes them back.
+#[derive(Drop)]
+pub struct ApiEnd {
+    table: Arc<FrameTable, Global>,
+    seat: Seat<Option<Content>, View>,
+    latency: u8,
+    next: u8,
+    oldest: u8,
+    ghost counts: { ((arc_value table).shared.table_id.words ≡ latency) × ((arc_value table).shared.table_id.slots ≡ latency) },
+    ghost keyed: { (arc_value table).shared.key ≡ latency },
+    ghost some_word: { 0 < latency },
+    ghost seated: { seat.table_id ≡ (arc_value table).shared.table_id },
+    ghost is_api: { seat.me.0.side ≡ api },
+    ghost claimed: { seat.me.0.claimed ≡ latency },
+    ghost next_is: { next ≡ length seat.me.0.given % latency },
+    ghost oldest_is: { oldest ≡ length seat.me.0.back % latency },
+    ghost few: { (length seat.me.0.back ≤ length seat.me.0.given) × (length seat.me.0.given ≤ length seat.me.0.back + latency) },
+    ghost has: { seat.me.1 ≡ empty_slots latency (length seat.me.0.given) (length seat.me.0.back + latency - length seat.me.0.given) },
+}
+
+/// The end that takes frames and gives them back.
+#[derive(Drop)]
+pub struct RenderEnd {
+    table: Arc<FrameTable, Global>,
+    seat: Seat<Option<Content>, View>,
+    latency: u8,
+    place: u8,
+    ghost counts: { ((arc_value table).shared.table_id.words ≡ latency) × ((arc_value table).shared.table_id.slots ≡ latency) },
+    ghost keyed: { (arc_value table).shared.key ≡ latency },
+    ghost some_word: { 0 < latency },
+    ghost seated: { seat.table_id ≡ (arc_value table).shared.table_id },
+    ghost is_render: { seat.me.0.side ≡ render },
+    ghost place_is: { place ≡ length seat.me.0.returned % latency },
+    ghost one_hand: { (length seat.me.0.returned ≤ length seat.me.0.taken) × (length seat.me.0.taken ≤ length seat.me.0.returned + 1) },
+    ghost has: { seat.me.1 ≡ empty_slots latency (length seat.me.0.returned) (length seat.me.0.taken - length seat.me.0.returned) },
+}
+
+/// No frame was given yet, and no stop.
+#[derive(Clone, Copy, Drop, PartialEq, Eq, Debug)]
+pub struct Nothing;
+
+/// The two ends of one table, of which up to `latency` frames may be out. `Err` only for want of memory.
+pub fn swap_pair(alloc: Global, latency: u8) -> Result<(ApiEnd, RenderEnd), AllocError>
+    requires { 1 ≤ latency }
+    ensures pair { IfOk result (λ r. r.1.seat.table_id ≡ r.0.seat.table_id) }
+    ensures api { IfOk result (λ r. (r.0.seat.me.0.given ≡ []) × (r.0.seat.me.0.back ≡ []) × (r.0.latency ≡ latency)) }
+    ensures render { IfOk result (λ r. (r.1.seat.me.0.taken ≡ []) × (r.1.seat.me.0.returned ≡ []) × (r.1.seat.me.0.stops ≡ 0)) }
+{
+    let words = Vec::from_elem(alloc, 0u64, latency as usize)?;
+    let (table, mut seat) = Table::vacant(alloc, words.as_slice(), latency as usize, &latency)?;
+    claim_all(&table, &mut seat, latency);
+    let other = table.shared.split_seat::<Part>(&mut seat);
+    let table = Arc::new(alloc, table)?;
+    let shared = Arc::try_clone(&table)?;
+    Ok((
+        ApiEnd {
+            table,
+            seat,
+            latency,
+            next: 0,
+            oldest: 0,
+        },
+        RenderEnd {
+            table: shared,
+            seat: other,
+            latency,
+            place: 0,
+        },
+    ))
+}
+
+/// The API end of a new table takes all slots, the first of them first.
+pub fn claim_all(table: &FrameTable, seat: &mut Seat<Option<Content>, View>, latency: u8)
+    requires counts { (table.now.shared.table_id.words ≡ latency) × (table.now.shared.key ≡ latency) }
+    requires seated { seat.old.table_id ≡ table.now.shared.table_id }
+    requires first { seat.old.me ≡ (first_view, []) }
+    ensures seated { seat.new.table_id ≡ seat.old.table_id }
+    ensures view { seat.new.me ≡ (record first_view { claimed = latency }, empty_slots latency 0 latency) }
+{
+    for i in 0..latency {
+        table.shared.store::<Claim>(seat, i as usize, 0);
+        seat.turn();
+    }
+}
+
+impl ApiEnd {
+    /// Takes the oldest frame that is out back, where its render has ended; None changes nothing.
+    pub fn try_take_back(&mut self) -> Option<RenderedFrame>
+        ensures came { IfSome result (λ r. self.new.seat.me.0 ≡ came r self.old.seat.me.0) }
+        ensures order { IfSome result (λ r. CameBack self.old.seat.me.0.given self.old.seat.me.0.back self.new.seat.me.0.back r) }
+        ensures none { IfNone result (self.new.seat.me.0 ≡ self.old.seat.me.0) }
+        ensures same { (self.new.seat.table_id ≡ self.old.seat.table_id) × (self.new.latency ≡ self.old.latency) }
+    {
+        let shared = &self.table.shared;
+        let place = self.oldest as usize;
+        if shared.compare_exchange::<TakeBack>(&mut self.seat, place, 3, 0) != 3 {
+            return None;
+        }
+        let found = shared.exchange(&mut self.seat, place, None);
+        self.seat.turn();
+        self.oldest = (self.oldest + 1) % self.latency;
+        match found {
+            Some(Content::Back(rendered)) => Some(rendered),
+            _ => unreachable!(),
+        }
+    }
+
+    /// No frame is given any more. The render end takes the frames that it has not taken, and then finds the stop.
+    pub fn stop(&mut self)
+        requires none_out { length self.old.seat.me.0.given ≡ length self.old.seat.me.0.back }
+        ensures view { self.new.seat.me.0 ≡ stopped self.old.seat.me.0 }
+        ensures same { (self.new.seat.table_id ≡ self.old.seat.table_id) × (self.new.latency ≡ self.old.latency) }
+    {
+        self.table
+            .shared
+            .store::<Stop>(&mut self.seat, self.next as usize, 4);
+    }
+
+    /// Tells that the render end took just what this end gave, and gave back just what came back here, outcomes included.
+    pub fn close(self, end: RenderEnd)
+        requires pair { end.seat.table_id ≡ self.seat.table_id }
+        requires none_out { length self.seat.me.0.given ≡ length self.seat.me.0.back }
+        requires none_held { end.seat.me.0.taken ≡ frames_of end.seat.me.0.returned }
+        ensures taken { end.seat.me.0.taken ≡ self.seat.me.0.given }
+        ensures returned { end.seat.me.0.returned ≡ self.seat.me.0.back }
+        ensures all_back { frames_of self.seat.me.0.back ≡ self.seat.me.0.given }
+    {
+        let ApiEnd {
+            table,
+            mut seat,
+            ..
+        } = self;
+        let RenderEnd { seat: other, .. } = end;
+        table.shared.join_seat::<Part>(&mut seat, other);
+        table.shared.load::<Learn>(&mut seat, 0);
+    }
+}
+
+impl FrameLink for ApiEnd {
+    ghost use Rattle.atomic_table.specs.Seated.{TableId};
+    ghost use Rattle.frame_swap.specs.Ends.{given_by, back_by, latency_of, api_table};
+
+    ghost given = { given_by };
+
+    ghost back = { back_by };
+
+    ghost latency = { latency_of };
+
+    ghost Origin = { TableId };
+
+    ghost origin = { api_table };
+
+    fn give<R: Wait>(&mut self, rt: &R, frame: Frame)
+        requires room { length self.old.seat.me.0.given < length self.old.seat.me.0.back + self.old.latency }
+        ensures view { self.new.seat.me.0 ≡ gave frame self.old.seat.me.0 }
+        ensures same { (self.new.seat.table_id ≡ self.old.seat.table_id) × (self.new.latency ≡ self.old.latency) }
+    {
+        let shared = &self.table.shared;
+        let place = self.next as usize;
+        match shared.exchange(&mut self.seat, place, Some(Content::Given(frame))) {
+            None => {}
+            Some(_) => unreachable!(),
+        }
+        shared.store::<Give>(&mut self.seat, place, 1);
+        self.next = (self.next + 1) % self.latency;
+    }
+
+    fn try_take_back<R: Wait>(&mut self, rt: &R) -> Option<RenderedFrame>
+        requires some_out { length self.old.seat.me.0.back < length self.old.seat.me.0.given }
+        ensures view { MatchOption result (self.new.seat.me.0 ≡ self.old.seat.me.0) (λ r. self.new.seat.me.0 ≡ came r self.old.seat.me.0) }
+        ensures order { IfSome result (λ r. CameBack self.old.seat.me.0.given self.old.seat.me.0.back self.new.seat.me.0.back r) }
+        ensures same { (self.new.seat.table_id ≡ self.old.seat.table_id) × (self.new.latency ≡ self.old.latency) }
+    {
+        ApiEnd::try_take_back(self)
+    }
+
+    fn take_back<R: Wait>(&mut self, rt: &R) -> RenderedFrame
+        requires some_out { length self.old.seat.me.0.back < length self.old.seat.me.0.given }
+        ensures view { self.new.seat.me.0 ≡ came result self.old.seat.me.0 }
+        ensures order { CameBack self.old.seat.me.0.given self.old.seat.me.0.back self.new.seat.me.0.back result }
+        ensures same { (self.new.seat.table_id ≡ self.old.seat.table_id) × (self.new.latency ≡ self.old.latency) }
+    {
+        let backoff = Backoff::new();
+        for _ in rt.forever() {
+            if let Some(rendered) = ApiEnd::try_take_back(self) {
+                return rendered;
+            }
+            backoff.snooze();
+        }
+        unreachable!()
+    }
+}
+
+impl RenderEnd {
+    /// Tries once to take the next frame that was given. `Ok(None)` is the stop, `Err` that neither is there yet, which changes nothing.
+    pub fn try_take(&mut self) -> Result<Option<Frame>, Nothing>
+        requires none_held { self.old.seat.me.0.taken ≡ frames_of self.old.seat.me.0.returned }
+        ensures some_frame { IfOk result (λ o. MatchOption o (self.new.seat.me.0 ≡ saw self.old.seat.me.0) (λ f. self.new.seat.me.0 ≡ took f self.old.seat.me.0)) }
+        ensures none { IfErr result (λ _. self.new.seat.me.0 ≡ self.old.seat.me.0) }
+        ensures same { self.new.seat.table_id ≡ self.old.seat.table_id }
+    {
+        let shared = &self.table.shared;
+        let place = self.place as usize;
+        let found = shared.compare_exchange::<Take>(&mut self.seat, place, 1, 2);
+        if found == 1 {
+            match shared.exchange(&mut self.seat, place, None) {
+                Some(Content::Given(frame)) => Ok(Some(frame)),
+                _ => unreachable!(),
+            }
+        } else if found == 4 {
+            Ok(None)
+        } else {
+            Err(Nothing)
+        }
+    }
+
+    /// The next frame that was given. `None` only where a step of this call found the stop, which the end's view then counts.
+    pub fn take<R: Wait>(&mut self, rt: &R) -> Option<Frame>
+        requires none_held { self.old.seat.me.0.taken ≡ frames_of self.old.seat.me.0.returned }
+        ensures frame { MatchOption result (self.new.seat.me.0 ≡ saw self.old.seat.me.0) (λ f. self.new.seat.me.0 ≡ took f self.old.seat.me.0) }
+        ensures same { self.new.seat.table_id ≡ self.old.seat.table_id }
+    {
+        let backoff = Backoff::new();
+        for _ in rt.forever() {
+            if let Ok(taken) = self.try_take() {
+                return taken;
+            }
+            backoff.snooze();
+        }
+        unreachable!()
+    }
+
+    /// Gives the frame back that was taken last, unchanged, with the outcome of its render.
+    pub fn give_back(&mut self, back: RenderedFrame)
+        requires unchanged { self.old.seat.me.0.taken ≡ frames_of self.old.seat.me.0.returned ++ back.frame ∷ [] }
+        ensures view { self.new.seat.me.0 ≡ gave_back back self.old.seat.me.0 }
+        ensures same { self.new.seat.table_id ≡ self.old.seat.table_id }
+    {
+        let shared = &self.table.shared;
+        let place = self.place as usize;
+        match shared.exchange(&mut self.seat, place, Some(Content::Back(back))) {
+            None => {}
+            Some(_) => unreachable!(),
+        }
+        shared.store::<Return>(&mut self.seat, place, 3);
+        self.place = (self.place + 1) % self.latency;
+    }
+}
