@@ -1,8 +1,8 @@
 //! Laws of the definitions, as functions without parameters: each has an empty body, and its contract is the law.
 //!
 //! They speak of definitions alone, so that a reader can rely on a law without reading its proof, and a program's proof can use it by a call.
-//! There are nine laws: of order, of a journal's first fault, of recordings, of draw orders, of reading, of writing, of fronts, of a
-//! journal's text, and of the schedule.
+//! There are eight laws: of order, of a journal's first fault, of recordings, of draw orders, of reading, of writing, of fronts, and of a
+//! journal's text.
 //! `one_reading`, `readable_law` and `written_front` are corollaries: of the law of reading, of that of writing, and of those of fronts and of writing.
 #![tactic(auto)]
 
@@ -10,7 +10,6 @@ ghost use Rattle.gfx_model.specs.Frames.{CollectedLaw, DrawOrderLaw, OrderedItem
 ghost use Rattle.scene_model.specs.Journal.{FaultLaw, OrderLaw};
 ghost use Rattle.scene_model.specs.Recordings.{RecordingsLaw, SameItemsLaw};
 ghost use Rattle.scene_model.specs.TextLaws.{FrontLaw, JournalTextLaw};
-ghost use Rattle.schedule_model.specs.Held.{EveryRunHolds};
 ghost use Rattle.spelling_model.specs.Spelling.{OneReading, ReadingLaw};
 ghost use Rattle.spelling_model.specs.Written.{ReadableLaw, WritingLaw, WrittenFrontLaw};
 
@@ -58,11 +57,6 @@ pub fn written_front()
 /// The law of a journal's text: it is read as that journal, where each encoder's number is at most 255 and each ordinal at most 4,294,967,295.
 pub fn journal_text_law()
     ensures { JournalTextLaw }
-{}
-
-/// The law of the schedule: after every list of allowed events from the opening state, the invariant holds, for every latency.
-pub fn held_law()
-    ensures { EveryRunHolds }
 {}
 
 /// The journal of recordings has each item of each encoder once, in the encoder's order.
