@@ -1,5 +1,5 @@
 // Whether an index takes a new thing: it is one of its kind's, and has none.
-ghost use Rattle.std.specs.Prelude.{◌≡◌, ◌<◌, true, None};
+ghost use Rattle.std.specs.Prelude.{◌≡◌, ◌<◌, ◌&&◌, true, None};
 ghost use Rattle.gfx_model.specs.Words.{layout_kind, vertex_buffer_kind, index_buffer_kind, texture_kind, frame_buffer_kind, program_kind, uniform_kind, greatest};
 ghost use Rattle.store_model.specs.Slots.{at};
 ghost use Rattle.render_core.specs.Free.{is_free};
@@ -9,6 +9,12 @@ use buffer_store::BufferStore;
 use gfx_words::Kind;
 use texture_store::TextureStore;
 
+fn both(first: bool, second: bool) -> bool
+    ensures { result ≡ (first && second) }
+{
+    first && second
+}
+
 pub(crate) fn is_layout_free(buffers: &BufferStore, index: u16) -> bool
     ensures same { result ≡ is_free index buffers.now.layouts }
     ensures below { result ≡ true → index < greatest layout_kind }
@@ -16,7 +22,7 @@ pub(crate) fn is_layout_free(buffers: &BufferStore, index: u16) -> bool
 {
     buffers.tell_facts();
     let nothing = buffers.layout_of(Kind::Layout, index).is_none();
-    index < Kind::Layout.greatest() && nothing
+    both(index < Kind::Layout.greatest(), nothing)
 }
 
 pub(crate) fn is_vertex_buffer_free(buffers: &BufferStore, index: u16) -> bool
@@ -26,7 +32,7 @@ pub(crate) fn is_vertex_buffer_free(buffers: &BufferStore, index: u16) -> bool
 {
     buffers.tell_facts();
     let nothing = buffers.bytes_of(Kind::VertexBuffer, index).is_none();
-    index < Kind::VertexBuffer.greatest() && nothing
+    both(index < Kind::VertexBuffer.greatest(), nothing)
 }
 
 pub(crate) fn is_index_buffer_free(buffers: &BufferStore, index: u16) -> bool
@@ -36,7 +42,7 @@ pub(crate) fn is_index_buffer_free(buffers: &BufferStore, index: u16) -> bool
 {
     buffers.tell_facts();
     let nothing = buffers.bytes_of(Kind::IndexBuffer, index).is_none();
-    index < Kind::IndexBuffer.greatest() && nothing
+    both(index < Kind::IndexBuffer.greatest(), nothing)
 }
 
 pub(crate) fn is_uniform_free(buffers: &BufferStore, index: u16) -> bool
@@ -46,7 +52,7 @@ pub(crate) fn is_uniform_free(buffers: &BufferStore, index: u16) -> bool
 {
     buffers.tell_facts();
     let nothing = buffers.value_of(index).is_none();
-    index < Kind::Uniform.greatest() && nothing
+    both(index < Kind::Uniform.greatest(), nothing)
 }
 
 pub(crate) fn is_texture_free(textures: &TextureStore, index: u16) -> bool
@@ -56,7 +62,7 @@ pub(crate) fn is_texture_free(textures: &TextureStore, index: u16) -> bool
 {
     textures.tell_facts();
     let nothing = !textures.has_texture(index);
-    index < Kind::Texture.greatest() && nothing
+    both(index < Kind::Texture.greatest(), nothing)
 }
 
 pub(crate) fn is_target_free(textures: &TextureStore, index: u16) -> bool
@@ -66,7 +72,7 @@ pub(crate) fn is_target_free(textures: &TextureStore, index: u16) -> bool
 {
     textures.tell_facts();
     let nothing = !textures.has_target(index);
-    index < Kind::FrameBuffer.greatest() && nothing
+    both(index < Kind::FrameBuffer.greatest(), nothing)
 }
 
 pub(crate) fn is_program_free(programs: &ProgramRow, index: u16) -> bool
@@ -75,5 +81,5 @@ pub(crate) fn is_program_free(programs: &ProgramRow, index: u16) -> bool
 {
     programs.tell_facts();
     let nothing = programs.get(index).is_none();
-    index < Kind::Program.greatest() && nothing
+    both(index < Kind::Program.greatest(), nothing)
 }

@@ -10,7 +10,7 @@ use std::alloc::{AllocError, Global};
 use std::marker::Model;
 
 /// What a program paints.
-#[derive(Clone, Copy, Drop)]
+#[derive(Drop)]
 pub(crate) struct Program {
     kind: ProgramKind,
 }

@@ -4,7 +4,7 @@ use Rattle.render_core.proofs.Frees.{free_else, free_below, free_none}
 use Rattle.render_core.proofs.free.is_target_free.Goals as goal
 
 pub returns-clause-same : goal.returns-clause-same
-returns-clause-same c = free_else c.args.index c.greatest.result c.args.textures.now.targets c.has_target.result (c.tell_facts.ensures.targets ∙ sym c.greatest.ensures) c.has_target.ensures
+returns-clause-same c = c.both.ensures ∙ free_else c.args.index c.greatest.result c.args.textures.now.targets c.has_target.result (c.tell_facts.ensures.targets ∙ sym c.greatest.ensures) c.has_target.ensures
 
 pub returns-clause-below : goal.returns-clause-below
 returns-clause-below c free = free_below c.args.index (greatest frame_buffer_kind) c.args.textures.now.targets c.tell_facts.ensures.targets (sym (returns-clause-same c) ∙ free)

@@ -4,7 +4,7 @@ use Rattle.render_core.proofs.Frees.{free_else, free_below, free_none}
 use Rattle.render_core.proofs.free.is_texture_free.Goals as goal
 
 pub returns-clause-same : goal.returns-clause-same
-returns-clause-same c = free_else c.args.index c.greatest.result c.args.textures.now.textures c.has_texture.result (c.tell_facts.ensures.textures ∙ sym c.greatest.ensures) c.has_texture.ensures
+returns-clause-same c = c.both.ensures ∙ free_else c.args.index c.greatest.result c.args.textures.now.textures c.has_texture.result (c.tell_facts.ensures.textures ∙ sym c.greatest.ensures) c.has_texture.ensures
 
 pub returns-clause-below : goal.returns-clause-below
 returns-clause-below c free = free_below c.args.index (greatest texture_kind) c.args.textures.now.textures c.tell_facts.ensures.textures (sym (returns-clause-same c) ∙ free)

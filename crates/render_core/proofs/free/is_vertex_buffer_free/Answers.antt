@@ -4,7 +4,7 @@ use Rattle.render_core.proofs.Frees.{free_mapped, free_below, free_none}
 use Rattle.render_core.proofs.free.is_vertex_buffer_free.Goals as goal
 
 pub returns-clause-same : goal.returns-clause-same
-returns-clause-same c = free_mapped _ _ c.bytes_of.result c.args.index c.greatest.result c.args.buffers.now.vertices c.is_none.result (c.tell_facts.ensures.vertices ∙ sym c.greatest.ensures) c.is_none.ensures c.bytes_of.ensures
+returns-clause-same c = c.both.ensures ∙ free_mapped _ _ c.bytes_of.result c.args.index c.greatest.result c.args.buffers.now.vertices c.is_none.result (c.tell_facts.ensures.vertices ∙ sym c.greatest.ensures) c.is_none.ensures c.bytes_of.ensures
 
 pub returns-clause-below : goal.returns-clause-below
 returns-clause-below c free = free_below c.args.index (greatest vertex_buffer_kind) c.args.buffers.now.vertices c.tell_facts.ensures.vertices (sym (returns-clause-same c) ∙ free)
