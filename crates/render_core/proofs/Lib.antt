@@ -1,2 +1,11 @@
+mod Blocks
+mod Clears
+mod Cuts
+mod Facings
+mod Fetches
+mod Folds
 mod Frees
 mod Makes
+mod Parts
+mod Places
+mod Targets

@@ -1,3 +1,9 @@
+pub mod Cleared
 pub mod Free
 pub mod Payloads
+pub mod Prepared
+pub mod Ranges
+pub mod Recorded
+pub mod Sampled
 pub mod Seen
+pub mod Shapes
