@@ -191,10 +191,10 @@ impl SortKey {
     }
 
     /// What every key keeps: the highest bits of its number are the position.
-    pub fn tell_facts(self)
-        ensures { key_bits self / 2 ^ (64 - position_bits) ≡ self.position }
+    pub fn tell_facts(&self)
+        ensures { key_bits self.now / 2 ^ (64 - position_bits) ≡ self.now.position }
     {
-        let _ = self.bits;
+        let _ = &self.bits;
     }
 
     /// The position of the view in the order.
