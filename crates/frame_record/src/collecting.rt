@@ -28,7 +28,7 @@ fn entries_of(alloc: Global, all: &[NumberedEntry]) -> Result<Vec<JournalEntry>,
 pub fn collect(alloc: Global, recordings: &[Recording]) -> Result<Vec<JournalEntry>, AllocError>
     requires { IsCollectable recordings.now }
     ensures journal { IfOk result (λ journal. map entry_seen journal.items ≡ collected (recordings_seen recordings.now)) }
-    ensures ascend { AllByRecursion (λ r. NumbersAscend 0 r.items) (recordings_seen recordings.now) }
+    ensures ascend { IfOk result (λ _. AllByRecursion (λ r. NumbersAscend 0 r.items) (recordings_seen recordings.now)) }
 {
     let mut all = Vec::new(alloc);
     for recording in recordings {

@@ -27,7 +27,7 @@ loop-recording-preserved c =
     (c.in_ok-all.ensures ∙ ap (λ xs. sorted_by_key (map pair_of xs ++ numbered_entries (recorded_seen c.recording-item.result))) c.deref.ensures.value)
 
 pub returns-clause-ascend : goal.returns-clause-ascend
-returns-clause-ascend c = all_ascend c.args.recordings.now c.requires.ascends
+returns-clause-ascend c = IfOk-weaker c.entries_of.result _ _ (λ journal told. all_ascend c.args.recordings.now c.requires.ascends) c.entries_of.ensures
 
 pub returns-clause-journal : goal.returns-clause-journal
 returns-clause-journal c =
