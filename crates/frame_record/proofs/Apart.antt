@@ -13,7 +13,10 @@ both_true : (a b : Bool) → (a && b) ≡ true → (a ≡ true) × (b ≡ true)
 both_true true b h = (refl, h)
 both_true false b h = absurd (true≢false (sym h))
 
-one_most : (b : Bool) → (if b then 1 else 0) ≤ 1
+abbrev one_if : Bool → ℕ
+one_if b = if b then 1 else 0
+
+one_most : (b : Bool) → one_if b ≤ 1
 one_most true = omega arith
 one_most false = omega arith
 
@@ -26,4 +29,4 @@ count_most (m ∷ ms) h n =
     let t = both_true (count_of m ms == 0) (are_apart ms) h in
     dite (ℕ_discrete m n)
     (λ (e : m ≡ n). let none : count_of n ms ≡ 0 = ap (λ (k : ℕ). count_of k ms) (sym e) ∙ none_of (count_of m ms) t.0 in let one = one_most (m == n) in omega (arith, none, one))
-    (λ (ne : m ≢ n). let zero : (if m == n then 1 else 0) ≡ 0 = ap (λ (b : Bool). if b then 1 else 0) (ne_eqb m n ne) in let rest = count_most ms t.1 n in omega (arith, zero, rest))
+    (λ (ne : m ≢ n). let zero : one_if (m == n) ≡ 0 = ap one_if (ne_eqb m n ne) in let rest = count_most ms t.1 n in omega (arith, zero, rest))

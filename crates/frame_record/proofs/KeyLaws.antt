@@ -1,5 +1,5 @@
 -- Keys of items, and the recording of an encoder.
-use Rattle.std.proofs.Common.{◌≡◌, ℕ, zero, suc, ◌+◌, ◌<◌, ◌==◌, Bool, true, false, cond, Option, Some, None, List, [], ◌∷◌, ◌++◌, map, take, length, drop, slice_index_or, refl, sym, ap, subst, nat_le, ◌∙◌, arith}
+use Rattle.std.proofs.Common.{◌≡◌, ℕ, zero, suc, ◌+◌, ◌<◌, ◌≤◌, ◌==◌, Bool, true, false, cond, Option, Some, None, List, [], ◌∷◌, ◌++◌, map, take, length, drop, slice_index_or, refl, sym, ap, subst, nat_le, ◌∙◌, arith}
 use mathlib.Core.Logic.{⊎_elim}
 use Rattle.std.proofs.lemmas.Bool.{lt-ltb}
 use Rattle.std.specs.Prelude.{filter_map, option_map, option_and_then, slice_get, IfSome}
@@ -57,11 +57,14 @@ by_passed rs i e d h t = by_next rs i e d h ∙ rw t refl
 abbrev pub with_key_of : model.Entry → KeyFields → ℕ × model.Entry
 with_key_of e k = (key_bits k, e)
 
-with_entry : (b : Bool) (key : ℕ) (e : model.Entry) → option_map (λ k. (k, e)) (cond b (Some key) None) ≡ cond b (Some (key, e)) None
+abbrev paired : model.Entry → ℕ → ℕ × model.Entry
+paired e k = (k, e)
+
+with_entry : (b : Bool) (key : ℕ) (e : model.Entry) → option_map (paired e) (cond b (Some key) None) ≡ cond b (Some (paired e key)) None
 with_entry true key e = refl
 with_entry false key e = refl
 
-by_bits : (key : Option KeyFields) (e : model.Entry) → option_map (with_key_of e) key ≡ option_map (λ (k : ℕ). (k, e)) (option_map key_bits key)
+by_bits : (key : Option KeyFields) (e : model.Entry) → option_map (with_key_of e) key ≡ option_map (paired e) (option_map key_bits key)
 by_bits None e = refl
 by_bits (Some k) e = refl
 
@@ -69,7 +72,7 @@ by_bits (Some k) e = refl
 pub keyed_item : (vs : Views) (rs : List model.Recorded) (place : ℕ) (e : model.Entry) (x : Item) (key : Option KeyFields)
     → Some x ≡ item_of_entry rs e → option_map key_bits key ≡ key_or_none vs place x → option_map (with_key_of e) key ≡ keyed_entry vs rs place e
 keyed_item vs rs place e x key there is =
-    by_bits key e ∙ ap (option_map (λ (k : ℕ). (k, e))) is ∙ with_entry (is_ordered vs x) (key_of_item vs place x) e ∙ ap (option_and_then (with_key vs place e)) there
+    by_bits key e ∙ ap (option_map (paired e)) is ∙ with_entry (is_ordered vs x) (key_of_item vs place x) e ∙ ap (option_and_then (with_key vs place e)) there
 
 -- one without an item has none
 pub keyed_none : (vs : Views) (rs : List model.Recorded) (place : ℕ) (e : model.Entry) → None ≡ item_of_entry rs e → None ≡ keyed_entry vs rs place e

@@ -9,8 +9,8 @@ use Rattle.frame_record.proofs.KeptLaws.{few_entries}
 use Rattle.frame_record.proofs.KeyLaws.{entries_seen, placed_sorted, positions_ascend}
 use Rattle.frame_record.proofs.frame.Frame.ordered.Goals as goal
 
-pub with_keys-all-requires : goal.with_keys-all-requires
-with_keys-all-requires c =
+pub with_keys-requires : goal.with_keys-requires
+with_keys-requires c =
     let f = c.args.self.now in
     let same = ap length c.deref-2.ensures.value in
     let few = few_entries f.recordings.items f.journal.items f.kept in
