@@ -14,3 +14,6 @@ pub mod Changes
 pub mod Counts
 pub mod Kept
 pub mod Openings
+pub mod Starts
+pub mod Numbered
+pub mod TargetCalls

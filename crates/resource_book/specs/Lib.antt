@@ -7,3 +7,5 @@ pub mod Answered
 pub mod Desks
 pub mod Finding
 pub mod Opened
+pub mod Works
+pub mod Targets

@@ -6,6 +6,7 @@ mod creates;
 mod deaths;
 mod desk;
 mod find;
+mod frames;
 mod opening;
 mod rows;
 mod settings;
@@ -14,8 +15,10 @@ mod stacks;
 mod table;
 #[cfg(test)]
 mod tests;
+mod textures;
 mod updates;
 
 pub use book::Book;
+pub use frames::Work;
 pub use opening::Start;
 pub use rows::{Fact, Row};
