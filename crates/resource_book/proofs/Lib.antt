@@ -17,3 +17,4 @@ pub mod Openings
 pub mod Starts
 pub mod Numbered
 pub mod TargetCalls
+pub mod WrittenLaws

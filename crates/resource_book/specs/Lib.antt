@@ -9,3 +9,4 @@ pub mod Finding
 pub mod Opened
 pub mod Works
 pub mod Targets
+pub mod Laws
