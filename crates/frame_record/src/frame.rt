@@ -11,7 +11,7 @@ use view_table::ViewTable;
 pub const MOST_ITEMS: usize = 65_528;
 
 /// What the renderer draws at one go: the commands before and after the drawing with their payloads, the views, what each encoder
-/// recorded, and the journal, which is the order of all items by their numbers. It has at most 65,528 items, of different numbers,
+/// recorded, and a journal; that it is the one that `collect` makes is for its maker to keep. It has at most 65,528 items, of different numbers,
 /// at most as many entries, and each recording is of an encoder of its own.
 #[derive(Drop)]
 pub struct Frame {

@@ -42,8 +42,7 @@ pub fn live_law()
     ensures { LiveLaw }
 {}
 
-/// Calls add to the waiting indices of a kind those of its things that died, in the order of the calls. The start
-/// of a frame puts them back on the kind's stack in that order.
+/// Calls add to the waiting indices of a kind those of its things that died, in the order of the calls.
 pub fn destroy_order_law()
     ensures { DestroyOrderLaw }
 {}
