@@ -1,5 +1,5 @@
 -- Rows of the calls that begin encoders, end frames and shut down.
-use Rattle.std.proofs.Common.{◌≡◌, ℕ, Option, Some, None, refl}
+use Rattle.std.proofs.Common.{◌≡◌, ℕ, true, false, Option, Some, None, refl}
 use Rattle.gfx_model.specs.Resources.{Refusal, bad_size, no_encoder, frames_spent, opening}
 use Rattle.gfx_model.specs.Recorder.{Room}
 use Rattle.gfx_model.specs.FrameCalls.{CallState, opened, begin_encoder, end_frame, shut_down, frame_refusal, frame_effect}
@@ -34,14 +34,20 @@ frames : (frame_refusal (at_frame 1073741822) end_frame ≡ None) × (frame_refu
 frames = (refl, refl, refl)
 
 -- the next frame has the next number and no encoders, and a refused end begins none
-abbrev ended : CallState → CallState
-ended s = (frame_effect s end_frame).after
+abbrev next_state : CallState → CallState
+next_state s = (frame_effect true s end_frame).after
 
-next : ((ended (begun_already 3)).encoders ≡ 0) × ((ended (begun_already 3)).resources.frame ≡ 1)
+next : ((next_state (begun_already 3)).encoders ≡ 0) × ((next_state (begun_already 3)).resources.frame ≡ 1)
 next = (refl, refl)
 
 -- one frame may be out: each end but the first takes one back; of two, the third does; shutting down takes back the rest
-out : ((frame_effect (start 1) end_frame).backs ≡ 0) × ((frame_effect (ended (start 1)) end_frame).backs ≡ 1)
-    × ((frame_effect (ended (start 2)) end_frame).backs ≡ 0) × ((frame_effect (ended (ended (start 2))) end_frame).backs ≡ 1)
-    × ((frame_effect (ended (ended (ended (start 2)))) shut_down).backs ≡ 2) × ((frame_effect (start 3) shut_down).backs ≡ 0)
+out : ((frame_effect true (start 1) end_frame).backs ≡ 0) × ((frame_effect true (next_state (start 1)) end_frame).backs ≡ 1)
+    × ((frame_effect true (next_state (start 2)) end_frame).backs ≡ 0) × ((frame_effect true (next_state (next_state (start 2))) end_frame).backs ≡ 1)
+    × ((frame_effect true (next_state (next_state (next_state (start 2)))) shut_down).backs ≡ 2) × ((frame_effect true (start 3) shut_down).backs ≡ 0)
 out = (refl, refl, refl, refl, refl, refl)
+
+-- a frame that came back and was not shown: the frame is not given, no number is spent, and nothing follows; where none comes back it is given
+not_shown : ((frame_effect false (next_state (start 1)) end_frame).gives ≡ false) × ((frame_effect false (next_state (start 1)) end_frame).after.out ≡ 0)
+    × ((frame_effect false (next_state (start 1)) end_frame).after.resources.frame ≡ 1) × ((frame_effect false (next_state (start 1)) end_frame).after.is_ended ≡ true)
+    × ((frame_effect false (start 1) end_frame).gives ≡ true) × ((frame_effect true (next_state (start 1)) end_frame).gives ≡ true)
+not_shown = (refl, refl, refl, refl, refl, refl)

@@ -1,5 +1,5 @@
 -- The calls that begin encoders, end frames and shut down: refusals and effects.
-use Rattle.std.specs.Prelude.{ℕ, ◌+◌, ◌-◌, Bool, not, ◌&&◌, ◌==◌, nat_le, if◌then◌else◌, List, [], ◌∷◌, Option, Some, None, Result}
+use Rattle.std.specs.Prelude.{ℕ, ◌+◌, ◌-◌, Bool, false, not, ◌&&◌, ◌||◌, ◌==◌, nat_le, if◌then◌else◌, List, [], ◌∷◌, Option, Some, None, Result}
 use Rattle.gfx_model.specs.Views.{view_count}
 use Rattle.gfx_model.specs.Resources.{Resources, Refusal, bad_size, no_encoder, frames_spent, first_refusal, or_refusal, start_frame}
 use Rattle.gfx_model.specs.Recorder.{Room, Recorder, begun}
@@ -30,15 +30,17 @@ is_room room = nat_le 1 room.items && nat_le room.items most_items && nat_le roo
 
 -- ---- calls
 
--- the state of the calls on things and views, how many encoders were begun in its frame, and how many frames were given and are not back
+-- the state of the calls on things and views, how many encoders were begun in its frame, how many frames were given and are not back, and whether a
+-- frame was not given, after which nothing follows but shutting down
 pub record CallState : Type 0 where
   pub resources : Resources
   pub encoders : ℕ
   pub out : ℕ
+  pub is_ended : Bool
 
 -- nothing is begun, and no frame is out
 abbrev pub opened : Resources → CallState
-opened r = record { resources = r; encoders = 0; out = 0 }
+opened r = record { resources = r; encoders = 0; out = 0; is_ended = false }
 
 pub data FrameCall : Type 0 where
   begin_encoder : Room → FrameCall
@@ -60,30 +62,46 @@ pub record Begun : Type 0 where
   pub encoder : ℕ
   pub recorder : Recorder
 
--- the state after, the encoder that a call begins, and how many frames it takes back
+-- the state after, the encoder that a call begins, how many frames it takes back, and whether it gives its frame
 pub record FrameEffect : Type 0 where
   pub after : CallState
   pub made : Option Begun
   pub backs : ℕ
+  pub gives : Bool
 
 -- the end of a frame first takes back the oldest frame that is out, where as many are out as may be
 abbrev pub backs_at_end : CallState → ℕ
 backs_at_end s = if s.out == s.resources.latency then 1 else 0
 
--- an encoder has the next number of its frame; the end of a frame gives it and starts the next one; shutting down takes back all that is out
-abbrev pub frame_effect : CallState → FrameCall → FrameEffect
-frame_effect s (begin_encoder room) = record {
+-- the end of a frame gives it, unless the frame that it takes back was not shown
+abbrev pub is_given : Bool → CallState → Bool
+is_given is_shown s = (backs_at_end s == 0) || is_shown
+
+-- the frame is given, and the next one starts
+abbrev pub given : CallState → CallState
+given s = record s { resources = start_frame (s.resources.frame + 1) s.resources; encoders = 0; out = s.out + 1 - backs_at_end s }
+
+-- the frame is not given, and none starts
+abbrev pub ended : CallState → CallState
+ended s = record s { out = s.out - backs_at_end s; is_ended = true }
+
+-- an encoder has the next number of its frame; the end of a frame gives it, or not, by whether the frame that comes back was shown; shutting down
+-- takes back all that is out
+abbrev pub frame_effect : Bool → CallState → FrameCall → FrameEffect
+frame_effect is_shown s (begin_encoder room) = record {
   after = record s { encoders = s.encoders + 1 };
   made = Some (record { encoder = s.encoders; recorder = begun s.resources.frame (view_count s.resources.views) room });
   backs = 0;
+  gives = false;
 }
-frame_effect s end_frame = record {
-  after = record { resources = start_frame (s.resources.frame + 1) s.resources; encoders = 0; out = s.out + 1 - backs_at_end s };
+frame_effect is_shown s end_frame = record {
+  after = if is_given is_shown s then given s else ended s;
   made = None;
   backs = backs_at_end s;
+  gives = is_given is_shown s;
 }
-frame_effect s shut_down = record { after = record s { out = 0 }; made = None; backs = s.out }
+frame_effect is_shown s shut_down = record { after = record s { out = 0 }; made = None; backs = s.out; gives = false }
 
--- the answer to a call: its effect, or its refusal, which changes nothing
-abbrev pub frame_answer : CallState → FrameCall → Result FrameEffect Refusal
-frame_answer s c = or_refusal (frame_effect s c) (frame_refusal s c)
+-- the answer to a call, by whether the frame that comes back was shown: its effect, or its refusal, which changes nothing
+abbrev pub frame_answer : Bool → CallState → FrameCall → Result FrameEffect Refusal
+frame_answer is_shown s c = or_refusal (frame_effect is_shown s c) (frame_refusal s c)
