@@ -1,5 +1,5 @@
 -- The calls that begin encoders, end frames and shut down: refusals and effects.
-use Rattle.std.specs.Prelude.{ℕ, ◌+◌, ◌-◌, Bool, false, not, ◌&&◌, ◌||◌, ◌==◌, nat_le, if◌then◌else◌, List, [], ◌∷◌, Option, Some, None, Result}
+use Rattle.std.specs.Prelude.{ℕ, ◌+◌, ◌-◌, Bool, true, false, not, ◌&&◌, ◌||◌, ◌==◌, nat_le, if◌then◌else◌, List, [], ◌∷◌, Option, Some, None, Result}
 use Rattle.gfx_model.specs.Views.{view_count}
 use Rattle.gfx_model.specs.Resources.{Resources, Refusal, bad_size, no_encoder, frames_spent, first_refusal, or_refusal, start_frame}
 use Rattle.gfx_model.specs.Recorder.{Room, Recorder, begun}

@@ -1,5 +1,5 @@
 -- The fields of a key's number are the key's.
-use Rattle.std.proofs.Common.{◌≡◌, ◌<◌, ◌≤◌, ◌^◌, ◌+◌, ◌*◌, ℕ, Bool, true, false, if◌then◌else◌, refl, sym, ap, ◌∙◌, arith, subst, ◌-◌}
+use Rattle.std.proofs.Common.{◌≡◌, ◌<◌, ◌≤◌, ◌^◌, ◌+◌, ◌*◌, ◌/◌, ℕ, Bool, true, false, if◌then◌else◌, refl, sym, ap, ◌∙◌, arith, subst, ◌-◌}
 use mathlib.Core.Logic.{⊎_elim}
 use Rattle.std.proofs.lemmas.Bool.{cases_eq}
 use Rattle.gfx_model.specs.Number.{bits_at}
@@ -66,6 +66,17 @@ fields-again k h =
     ⊎_elim (again_by_program k h)
     (λ n. ⊎_elim (again_by_depth k h) (λ m. again_by_number k h (omega (arith, n, m, h.mode_type))) (cases_eq k.mode_type 1))
     (cases_eq k.mode_type 0)
+
+-- the highest bits of a key's number are the position
+top_is : (k : KeyFields) → IsKeyFields k → key_bits k / 2 ^ (64 - position_bits) ≡ k.position
+top_is k h =
+    ⊎_elim (λ e. let b = bits_by_program k e in omega (arith, b, h.position, h.blended, h.program, h.depth))
+    (λ n. ⊎_elim (λ e. let b = bits_by_depth k e in omega (arith, b, h.position, h.blended, h.program, h.depth))
+    (λ m. let b = bits_by_number k (omega (arith, n, m, h.mode_type)) in omega (arith, b, h.position, h.blended, h.program, h.number)) (cases_eq k.mode_type 1))
+    (cases_eq k.mode_type 0)
+
+pub top_told : (bits : ℕ) (k : KeyFields) → IsKey bits → fields_of bits ≡ k → key_bits k / 2 ^ (64 - position_bits) ≡ k.position
+top_told bits k h e = top_is k (subst IsKeyFields e h.fields)
 
 pub IsKey-from : (k : KeyFields) → IsKeyFields k → IsKey (key_bits k)
 IsKey-from k h = record { fields = subst IsKeyFields (sym (fields-again k h)) h; whole = ap key_bits (fields-again k h) }

@@ -1,7 +1,7 @@
 //! Sort keys: numbers that order the draws and touches of a frame.
 #![tactic(auto)]
 
-ghost use Rattle.std.specs.Prelude.{◌≡◌, ◌<◌, ◌≤◌, ◌^◌, if◌then◌else◌};
+ghost use Rattle.std.specs.Prelude.{◌≡◌, ◌<◌, ◌≤◌, ◌-◌, ◌/◌, ◌^◌, if◌then◌else◌};
 ghost use Rattle.gfx_model.specs.Views.{position_bits, key_fields, key_bits, low_bits};
 ghost use Rattle.gfx_words.specs.Seen.{mode_seen};
 ghost use Rattle.sort_key.specs.Fields.{IsKeyFields, number_bits};
@@ -23,6 +23,9 @@ const PROGRAM_BITS: u32 = 9;
 const DEPTH_BITS: u32 = 32;
 
 const NUMBER_BITS: u32 = 19;
+
+// the program's number of a touch
+const NO_PROGRAM: u16 = 511;
 
 // the lowest bits of the position, of the 1 of draws and touches, and of the type
 const POSITION: u32 = 64 - POSITION_BITS;
@@ -169,11 +172,29 @@ impl SortKey {
         }
     }
 
+    /// The key of a touch: it has the program 511, no blending and depth 0.
+    ///
+    /// The position and the number are as those of a draw.
+    pub fn touch(mode: ViewMode, position: u16, number: u32) -> SortKey
+        requires position { position < 2 ^ position_bits }
+        requires number { number < 2 ^ number_bits }
+        ensures { result ≡ key_fields (mode_seen mode) position 0 511 0 number }
+    {
+        SortKey::draw(mode, position, false, NO_PROGRAM, 0, number)
+    }
+
     /// The number of this key.
     pub fn bits(self) -> u64
         ensures { result ≡ key_bits self }
     {
         self.bits
+    }
+
+    /// What every key keeps: the highest bits of its number are the position.
+    pub fn tell_facts(&self)
+        ensures { key_bits self.now / 2 ^ (64 - position_bits) ≡ self.now.position }
+    {
+        let _ = &self.bits;
     }
 
     /// The position of the view in the order.

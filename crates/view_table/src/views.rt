@@ -1,5 +1,5 @@
 // The settings of one view.
-ghost use Rattle.std.specs.Prelude.{◌≡◌};
+ghost use Rattle.std.specs.Prelude.{◌≡◌, ◌≤◌};
 ghost use Rattle.gfx_model.specs.Views.{plain_view};
 ghost use Rattle.view_table.specs.Seen.{view_seen};
 
@@ -16,6 +16,7 @@ pub struct Clear {
     /// 0 to 16,777,215.
     pub depth: u32,
     pub stencil: u8,
+    pub ghost shallow: { depth ≤ 16777215 },
 }
 
 /// The settings of a view.
