@@ -2,7 +2,7 @@
 use Rattle.gfx_model.specs.Views as model
 use Rattle.gfx_words.specs.Seen.{mode_seen}
 use Rattle.fix_math.specs.Seen.{rect_seen, affine_seen}
-use Rattle.view_table.specs.declared.views.Clear.{Clear}
+use Rattle.view_table.specs.declared.clears.Clear.{Clear}
 use Rattle.view_table.specs.declared.views.View.{View}
 
 abbrev pub clear_seen : Clear → model.Clear

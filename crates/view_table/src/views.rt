@@ -1,23 +1,11 @@
 // The settings of one view.
-ghost use Rattle.std.specs.Prelude.{◌≡◌, ◌≤◌};
+ghost use Rattle.std.specs.Prelude.{◌≡◌};
 ghost use Rattle.gfx_model.specs.Views.{plain_view};
 ghost use Rattle.view_table.specs.Seen.{view_seen};
 
+use crate::clears::Clear;
 use fix_math::{Affine, Rect};
 use gfx_words::{Handle, ViewMode};
-
-/// What entering a view clears: flag 1 the colour, 2 the depth, 4 the stencil.
-#[derive(Clone, Copy, Drop, PartialEq, Eq, Debug)]
-pub struct Clear {
-    /// 0 to 7.
-    pub flags: u8,
-    /// Red, green, blue and alpha.
-    pub color: [u8; 4],
-    /// 0 to 16,777,215.
-    pub depth: u32,
-    pub stencil: u8,
-    pub ghost shallow: { depth ≤ 16777215 },
-}
 
 /// The settings of a view.
 #[derive(Clone, Copy, Drop, PartialEq, Eq, Debug)]

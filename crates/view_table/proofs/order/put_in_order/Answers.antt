@@ -1,4 +1,4 @@
-use Rattle.std.proofs.Common.{◌≡◌, ◌++◌, length, take, ap, sym, ◌∙◌, arith}
+use Rattle.std.proofs.Common.{◌≡◌, ◌++◌, length, take, ap, ◌∙◌}
 use Rattle.view_table.specs.Order.{unnamed}
 use Rattle.view_table.proofs.Filled.{Names, room_of, listed_le, filled, filled_below, filled_without, filled_positions}
 use Rattle.view_table.proofs.order.put_in_order.Goals as goal
