@@ -1,0 +1,2 @@
+pub mod SceneFrames
+pub mod Laws
