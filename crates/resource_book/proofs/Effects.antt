@@ -1,4 +1,4 @@
-use Rattle.std.proofs.Common.{◌≡◌, ℕ, ◌+◌, ◌-◌, ◌<◌, ◌≤◌, Bool, true, false, not, ◌&&◌, nat_lt, nat_le, List, [], ◌∷◌, ◌++◌, length, Option, Some, None, Result, Ok, Err, MatchResult, sym, ap, ◌∙◌, subst, if◌then◌else◌}
+use Rattle.std.proofs.Common.{◌≡◌, ℕ, ◌+◌, ◌-◌, ◌<◌, ◌≤◌, Bool, true, false, not, ◌&&◌, nat_lt, nat_le, List, [], ◌∷◌, ◌++◌, length, Option, Some, None, Result, Ok, Err, MatchOption, MatchResult, sym, ap, ◌∙◌, subst, if◌then◌else◌}
 use Rattle.std.proofs.lemmas.Bool.{lt-ltb, le-ltb}
 use Rattle.std.specs.List.{find}
 use Rattle.gfx_model.specs.Words.{Handle, UniformKind, kind_number}
@@ -13,7 +13,7 @@ use Rattle.resource_book.specs.Answered.{Creates, IsFirstRefusalOrOutOfMemory}
 
 weaker : (first : Option model.Refusal) (r : Refusal) → IsFirstRefusal first r → IsFirstRefusalOrOutOfMemory first r
 weaker first r h = weaker_by (refusal_seen r) h where
-  weaker_by : (o : Option model.Refusal) → Rattle.std.specs.Prelude.MatchOption o ⊥ (λ x. first ≡ Some x) → Rattle.std.specs.Prelude.IfSome o (λ x. first ≡ Some x)
+  weaker_by : (o : Option model.Refusal) → MatchOption o ⊥ (λ x. first ≡ Some x) → MatchOption o (first ≡ None) (λ x. first ≡ Some x)
   weaker_by None k = absurd k
   weaker_by (Some x) k = k
 

@@ -14,3 +14,7 @@ pub mod Changes
 pub mod Counts
 pub mod Kept
 pub mod Openings
+pub mod Starts
+pub mod Numbered
+pub mod TargetCalls
+pub mod WrittenLaws

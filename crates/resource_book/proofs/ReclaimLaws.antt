@@ -6,7 +6,8 @@ use Rattle.schedule_model.specs.Held.{count_of}
 use Rattle.handle_alloc.specs.Indices.{Indices, with_free}
 use Rattle.resource_book.specs.declared.stacks.Waiting.{Waiting}
 use Rattle.resource_laws.specs.Lawful.{count_where, waits_at}
-use Rattle.resource_book.specs.Stacks.{waiting_seen}
+use Rattle.gfx_model.specs.Number.{map_from}
+use Rattle.resource_book.specs.Stacks.{StackView, waiting_seen}
 
 pub rest_waits : (ws : List Waiting) (i : ℕ) (w : Waiting) → i < length ws → w ≡ slice_index_or ws i w → map waiting_seen (drop i ws) ≡ waiting_seen w ∷ map waiting_seen (drop (i + 1) ws)
 rest_waits ws i w lt e = ap (map waiting_seen) (drop_more ws i w lt) ∙ (λ j. waiting_seen (sym e j) ∷ map waiting_seen (drop (i + 1) ws))
@@ -62,3 +63,7 @@ kept_seen p (w ∷ ws) = keep_step p w ws (p (waiting_seen w)) (kept_seen p ws)
 
 pub none_left : (ws : List Waiting) (i : ℕ) → length ws ≤ i → map waiting_seen (drop i ws) ≡ []
 none_left ws i le = ap (map waiting_seen) (drop_all i ws le)
+
+pub map_from_map : (f : StackView → StackView) (n : ℕ) (ss : List StackView) → map_from (λ k s. f s) n ss ≡ map f ss
+map_from_map f n [] = refl
+map_from_map f n (s ∷ ss) = ap (λ rest. f s ∷ rest) (map_from_map f (n + 1) ss)

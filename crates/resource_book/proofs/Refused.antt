@@ -1,4 +1,4 @@
-use Rattle.std.proofs.Common.{◌≡◌, Bool, true, false, not, List, [], ◌∷◌, ◌++◌, Option, Some, None, sym, subst, MatchOption, IfSome, if◌then◌else◌}
+use Rattle.std.proofs.Common.{◌≡◌, Bool, true, false, not, List, [], ◌∷◌, ◌++◌, Option, Some, None, sym, subst, MatchOption, if◌then◌else◌}
 use Rattle.std.proofs.lemmas.Option.{none-some}
 use Rattle.gfx_model.specs.Words.{Handle}
 use Rattle.gfx_model.specs.Resources as model
@@ -16,7 +16,7 @@ pub first_more : (xs ys : List (Bool × model.Refusal)) (x : model.Refusal) → 
 first_more [] ys x e = absurd (none-some x e)
 first_more (c ∷ cs) ys x e = first_step c cs ys x c.0 (first_more cs ys x) e
 
-more_by : (o : Option model.Refusal) (xs ys : List (Bool × model.Refusal)) → MatchOption o ⊥ (λ x. model.first_refusal xs ≡ Some x) → IfSome o (λ x. model.first_refusal (xs ++ ys) ≡ Some x)
+more_by : (o : Option model.Refusal) (xs ys : List (Bool × model.Refusal)) → MatchOption o ⊥ (λ x. model.first_refusal xs ≡ Some x) → MatchOption o (model.first_refusal (xs ++ ys) ≡ None) (λ x. model.first_refusal (xs ++ ys) ≡ Some x)
 more_by None xs ys h = absurd h
 more_by (Some x) xs ys h = first_more xs ys x h
 

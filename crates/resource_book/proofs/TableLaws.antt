@@ -1,13 +1,14 @@
 -- Rows as the things that they are.
-use Rattle.std.proofs.Common.{◌≡◌, ℕ, ◌<◌, List, [], ◌∷◌, ◌++◌, length, map, refl, sym, ap, ◌∙◌, subst, arith, slice_index_or, slice_set, Option, Some, None}
-use Rattle.std.proofs.lemmas.List.{get_or-map, map-set, map-append, length-map}
+use Rattle.std.proofs.Common.{◌≡◌, ℕ, ◌<◌, List, [], ◌∷◌, ◌++◌, length, map, take, ◌+◌, ◌*◌, ◌≤◌, refl, sym, ap, ◌∙◌, subst, arith, slice_index_or, slice_set, Option, Some, None}
+use Rattle.std.proofs.lemmas.List.{get_or-map, map-set, map-append, length-map, length-set, length-append, take_more}
+use Rattle.std.proofs.lemmas.List.Sums.{sum_by_push, sum_by-set}
 use Rattle.std.specs.List.{find}
 use Rattle.gfx_model.specs.Words.{greatest, place_of_handle}
-use Rattle.gfx_model.specs.Resources.{Thing, is_at}
+use Rattle.gfx_model.specs.Resources.{Thing, is_at, texel_count}
 use Rattle.resource_laws.specs.Bare.{bare}
 use Rattle.resource_book.specs.declared.rows.Row.{Row}
 use Rattle.resource_book.specs.Seen.{row_seen, rows_seen}
-use Rattle.resource_book.specs.Tables.{IsPlaced}
+use Rattle.resource_book.specs.Tables.{IsPlaced, IsTable, texels_of, place_count}
 use Rattle.resource_book.proofs.BareLaws.{rows_bare}
 use Rattle.resource_book.proofs.Numbers.{placed_changed, placed_more}
 
@@ -42,3 +43,30 @@ placed_row places rows new ts r place n h e below none at is made =
     subst (λ (xs : List Thing). IsPlaced (slice_set places place (Some n)) xs) list
     (subst (λ (m : ℕ). IsPlaced (slice_set places m (Some n)) (rows_seen rows ++ row_seen r ∷ [])) (sym at)
     (subst (λ (m : ℕ). IsPlaced (slice_set places (place_of_handle r.handle) (Some m)) (rows_seen rows ++ row_seen r ∷ [])) (length-map rows row_seen ∙ sym is) more))
+
+-- ---- texels
+
+pub rows_few : (rows : List Row) (ts : List Thing) → rows_seen rows ≡ ts → length ts ≤ place_count → length rows ≤ place_count
+rows_few rows ts e le = omega (arith, le, ap length e, length-map rows row_seen)
+
+pub sum_more : (texels : ℕ) (rows : List Row) (r : Row) (new : List Row) → texels ≡ texels_of (rows_seen rows) → new ≡ rows ++ r ∷ [] → texels + texel_count (row_seen r).content ≡ texels_of (rows_seen new)
+sum_more texels rows r new e made =
+    sym (ap (λ rs. texels_of (rows_seen rs)) made ∙ ap texels_of (map-append row_seen rows (r ∷ [])) ∙ sum_by_push (λ t. texel_count t.content) (rows_seen rows) (row_seen r) ∙ ap (λ n. n + texel_count (row_seen r).content) (sym e))
+
+-- a thing in place of one with as many texels
+pub table_rows : (f : Thing → Thing) (places : List (Option ℕ)) (texels : ℕ) (rows : List Row) (n : ℕ) (r new : Row) → ((t : Thing) → (f t).handle ≡ t.handle) → ((t : Thing) → (f t).content ≡ t.content) → IsTable places texels (rows_seen rows) → n < length rows → r ≡ slice_index_or rows n r
+    → row_seen new ≡ f (row_seen r) → IsTable places texels (rows_seen (slice_set rows n new))
+table_rows f places texels rows n r new keeps same h lt is e = record {
+  placed = placed_rows f places rows n r new keeps h.placed lt is e;
+  sum =
+      let lt' : n < length (rows_seen rows) = omega (arith, lt, length-map rows row_seen) in
+      let s = sum_by-set (λ (t : Thing). texel_count t.content) (rows_seen rows) n (row_seen new) (row_seen r) lt' in
+      let at : texel_count (slice_index_or (rows_seen rows) n (row_seen r)).content ≡ texel_count (row_seen r).content = ap (λ (t : Thing). texel_count t.content) (thing_at rows (rows_seen rows) n r (row_seen r) refl lt' is) in
+      let own : texel_count (row_seen new).content ≡ texel_count (row_seen r).content = ap texel_count (ap (λ (t : Thing). t.content) e ∙ same (row_seen r)) in
+      let mid : texels_of (rows_seen rows) ≡ texels_of (slice_set (rows_seen rows) n (row_seen new)) = omega (arith, s, at, own) in
+      h.sum ∙ mid ∙ ap texels_of (sym (map-set row_seen rows n new));
+  most = let a = h.most in let b = length-map rows row_seen in let c = length-map (slice_set rows n new) row_seen in let d = length-set rows n new in omega (arith, a, b, c, d);
+}
+
+pub sum_next : (rows : List Row) (i : ℕ) (r : Row) → i < length rows → r ≡ slice_index_or rows i r → texels_of (rows_seen (take i rows)) + texel_count (row_seen r).content ≡ texels_of (rows_seen (take (i + 1) rows))
+sum_next rows i r lt is = sum_more (texels_of (rows_seen (take i rows))) (take i rows) r (take (i + 1) rows) refl (take_more rows i r lt ∙ (λ j. take i rows ++ sym is j ∷ []))

@@ -1,5 +1,5 @@
 -- How the calls are answered.
-use Rattle.std.specs.Prelude.{◌≡◌, Bool, List, Option, Some, None, Result, MatchResult, IfSome, not, nat_lt}
+use Rattle.std.specs.Prelude.{◌≡◌, Bool, List, Option, Some, None, Result, MatchResult, MatchOption, not, nat_lt}
 use Rattle.std.specs.List.{find}
 use Rattle.gfx_model.specs.Resources.{Thing, Resources, ResourceCall, destroy, references_of, is_at, refusal_of, effect}
 use Rattle.gfx_model.specs.Resources as model
@@ -8,9 +8,9 @@ use Rattle.gfx_words.specs.declared.refusals.Refusal.{Refusal}
 use Rattle.gfx_words.specs.Seen.{refusal_seen, IsFirstRefusal}
 use Rattle.resource_book.specs.Written.{BookView, after_in}
 
--- the first refusal of a list of tests is the code's, or there was no memory
+-- the first refusal of a list of tests is the code's; memory is wanting only where no test refuses
 abbrev pub IsFirstRefusalOrOutOfMemory : Option model.Refusal → Refusal → Type 0
-IsFirstRefusalOrOutOfMemory first r = IfSome (refusal_seen r) (λ x. first ≡ Some x)
+IsFirstRefusalOrOutOfMemory first r = MatchOption (refusal_seen r) (first ≡ None) (λ x. first ≡ Some x)
 
 -- a create gives the definition's handle, and its effect without contents; a refused one changes nothing
 abbrev pub Creates : Result Handle Refusal → ResourceCall → (old new : BookView) → Type 0

@@ -27,6 +27,10 @@ pub record HasRoom (bytes : ℕ) (d : Desk) : Type 0 where
   pub payload : vec_len d.payloads < vec_capacity d.payloads
   pub number : vec_len d.payloads < 4294967295
 
+-- how many bytes the destroys of all things take, with one more and the end
+abbrev pub destroy_bytes : ℕ
+destroy_bytes = 15109
+
 -- what every desk keeps: the limits of the kinds; that the state is lawful; and room for the destroys of all things
 pub record IsDesk (d : Desk) : Type 0 where
   pub limits : HasLimits d.shelf
@@ -34,4 +38,4 @@ pub record IsDesk (d : Desk) : Type 0 where
   pub frame : d.shelf.frame ≤ 1073741823
   -- no more were destroyed in this frame than do not live
   pub destroys : length d.post.commands + count_where is_live (resources_of d.shelf).things ≤ length (resources_of d.shelf).things
-  pub room : 15109 ≤ d.post.spare + 4 * length d.post.commands
+  pub room : destroy_bytes ≤ d.post.spare + 4 * length d.post.commands

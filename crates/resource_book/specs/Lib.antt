@@ -7,3 +7,6 @@ pub mod Answered
 pub mod Desks
 pub mod Finding
 pub mod Opened
+pub mod Works
+pub mod Targets
+pub mod Laws

@@ -1,19 +1,22 @@
 // The resource calls.
 ghost use Rattle.gfx_model.specs.Resources as model;
 ghost use Rattle.fix_math.specs.Seen.{rect_seen, affine_seen};
-ghost use Rattle.gfx_words.specs.Seen.{mode_seen, program_seen, uniform_seen};
-ghost use Rattle.std.specs.Prelude.{◌≡◌, ◌≤◌, IfOk};
+ghost use Rattle.gfx_words.specs.Seen.{mode_seen, format_seen, program_seen, uniform_seen};
+ghost use Rattle.texture_store.specs.Seen.{own_source_seen};
+ghost use Rattle.std.specs.Prelude.{◌≡◌, ◌≤◌, [], IfOk, MatchResult};
 ghost use Rattle.gfx_model.specs.Views.{IsViewCount};
 ghost use Rattle.resource_book.specs.Opened.{opened};
 ghost use Rattle.resource_book.specs.Seen.{rows_seen};
 
 use crate::desk::Desk;
+use crate::frames::Work;
 use crate::opening::Start;
 use crate::rows::Row;
 use fix_math::{Affine, Rect};
-use gfx_words::{Handle, ProgramKind, Refusal, UniformKind, ViewMode};
+use gfx_words::{Format, Handle, ProgramKind, Refusal, UniformKind, ViewMode};
 use std::alloc::{AllocError, Global};
 use std::marker::Model;
+use texture_store::TexSource;
 use vertex_layout::VertexLayout;
 
 /// The state of the calls, and what they wrote for the frame.
@@ -36,11 +39,14 @@ impl Model for Book {
 impl Book {
     ghost use Rattle.resource_laws.specs.Lawful.{IsLawful};
     ghost use Rattle.resource_book.specs.Answered.{Creates, Updates, Changes, Destroys, HasLive};
+    ghost use Rattle.resource_book.specs.Works.{IsWork, with_nothing_written};
 
     /// Nothing is made. Memory for the destroys of all things is taken here.
     pub fn new(alloc: Global, start: Start) -> Result<Book, AllocError>
         requires views { IsViewCount start.views }
         requires frame { start.frame ≤ 1073741823 }
+        requires serial { 1 ≤ start.serial }
+        requires latency { (1 ≤ start.latency) × (start.latency ≤ 3) }
         ensures { IfOk result (λ b. b ≡ opened start) }
     {
         let desk = Desk::new(alloc, start)?;
@@ -66,6 +72,23 @@ impl Book {
         ensures { Creates result (model.create_index_buffer bytes.now) self.old self.new }
     {
         self.desk.create_index_buffer(bytes)
+    }
+
+    /// Makes a texture. `BadSize` exactly where a side is not 1 to 2,048 or there are not four bytes a texel; then `Full`
+    /// (1,024); then `TexelsFull` exactly where all live and waiting textures and this one have more than 33,554,432 texels;
+    /// then `SerialsSpent`.
+    pub fn create_texture(
+        &mut self,
+        width: u16,
+        height: u16,
+        format: Format,
+        blit_dst: bool,
+        source: TexSource,
+    ) -> Result<Handle, Refusal>
+        ensures { Creates result (model.create_texture width height (format_seen format) blit_dst (own_source_seen source)) self.old self.new }
+    {
+        self.desk
+            .create_texture(width, height, format, blit_dst, source)
     }
 
     /// Makes a frame buffer. `WrongKind` exactly where the colour is no rgba8 texture, or a depth is given that is no d24s8 texture of the same sides; then `Stale` of the colour and of the depth, `Full` (128) and `SerialsSpent`.
@@ -152,6 +175,14 @@ impl Book {
         self.desk.set_view_order(ids)
     }
 
+    /// Sets the view's target, or the back buffer. After `BadView`, `WrongKind` exactly where the handle is no frame
+    /// buffer's; then `Stale`.
+    pub fn set_view_target(&mut self, view: u16, target: Option<Handle>) -> Result<(), Refusal>
+        ensures { Changes result (model.set_view_target view target) self.old self.new }
+    {
+        self.desk.set_view_target(view, target)
+    }
+
     /// Sets the view as it is at first.
     pub fn reset_view(&mut self, view: u16) -> Result<(), Refusal>
         ensures { Changes result (model.reset_view view) self.old self.new }
@@ -181,6 +212,28 @@ impl Book {
         ensures told { IfOk result (λ _. HasLive h self.old) }
     {
         self.desk.destroy(h)
+    }
+
+    /// Takes what the calls of the frame wrote, with a copy of the views. Memory for the next frame's destroys is taken
+    /// here; after want of memory nothing is taken.
+    pub fn take_work(&mut self) -> Result<Work, AllocError>
+        ensures { MatchResult result
+            (λ work. IsWork self.old work × (self.new ≡ with_nothing_written self.old))
+            (λ _. self.new ≡ self.old) }
+    {
+        self.desk.take_work()
+    }
+
+    /// Starts a frame: indices and things whose death is over are given back, and a view whose target died has the back
+    /// buffer. What was written has been taken. The rows that `Row::is_kept` refuses tell before the call which places
+    /// it leaves free. It takes no memory.
+    pub fn start_frame(&mut self, frame: u32)
+        requires later { self.old.resources.frame ≤ frame }
+        requires most { frame ≤ 1073741823 }
+        requires taken { self.old.post ≡ [] }
+        ensures { self.new ≡ record self.old { resources = model.start_frame frame self.old.resources } }
+    {
+        self.desk.start_frame(frame);
     }
 
     /// The things.

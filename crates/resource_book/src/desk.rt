@@ -116,19 +116,4 @@ impl Desk {
             Some(h) => self.must_live(*h),
         }
     }
-
-    /// `Full` and then `SerialsSpent` exactly where no index of the kind, or no serial is left.
-    pub fn must_have_room(&self, kind: Kind) -> Result<(), Refusal>
-        ensures { MatchResult result
-            (λ _. ((model.lacks_index (desk_seen self.now).resources (kind_seen kind)).0 ≡ false) × ((model.lacks_serial (desk_seen self.now).resources).0 ≡ false))
-            (λ r. IsFirstRefusal (model.first_refusal (model.lacks_index (desk_seen self.now).resources (kind_seen kind) ∷ model.lacks_serial (desk_seen self.now).resources ∷ [])) r) }
-    {
-        if self.shelf.lacks_index(kind) {
-            return Err(Refusal::Full);
-        }
-        if self.shelf.lacks_serial() {
-            return Err(Refusal::SerialsSpent);
-        }
-        Ok(())
-    }
 }

@@ -11,6 +11,7 @@ ghost use Rattle.resource_book.specs.Answered.{HasLiveThing};
 use crate::rows::{Fact, Row};
 use crate::table::ThingTable;
 use gfx_words::{Format, Handle, Info, Kind, PlaceWord, Refusal, UniformKind};
+use view_table::LiveTargets;
 
 fn has_name(row: &Row, name: &[u8]) -> bool
     ensures { result ≡ (is_live (row_seen row.now) && has_name name.now (row_seen row.now).content) }
@@ -64,6 +65,17 @@ pub fn word_at(table: &ThingTable, kind: Kind, index: u16) -> u64
     match table.number_at(kind, index) {
         None => 0,
         Some(n) => word_of(table.row(n)),
+    }
+}
+
+impl LiveTargets for ThingTable {
+    ghost is_kept = { λ table h. is_live_in (word_of_thing (find (is_at h.kind h.index) table.things)) h.serial };
+
+    fn keeps(&self, target: Handle) -> bool {
+        PlaceWord::is_live_in(
+            word_at(self, target.kind(), target.index()),
+            target.serial(),
+        )
     }
 }
 

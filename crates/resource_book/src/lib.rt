@@ -6,6 +6,7 @@ mod creates;
 mod deaths;
 mod desk;
 mod find;
+mod frames;
 mod opening;
 mod rows;
 mod settings;
@@ -14,8 +15,17 @@ mod stacks;
 mod table;
 #[cfg(test)]
 mod tests;
+mod textures;
 mod updates;
 
+ghost use Rattle.resource_book.specs.Laws.{WrittenLaw};
+
 pub use book::Book;
+pub use frames::Work;
 pub use opening::Start;
 pub use rows::{Fact, Row};
+
+/// What the book knows after an accepted call is what the calls of the frame wrote, without contents.
+pub fn written_law()
+    ensures { WrittenLaw }
+{}

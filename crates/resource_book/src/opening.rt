@@ -3,7 +3,7 @@ ghost use Rattle.std.specs.Prelude.{◌≡◌, ◌≤◌, [], map, IfOk};
 ghost use Rattle.gfx_model.specs.Words.{all_kinds};
 ghost use Rattle.gfx_model.specs.Views.{IsViewCount};
 ghost use Rattle.gfx_words.specs.Kinds.{kind_seen};
-ghost use Rattle.resource_book.specs.Desks.{desk_seen, IsDesk};
+ghost use Rattle.resource_book.specs.Desks.{desk_seen, destroy_bytes, IsDesk};
 ghost use Rattle.resource_book.specs.Opened.{new_stack, opened};
 
 use crate::desk::Desk;
@@ -23,11 +23,11 @@ const DESTROY_BYTES: u32 = 15_109;
 pub struct Start {
     /// The number of the first frame, up to 1,073,741,823.
     pub frame: u32,
-    /// The first serial.
+    /// The first serial, from 1.
     pub serial: u32,
     /// How many views there are, 256 or 512.
     pub views: u16,
-    /// How many frames may be out.
+    /// How many frames may be out, 1 to 3.
     pub latency: u8,
 }
 
@@ -51,8 +51,9 @@ fn stacks(alloc: Global) -> Result<[Stack; 7], AllocError>
     ])
 }
 
-fn post_buffer(alloc: Global) -> Result<CmdBuffer, AllocError>
-    ensures { IfOk result (λ b. (b.commands ≡ []) × (15109 ≤ b.spare)) }
+/// A row with room for the destroys of all things.
+pub fn post_buffer(alloc: Global) -> Result<CmdBuffer, AllocError>
+    ensures { IfOk result (λ b. (b.commands ≡ []) × (destroy_bytes ≤ b.spare)) }
 {
     let mut post = CmdBuffer::new(alloc);
     post.reserve(DESTROY_BYTES)?;

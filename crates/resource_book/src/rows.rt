@@ -1,6 +1,7 @@
 // What is known of a thing.
-ghost use Rattle.std.specs.Prelude.{◌≤◌};
+ghost use Rattle.std.specs.Prelude.{◌≡◌, ◌≤◌};
 ghost use Rattle.std.specs.Option.{ForSome};
+ghost use Rattle.gfx_model.specs.Resources.{is_over, is_kept_thing};
 
 use gfx_words::{Format, Handle, ProgramKind, UniformKind};
 use vertex_layout::VertexLayout;
@@ -46,4 +47,26 @@ pub struct Row {
     /// How many destroys a uniform needs to die, 1 to 65,535; 1 of any other thing.
     pub references: u32,
     ghost death_most: { ForSome death (λ d. d ≤ 1073741823) },
+}
+
+/// Whether a death lies so far back that no frame that is out can name the thing.
+pub fn is_death_over(death: u32, latency: u8, frame: u32) -> bool
+    ensures { result ≡ is_over latency frame death }
+{
+    death as u64 + 1 + latency as u64 <= frame as u64
+}
+
+impl Row {
+    ghost use Rattle.resource_book.specs.Seen.{row_seen};
+
+    /// Whether the start of a frame keeps the thing: it lives, or its death is not over. What it does not keep leaves its
+    /// place free.
+    pub fn is_kept(&self, latency: u8, frame: u32) -> bool
+        ensures { result ≡ is_kept_thing latency frame (row_seen self.now) }
+    {
+        match self.death {
+            None => true,
+            Some(death) => !is_death_over(death, latency, frame),
+        }
+    }
 }

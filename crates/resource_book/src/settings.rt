@@ -1,14 +1,15 @@
 // The calls on views.
-ghost use Rattle.std.specs.Prelude.{◌≡◌};
+ghost use Rattle.std.specs.Prelude.{◌≡◌, Some, None, MatchResult};
 ghost use Rattle.fix_math.specs.Seen.{rect_seen, affine_seen};
 ghost use Rattle.gfx_model.specs.Resources as model;
-ghost use Rattle.gfx_words.specs.Seen.{mode_seen};
+ghost use Rattle.gfx_words.specs.Seen.{mode_seen, IsFirstRefusal};
 ghost use Rattle.resource_book.specs.Answered.{Changes};
 ghost use Rattle.resource_book.specs.Desks.{desk_seen};
+ghost use Rattle.resource_book.specs.Targets.{target_refusals};
 
 use crate::desk::Desk;
 use fix_math::{Affine, Rect};
-use gfx_words::{Refusal, ViewMode};
+use gfx_words::{Handle, Kind, Refusal, ViewMode};
 
 impl Desk {
     /// Sets the view's part of its target.
@@ -88,5 +89,52 @@ impl Desk {
     {
         self.shelf.table.facts();
         self.shelf.views.reset_view(view)
+    }
+
+    /// Sets the view's target, or the back buffer.
+    pub fn set_view_target(&mut self, view: u16, target: Option<Handle>) -> Result<(), Refusal>
+        ensures shelf { (self.new.shelf.stacks ≡ self.old.shelf.stacks) × (self.new.shelf.frame ≡ self.old.shelf.frame) }
+        ensures post { self.new.post ≡ self.old.post }
+        ensures answer { Changes result (model.set_view_target view target) (desk_seen self.old) (desk_seen self.new) }
+    {
+        if self.is_no_view(view) {
+            return Err(Refusal::BadView);
+        }
+        match self.must_be_target(&target) {
+            Ok(()) => {
+                self.shelf.table.facts();
+                self.shelf.views.set_target(view, target)
+            }
+            Err(r) => Err(r),
+        }
+    }
+
+    fn is_no_view(&self, view: u16) -> bool
+        ensures { result ≡ (model.is_no_view (desk_seen self.now).resources view).0 }
+    {
+        view >= self.shelf.views.count()
+    }
+
+    fn must_be_target(&self, target: &Option<Handle>) -> Result<(), Refusal>
+        ensures { MatchResult result
+            (λ _. model.first_refusal (target_refusals (desk_seen self.now).resources target.now) ≡ None)
+            (λ r. IsFirstRefusal (model.first_refusal (target_refusals (desk_seen self.now).resources target.now)) r) }
+    {
+        match target {
+            None => Ok(()),
+            Some(h) => self.must_be_frame_buffer(*h),
+        }
+    }
+
+    fn must_be_frame_buffer(&self, h: Handle) -> Result<(), Refusal>
+        ensures { MatchResult result
+            (λ _. model.first_refusal (target_refusals (desk_seen self.now).resources (Some h)) ≡ None)
+            (λ r. IsFirstRefusal (model.first_refusal (target_refusals (desk_seen self.now).resources (Some h))) r) }
+    {
+        if !h.kind().is(Kind::FrameBuffer) {
+            return Err(Refusal::WrongKind);
+        }
+        self.must_live(h)?;
+        Ok(())
     }
 }

@@ -10,7 +10,7 @@ ghost use Rattle.resource_laws.specs.Lawful.{IsLawful};
 ghost use Rattle.resource_book.specs.Seen.{fact_seen};
 
 use crate::rows::{Fact, Row};
-use crate::stacks::Stack;
+use crate::stacks::{Stack, reclaim_all};
 use crate::table::ThingTable;
 use gfx_words::{Handle, Info, Kind};
 use view_table::ViewTable;
@@ -107,5 +107,19 @@ impl Shelf {
         let index = h.index();
         self.table.kill(number, death);
         self.stacks[kind.number() as usize].wait(index, death);
+    }
+
+    /// The start of a frame: indices and things whose death is over are given back, and a view whose target died has
+    /// the back buffer.
+    pub fn start_frame(&mut self, frame: u32)
+        requires limits { HasLimits self.old }
+        requires lawful { IsLawful (resources_of self.old) }
+        ensures limits { HasLimits self.new }
+        ensures after { resources_of self.new ≡ model.start_frame frame (resources_of self.old) }
+    {
+        self.views.keep_targets(&self.table);
+        reclaim_all(&mut self.stacks, self.latency, frame);
+        self.table.start_frame(self.latency, frame);
+        self.frame = frame;
     }
 }

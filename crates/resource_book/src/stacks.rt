@@ -1,12 +1,13 @@
 // The indices of a kind: a stack of those that can be given, and those that wait.
-ghost use Rattle.std.specs.Prelude.{◌≡◌, ◌<◌, ◌≤◌, ◌+◌, ◌==◌, ◌++◌, ◌∷◌, [], ℕ, true, false, not, map, filter, length, if◌then◌else◌, vec_capacity, IfOk};
+ghost use Rattle.std.specs.Prelude.{◌≡◌, ◌<◌, ◌≤◌, ◌+◌, ◌==◌, ◌++◌, ◌∷◌, [], ℕ, true, false, not, map, filter, length, slice_index_or, if◌then◌else◌, vec_capacity, IfOk};
 ghost use Rattle.std.specs.List.{AllByRecursion, range_with_len};
 ghost use Rattle.gfx_model.specs.Resources.{is_over, book_at_start, pushed_on};
 ghost use Rattle.schedule_model.specs.Held.{count_of};
 ghost use Rattle.handle_alloc.specs.Indices.{IsGiven, with_free};
 ghost use Rattle.resource_laws.specs.Lawful.{count_where, waits_at};
-ghost use Rattle.resource_book.specs.Stacks.{book_seen, waiting_seen, with_top};
+ghost use Rattle.resource_book.specs.Stacks.{StackView, book_seen, waiting_seen, with_top, CanReclaim, reclaimed};
 
+use crate::rows::is_death_over;
 use handle_alloc::HandleAlloc;
 use std::alloc::{AllocError, Global};
 use std::marker::Model;
@@ -89,7 +90,7 @@ impl Stack {
 fn is_over(w: Waiting, latency: u8, frame: u32) -> bool
     ensures { result ≡ is_over latency frame w.death }
 {
-    w.death as u64 + 1 + latency as u64 <= frame as u64
+    is_death_over(w.death, latency, frame)
 }
 
 fn give_back(free: &mut HandleAlloc, w: &Waiting, latency: u8, frame: u32)
@@ -133,5 +134,15 @@ fn next_place(later: usize, w: Waiting, latency: u8, frame: u32) -> usize
         later
     } else {
         later + 1
+    }
+}
+
+/// The indices of all kinds at the start of a frame.
+pub fn reclaim_all(stacks: &mut [Stack], latency: u8, frame: u32)
+    requires { (i : ℕ) (d : StackView) → i < length stacks.old → CanReclaim (slice_index_or stacks.old i d) }
+    ensures { stacks.new ≡ map (reclaimed latency frame) stacks.old }
+{
+    for i in 0..stacks.len() {
+        stacks[i].reclaim(latency, frame);
     }
 }

@@ -1,14 +1,15 @@
 // The things that are live or waiting.
-ghost use Rattle.std.specs.Prelude.{map, ◌≡◌, ◌<◌, ◌≤◌, ◌+◌, ◌-◌, ◌++◌, ◌∷◌, [], length, slice_index_or, slice_set, Some, None, MatchOption, OnErr, IfOk};
+ghost use Rattle.std.specs.Prelude.{map, ◌≡◌, ◌<◌, ◌≤◌, ◌+◌, ◌-◌, ◌*◌, ◌++◌, ◌∷◌, [], length, slice_index_or, slice_set, filter, Some, None, MatchOption, OnErr, IfOk};
 ghost use Rattle.std.specs.List.{find};
-ghost use Rattle.gfx_model.specs.Words.{greatest};
+ghost use Rattle.gfx_model.specs.Words.{greatest, place_of_handle};
 ghost use Rattle.gfx_model.specs.Resources as model;
-ghost use Rattle.gfx_model.specs.Resources.{Thing, is_at};
+ghost use Rattle.gfx_model.specs.Resources.{Thing, is_at, is_kept_thing, texel_count};
 ghost use Rattle.gfx_words.specs.Kinds.{kind_seen};
 ghost use Rattle.resource_laws.specs.Bare.{bare};
 ghost use Rattle.resource_book.specs.Seen.{row_seen, rows_seen};
+ghost use Rattle.resource_book.specs.Tables.{IsPlaced, StandApart, texels_of, place_count, most_texels};
 
-use crate::rows::Row;
+use crate::rows::{Fact, Row};
 use gfx_words::Kind;
 use std::alloc::{AllocError, Global};
 use std::marker::Model;
@@ -21,18 +22,20 @@ pub struct ThingTable {
     rows: Vec<Row>,
     // the number of the thing at each place
     numbers: Vec<Option<usize>>,
+    // how many texels all textures have
+    texels: u64,
 }
 
 impl Model for ThingTable {
     ghost use Rattle.std.specs.Prelude.{◌-◌, vec_len, vec_capacity};
-    ghost use Rattle.resource_book.specs.Tables.{TableView, IsPlaced};
+    ghost use Rattle.resource_book.specs.Tables.{TableView, IsTable};
     ghost use Rattle.resource_book.specs.Seen.{rows_seen};
 
     ghost Value = { TableView };
 
     ghost view = { λ t. record { things = rows_seen t.rows.items; spare = vec_capacity t.rows - vec_len t.rows } };
 
-    ghost invariant = { λ t. IsPlaced t.numbers.items (rows_seen t.rows.items) };
+    ghost invariant = { λ t. IsTable t.numbers.items t.texels (rows_seen t.rows.items) };
 }
 
 fn refer_to(row: &mut Row)
@@ -56,6 +59,66 @@ fn kill(row: &mut Row, death: u32)
     row.death = Some(death);
 }
 
+fn keep_rows(rows: &mut Vec<Row>, latency: u8, frame: u32)
+    ensures { rows_seen rows.new.items ≡ filter (is_kept_thing latency frame) (rows_seen rows.old.items) }
+{
+    rows.retain(|row| row.is_kept(latency, frame));
+}
+
+fn put_number(numbers: &mut Vec<Option<usize>>, row: &Row, number: usize)
+    requires { length numbers.old.items ≡ place_count }
+    ensures { numbers.new.items ≡ slice_set numbers.old.items (place_of_handle row.now.handle) (Some number) }
+{
+    let place = row.handle.place() as usize;
+    numbers[place] = Some(number);
+}
+
+fn number_all(numbers: &mut Vec<Option<usize>>, rows: &[Row])
+    requires many { length numbers.old.items ≡ place_count }
+    requires apart { StandApart (rows_seen rows.now) }
+    ensures { IsPlaced numbers.new.items (rows_seen rows.now) }
+{
+    numbers.fill(None);
+    for i in 0..rows.len() {
+        put_number(numbers, &rows[i], i);
+    }
+}
+
+fn texels_of_row(row: &Row) -> u64
+    ensures same { result ≡ texel_count (row_seen row.now).content }
+    ensures most { result ≤ most_texels }
+{
+    match row.fact {
+        Fact::Texture {
+            format: _,
+            width,
+            height,
+        } => width as u64 * height as u64,
+        _ => 0,
+    }
+}
+
+// the texels of one thing more; those of a few things cannot overflow
+fn more_texels(texels: u64, row: &Row) -> u64
+    requires { texels ≤ most_texels * place_count }
+    ensures same { result ≡ texels + texel_count (row_seen row.now).content }
+    ensures most { result ≤ texels + most_texels }
+{
+    texels + texels_of_row(row)
+}
+
+fn texels_in(rows: &[Row]) -> u64
+    requires { length rows.now ≤ place_count }
+    ensures sum { result ≡ texels_of (rows_seen rows.now) }
+    ensures most { result ≤ most_texels * length rows.now }
+{
+    let mut texels = 0;
+    for i in 0..rows.len() {
+        texels = more_texels(texels, &rows[i]);
+    }
+    texels
+}
+
 impl ThingTable {
     /// There is nothing.
     pub fn new(alloc: Global) -> Result<ThingTable, AllocError>
@@ -65,6 +128,7 @@ impl ThingTable {
         Ok(ThingTable {
             rows: Vec::new(alloc),
             numbers,
+            texels: 0,
         })
     }
 
@@ -100,6 +164,13 @@ impl ThingTable {
         &self.rows
     }
 
+    /// How many texels all textures have.
+    pub fn texels(&self) -> u64
+        ensures { result ≡ texels_of self.now.things }
+    {
+        self.texels
+    }
+
     /// Makes room for one thing more.
     pub fn reserve(&mut self) -> Result<(), AllocError>
         ensures things { self.new.things ≡ self.old.things }
@@ -113,11 +184,14 @@ impl ThingTable {
         requires free { find (is_at row.handle.kind row.handle.index) self.old.things ≡ None }
         requires below { row.handle.index < greatest row.handle.kind }
         requires room { 1 ≤ self.old.spare }
+        requires few { length self.old.things ≤ place_count }
         ensures things { self.new.things ≡ self.old.things ++ row_seen row ∷ [] }
         ensures bare { map bare self.new.things ≡ self.new.things }
     {
         let place = row.handle.place() as usize;
         self.numbers[place] = Some(self.rows.len());
+        let texels = more_texels(self.texels, &row);
+        self.texels = texels;
         self.rows.push_reserved(row);
     }
 
@@ -149,5 +223,17 @@ impl ThingTable {
         ensures bare { map bare self.new.things ≡ self.new.things }
     {
         kill(&mut self.rows[number], death);
+    }
+
+    /// The start of a frame keeps what lives, and what may still be named.
+    pub fn start_frame(&mut self, latency: u8, frame: u32)
+        requires apart { StandApart self.old.things }
+        requires few { length self.old.things ≤ place_count }
+        ensures { self.new.things ≡ filter (is_kept_thing latency frame) self.old.things }
+    {
+        keep_rows(&mut self.rows, latency, frame);
+        number_all(&mut self.numbers, &self.rows);
+        let texels = texels_in(&self.rows);
+        self.texels = texels;
     }
 }

@@ -9,7 +9,7 @@ use Rattle.resource_book.specs.Stacks.{StackView, book_seen}
 use Rattle.resource_book.specs.Shelves.{resources_of}
 use Rattle.resource_book.proofs.BareLaws.{made_after, fact_bare}
 use Rattle.resource_laws.proofs.LawfulLaws.{none_before}
-use Rattle.resource_book.proofs.Rooms.{none_counted}
+use Rattle.resource_book.proofs.Rooms.{none_counted, things_fit}
 use Rattle.resource_book.proofs.StackLaws.{limit_here, limits_same, book_here, books_changed}
 use Rattle.resource_book.proofs.shelf.Shelf.make.Goals as goal
 
@@ -28,6 +28,9 @@ push-requires-clause-free c =
 pub push-requires-clause-below : goal.push-requires-clause-below
 push-requires-clause-below c = subst (λ (h : Handle). h.index < greatest h.kind) (sym c.of-handle.ensures)
     (subst (λ n. c.take-index.result < n) (limit_here c.args.self.now.stacks (kind_seen c.args.kind) c.number.result c.index-self-number.result c.number.ensures c.requires.limits) c.take-index.ensures.below)
+
+pub push-requires-clause-few : goal.push-requires-clause-few
+push-requires-clause-few c = things_fit (resources_of c.args.self.now) c.requires.lawful
 
 pub returns-clause-limits : goal.returns-clause-limits
 returns-clause-limits c = limits_same c.args.self.now.stacks (kind_seen c.args.kind) c.number.result c.index-self-number.result c.take-index.new.self c.number.ensures c.requires.limits (sym (ap (λ (s : StackView). s.limit) c.take-index.ensures.taken))

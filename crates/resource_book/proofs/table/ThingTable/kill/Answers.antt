@@ -1,11 +1,11 @@
 use Rattle.std.proofs.Common.{refl, ap}
 use Rattle.gfx_model.specs.Resources.{with_death}
 use Rattle.resource_book.specs.Tables.{TableView}
-use Rattle.resource_book.proofs.TableLaws.{within, rows_changed, bare_rows, placed_rows}
+use Rattle.resource_book.proofs.TableLaws.{within, rows_changed, bare_rows, table_rows}
 use Rattle.resource_book.proofs.table.ThingTable.kill.Goals as goal
 
 pub invariant_of-self : goal.invariant_of-self
-invariant_of-self c = placed_rows (with_death c.args.death) c.self.inside.numbers.items c.self.inside.rows.items c.args.number c.index_mut.result.now c.kill.new.row (λ t. refl) c.self.invariant
+invariant_of-self c = table_rows (with_death c.args.death) c.self.inside.numbers.items c.self.inside.texels c.self.inside.rows.items c.args.number c.index_mut.result.now c.kill.new.row (λ t. refl) (λ t. refl) c.self.invariant
     (within c.self.inside.rows.items c.args.self.now.things c.args.number (ap (λ (t : TableView). t.things) c.self.view_is) c.requires.within) c.index_mut.ensures.value c.kill.ensures
 
 pub returns-clause-things : goal.returns-clause-things

@@ -15,8 +15,8 @@ returns c =
     let place : c.first_place.result + c.args.index ≡ first_place k + c.args.index = ap (λ n. n + c.args.index) c.first_place.ensures in
     let here : c.index.result.now ≡ number_of (is_at k c.args.index) things =
     c.index.ensures
-    ∙ get_or_default c.self.inside.numbers.items (c.first_place.result + c.args.index) c.index.result.now None (omega (arith, place, c.self.invariant.many, place_below k c.args.index c.requires))
+    ∙ get_or_default c.self.inside.numbers.items (c.first_place.result + c.args.index) c.index.result.now None (omega (arith, place, c.self.invariant.placed.many, place_below k c.args.index c.requires))
     ∙ ap (λ n. slice_index_or c.self.inside.numbers.items n None) place
-    ∙ c.self.invariant.stands k c.args.index c.requires
+    ∙ c.self.invariant.placed.stands k c.args.index c.requires
     ∙ ap (λ (t : TableView). number_of (is_at k c.args.index) t.things) c.self.view_is in
     subst (IsNumber (is_at k c.args.index) things) (sym here) (number_found (is_at k c.args.index) things)

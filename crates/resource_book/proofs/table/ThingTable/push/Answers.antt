@@ -1,11 +1,31 @@
-use Rattle.std.proofs.Common.{rules, refl, ap}
+use Rattle.std.proofs.Common.{rules, ◌∙◌, refl, ap, length, List, arith}
+use Rattle.resource_book.specs.declared.rows.Row.{Row}
+use Rattle.std.proofs.lemmas.List.{length-append, length-map}
+use Rattle.resource_book.specs.Seen.{row_seen}
 use Rattle.resource_book.specs.Tables.{TableView}
-use Rattle.resource_book.proofs.TableLaws.{bare_rows, placed_row}
+use Rattle.resource_book.proofs.TableLaws.{bare_rows, placed_row, sum_more, rows_few}
 use Rattle.resource_book.proofs.table.ThingTable.push.Goals as goal
 
+pub more_texels-texels-requires : goal.more_texels-texels-requires
+more_texels-texels-requires c =
+    let few = rows_few c.self.inside.rows.items c.args.self.now.things (ap (λ (t : TableView). t.things) c.self.view_is) c.requires.few in
+    let same = length-map c.self.inside.rows.items row_seen in
+    let most = c.self.invariant.most in
+    omega (arith, few, same, most)
+
 pub invariant_of-self : goal.invariant_of-self
-invariant_of-self c = placed_row c.self.inside.numbers.items c.self.inside.rows.items c.push_reserved.new.self.items c.args.self.now.things c.args.row c.place-place.result c.len.result c.self.invariant
-    (ap (λ (t : TableView). t.things) c.self.view_is) c.requires.below c.requires.free c.place-place.ensures.same (search rules) c.push_reserved.ensures.items
+invariant_of-self c = record {
+  placed = placed_row c.self.inside.numbers.items c.self.inside.rows.items c.push_reserved.new.self.items c.args.self.now.things c.args.row c.place-place.result c.len.result c.self.invariant.placed
+      (ap (λ (t : TableView). t.things) c.self.view_is) c.requires.below c.requires.free c.place-place.ensures.same (search rules) c.push_reserved.ensures.items;
+  sum = c.more_texels-texels.ensures.same ∙ sum_more c.self.inside.texels c.self.inside.rows.items c.args.row c.push_reserved.new.self.items c.self.invariant.sum c.push_reserved.ensures.items;
+  most =
+      let most = c.more_texels-texels.ensures.most in
+      let old = c.self.invariant.most in
+      let same = length-map c.self.inside.rows.items row_seen in
+      let new = length-map c.push_reserved.new.self.items row_seen in
+      let long = ap length c.push_reserved.ensures.items ∙ length-append c.self.inside.rows.items _ in
+      omega (arith, most, old, same, new, long);
+}
 
 pub returns-clause-bare : goal.returns-clause-bare
 returns-clause-bare c = bare_rows _ _ refl

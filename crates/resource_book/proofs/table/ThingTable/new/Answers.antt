@@ -1,0 +1,14 @@
+use Rattle.std.proofs.Common.{rules, refl, ap, sym, subst, arith, List, []}
+use Rattle.resource_book.specs.declared.rows.Row.{Row}
+use Rattle.resource_book.specs.Seen.{rows_seen}
+use Rattle.resource_book.specs.Tables.{IsPlaced, texels_of}
+use Rattle.resource_book.proofs.Numbered.{numbered_none}
+use Rattle.resource_book.proofs.table.ThingTable.new.Goals as goal
+
+pub invariant_of-result : goal.invariant_of-result
+invariant_of-result c = record {
+  placed = subst (λ (rows : List Row). IsPlaced c.in_ok-numbers.numbers.items (rows_seen rows)) (sym c.new.ensures.items)
+      (numbered_none c.in_ok-numbers.numbers.items 3776 [] (c.in_ok-numbers.ensures.items_if_clones_equal (λ y k. search rules)) refl);
+  sum = ap (λ (rows : List Row). texels_of (rows_seen rows)) (sym c.new.ensures.items);
+  most = omega arith;
+}
