@@ -9,3 +9,6 @@ mod setting;
 mod updating;
 
 pub use playing::play_lines;
+
+#[cfg(test)]
+mod tests;
