@@ -6,3 +6,4 @@ pub mod Recording
 pub mod Given
 pub mod Starting
 pub mod Pictures
+pub mod Gathering

@@ -1,2 +1,3 @@
 pub mod SceneFrames
+pub mod Gathered
 pub mod Laws

@@ -3,10 +3,16 @@
 //! The laws are functions without parameters: each has an empty body, and its contract is the law.
 #![tactic(auto)]
 
-ghost use Rattle.scene_laws.specs.Laws.{ScenePicturesLaw};
+ghost use Rattle.scene_laws.specs.Laws.{ScenePicturesLaw, GatheredLaw};
 
 /// The frames that the accepted lines of a scene write, rendered by index in order from empty stores, have the
 /// scene's pictures by the journal.
 pub fn scene_pictures_law()
     ensures { ScenePicturesLaw }
+{}
+
+/// Where each encoder of a frame has one recording, of the items that the scene's block gives, the journal of the recordings is
+/// lawful for the frame, and their items, in the journal's order and in that of the drawing, are the frame's.
+pub fn gathered_law()
+    ensures { GatheredLaw }
 {}
