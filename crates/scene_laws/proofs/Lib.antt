@@ -7,3 +7,4 @@ pub mod Given
 pub mod Starting
 pub mod Pictures
 pub mod Gathering
+pub mod Colors

@@ -4,6 +4,7 @@
 #![tactic(auto)]
 
 ghost use Rattle.scene_laws.specs.Laws.{ScenePicturesLaw, GatheredLaw};
+ghost use Rattle.scene_laws.specs.Readables.{ColorsLaw};
 
 /// The frames that the accepted lines of a scene write, rendered by index in order from empty stores, have the
 /// scene's pictures by the journal.
@@ -15,4 +16,9 @@ pub fn scene_pictures_law()
 /// lawful for the frame, and their items, in the journal's order and in that of the drawing, are the frame's.
 pub fn gathered_law()
     ensures { GatheredLaw }
+{}
+
+/// The colours with which the lines of a readable scene fill textures are four bytes.
+pub fn colors_law()
+    ensures { ColorsLaw }
 {}

@@ -8,7 +8,14 @@ mod playing;
 mod setting;
 mod updating;
 
+ghost use Rattle.scene_lines.specs.Names.{PlacesLaw};
+
 pub use playing::play_lines;
+
+/// Each name that a line of a readable scene binds has its place in the list of the scene's names.
+pub fn places_law()
+    ensures { PlacesLaw }
+{}
 
 #[cfg(test)]
 mod tests;
