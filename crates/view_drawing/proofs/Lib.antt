@@ -1,0 +1,7 @@
+mod Blocks
+mod Clears
+mod CutLaws
+mod Facings
+mod Fetches
+mod Parts
+mod Places

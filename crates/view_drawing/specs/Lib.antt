@@ -1,0 +1,4 @@
+pub mod Cleared
+pub mod Ranges
+pub mod Sampled
+pub mod Shapes
