@@ -82,7 +82,7 @@ outside x c w (inr le) = ap (λ b. nat_le x c && b) (le-ltb c (x + w) le) ∙ an
     and_false false = refl
 
 -- a texel that is not in the row is replaced with it just where it is replaced without it
-not_row_at : (x y w r c p : ℕ) → (p ≡ y + r → (c < x) ⊎ (x + w ≤ c)) → contains (record { x = x; y = y; w = w; h = r }) c p ≡ contains (record { x = x; y = y; w = w; h = r + 1 }) c p
+not_in_row : (x y w r c p : ℕ) → (p ≡ y + r → (c < x) ⊎ (x + w ≤ c)) → contains (record { x = x; y = y; w = w; h = r }) c p ≡ contains (record { x = x; y = y; w = w; h = r + 1 }) c p
 not_in_row x y w r c p h = by_row (eqb p (y + r)) refl
   where
     by_row : (b : Bool) → eqb p (y + r) ≡ b → contains (record { x = x; y = y; w = w; h = r }) c p ≡ contains (record { x = x; y = y; w = w; h = r + 1 }) c p

@@ -1,7 +1,10 @@
 -- A surface of which a rectangle is cleared.
 use Rattle.std.proofs.Common.{◌≡◌, ℕ, zero, suc, ◌+◌, ◌*◌, ◌/◌, ◌%◌, ◌<◌, ◌≤◌, ◌^◌, Bool, true, false, cond, List, [], ◌∷◌, ◌++◌, map, take, drop, get_or, replicate, length, None, Some, refl, sym, ap, ◌∙◌, arith}
 use Rattle.std.specs.Prelude.{if◌then◌else◌, slice_set}
-use Rattle.std.proofs.Math.Nat.{div-lt_iff_lt-mul, mul_comm}
+use Rattle.std.proofs.Math.Nat.{div-lt_iff_lt-mul, mul_comm, mul-le-mul_right}
+use Rattle.std.proofs.lemmas.List.{map-append, append_assoc, drop-drop, take-map, drop-map}
+use Rattle.std.proofs.lemmas.Simd.{map-map}
+use borrow.Rule.Slice.PartMut.{post_of, put_mid}
 use Rattle.gfx_model.specs.Number.{map_from, u32_at, is_bit_set}
 use Rattle.gfx_model.specs.Vertex.{Color}
 use Rattle.gfx_model.specs.Raster.{Rect, contains}
@@ -131,3 +134,26 @@ done-suc {A} g h (y ∷ xs) (o ∷ old) (suc i) x d lt e m k =
 pub set-done : {A : Type 0} (g h : Color → A) (xs old : List Color) (i : ℕ) (x d : Color) → i < length xs → drop i xs ≡ drop i old → map g (take i xs) ≡ map h (take i old) → g x ≡ h (get_or xs i d)
     → map g (take (i + 1) (slice_set xs i x)) ≡ map h (take (i + 1) old)
 set-done g h xs old i x d lt e m k = let n : i + 1 ≡ suc i = omega arith in rw n (done-suc g h xs old i x d lt e m k)
+
+-- the depth words of a row that is cleared within a list
+pub row_words : (k : Clear) (at n count : ℕ) (old p : List Color) → n ≡ count → map word_in p ≡ map (word_cleared k) (take n (drop at old))
+    → map word_in (put_mid at n old p) ≡ take at (map word_in old) ++ map (cleared_word k) (take count (drop at (map word_in old))) ++ drop (at + count) (map word_in old)
+row_words k at n count old p e is =
+    map-append word_in (take at old) (p ++ post_of at n old)
+    ∙ (λ i. sym (take-map word_in at old) i ++ (map-append word_in p (post_of at n old) ∙ (λ j. (is ∙ words) j ++ rest j)) i)
+    ∙ sym (append_assoc (take at (map word_in old)) (map (cleared_word k) (take count (drop at (map word_in old)))) (drop (at + count) (map word_in old)))
+  where
+    words : map (word_cleared k) (take n (drop at old)) ≡ map (cleared_word k) (take count (drop at (map word_in old)))
+    words =
+        sym (map-map (cleared_word k) word_in (take n (drop at old)))
+        ∙ ap (map (cleared_word k)) (sym (take-map word_in n (drop at old)) ∙ ap (take n) (sym (drop-map word_in at old)) ∙ ap (λ m. take m (drop at (map word_in old))) e)
+
+    rest : map word_in (post_of at n old) ≡ drop (at + count) (map word_in old)
+    rest = ap (map word_in) (drop-drop n at old) ∙ sym (drop-map word_in (at + n) old) ∙ ap (λ m. drop (at + m) (map word_in old)) e
+
+-- rows of a picture fit its texels
+pub rows_fit : (n h w m : ℕ) → n ≤ h → m ≡ w * h → n * w ≤ m
+rows_fit n h w m le e =
+    let product : n * w ≤ h * w = mul-le-mul_right w le in
+    let turned : h * w ≡ w * h = mul_comm h w in
+    omega (arith, product, turned, e)

@@ -1,7 +1,8 @@
 -- The triangles of a draw that count are those that are kept.
-use Rattle.std.proofs.Common.{◌≡◌, ℕ, Bool, true, false, List, [], ◌∷◌, map, Option, Some, None, refl, ap, ◌∙◌}
+use Rattle.std.proofs.Common.{◌≡◌, ℕ, ◌<◌, Bool, true, false, List, [], ◌∷◌, ◌++◌, length, map, Option, Some, None, refl, ap, sym, ◌∙◌, arith}
 use Rattle.std.specs.Prelude.{◌==◌, not, if◌then◌else◌, option_map, option_and_then, filter_map}
 use Rattle.std.specs.List.{cons_option}
+use Rattle.std.proofs.lemmas.List.{append-nil}
 use Rattle.gfx_model.specs.Words.{cull_of, primitive_of}
 use Rattle.gfx_model.specs.Vertex.{Vertex, Triangle, listed_triangles, strip_triangles, triangles_of}
 use Rattle.gfx_model.specs.Raster.{Rect, ScreenVertex, is_kept}
@@ -63,3 +64,20 @@ facings_kept view rect d vs =
     ap (λ (ts : List (Triangle (Option ScreenVertex))). map (facing_shown d.front d.back) (kept_of (cull_of d.state) ts)) (triangles_map (placed_vertex view rect d) (primitive_of d.state) vs)
     ∙ kept_map (facing_shown d.front d.back) (kept (cull_of d.state)) (on_corners (placed_vertex view rect d)) (placed_facing view rect d) (triangles_of (primitive_of d.state) vs)
     (λ t. kept_one d (all_three (placed_vertex view rect d t.a) (placed_vertex view rect d t.b) (placed_vertex view rect d t.c)))
+
+-- fewer than three vertices have no triangle
+pub few_listed : {V : Type 0} (vs : List V) → length vs < 3 → listed_triangles vs ≡ []
+few_listed [] lt = refl
+few_listed (a ∷ []) lt = refl
+few_listed (a ∷ b ∷ []) lt = refl
+few_listed (a ∷ b ∷ c ∷ rest) lt = absurd (omega (arith, lt))
+
+pub few_stripped : {V : Type 0} (odd : Bool) (vs : List V) → length vs < 3 → strip_triangles odd vs ≡ []
+few_stripped odd [] lt = refl
+few_stripped odd (a ∷ []) lt = refl
+few_stripped odd (a ∷ b ∷ []) lt = refl
+few_stripped odd (a ∷ b ∷ c ∷ rest) lt = absurd (omega (arith, lt))
+
+-- nothing is left behind the triangles
+pub all_done : {A : Type 0} (xs ys zs : List A) → ys ≡ [] → xs ++ ys ≡ zs → xs ≡ zs
+all_done xs ys zs e is = sym (append-nil xs) ∙ ap (λ l. xs ++ l) (sym e) ∙ is

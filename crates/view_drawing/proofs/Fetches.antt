@@ -1,6 +1,6 @@
 -- Vertices are found in the rest of the bytes as in all of them.
 use Rattle.std.proofs.Common.{◌≡◌, ℕ, ◌+◌, ◌*◌, ◌-◌, ◌≤◌, ◌<◌, Bool, true, false, cond, List, length, drop, get_or, map, refl, sym, ap, ◌∙◌, arith}
-use Rattle.std.specs.Prelude.{ℤ, pos, Option, Some, None, nat_le, slice_index, option_map}
+use Rattle.std.specs.Prelude.{ℤ, pos, Option, Some, None, nat_le, slice_index, option_map, if◌then◌else◌}
 use Rattle.std.specs.List.{range_with_len}
 use Rattle.std.proofs.lemmas.List.{get_or-drop, length-drop}
 use Rattle.std.specs.Int.{cast_signed, w16, w32}

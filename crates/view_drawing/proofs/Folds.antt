@@ -1,6 +1,6 @@
 -- Items of a list, one after the other.
 use Rattle.std.proofs.Common.{◌≡◌, ℕ, ◌+◌, ◌<◌, List, [], ◌∷◌, ◌++◌, length, get_or, take, map, Option, refl, sym, ap, ◌∙◌}
-use Rattle.std.specs.Prelude.{fold}
+use Rattle.std.specs.Prelude.{fold, Result, Ok, Err, OnErr}
 use Rattle.std.proofs.lemmas.List.{take_more, map-append}
 use Rattle.std.proofs.lemmas.List.Sums.{fold-append}
 use Rattle.gfx_model.specs.Words.{ProgramKind}
@@ -45,3 +45,8 @@ does_draw width height out programs view d old new l m e a s ew eh =
 pub does_touch : (width height : ℕ) (out : Textures) (programs : List (Option ProgramKind)) (view : View) (t : Touch) (old new : Buffers) (l : List PreparedDraw)
     → new ≡ with_values old t.values → DoesTo width height out programs view (touch_item t) old l new l
 does_touch width height out programs view t old new l e s ew eh = λ j. record { buffers = sym e j; surface = fold drawn_prepared s l }
+
+-- what holds, holds where there is an error
+pub on_err_holds : {T E P : Type 0} (r : Result T E) → P → OnErr r P
+on_err_holds (Ok x) p = tt
+on_err_holds (Err e) p = p

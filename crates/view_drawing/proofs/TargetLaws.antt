@@ -1,5 +1,6 @@
 -- A target that is taken out, changed and put back.
-use Rattle.std.proofs.Common.{◌≡◌, ℕ, Option, Some, None, refl, sym, ap, ◌∙◌, none-some}
+use Rattle.std.proofs.Common.{◌≡◌, ℕ, Option, Some, None, refl, sym, ap, ◌∙◌}
+use Rattle.std.proofs.lemmas.Option.{none-some}
 use Rattle.std.specs.Prelude.{option_map, option_and_then}
 use Rattle.gfx_model.specs.Raster.{Texels}
 use Rattle.gfx_model.specs.World as world
@@ -27,7 +28,7 @@ pub put_changed : (h new : Textures) (i : ℕ) (p : Texels × Option Texels) (ch
 put_changed h new i p change s some same is = go (at h.targets i) refl
   where
     go : (o : Option TargetSlot) → at h.targets i ≡ o → new ≡ on_target_in h i change
-    go None e = absurd (none-some (sym (ap (option_and_then (λ (t : TargetSlot). attached_texels h.textures t.color t.depth)) e) ∙ some))
+    go None e = absurd (none-some p (sym (ap (option_and_then (λ (t : TargetSlot). attached_texels h.textures t.color t.depth)) e) ∙ some))
     go (Some t) e =
         is
         ∙ (λ j. back_for (at (out_for (some j) (e j) h).targets i) s.color s.depth (out_for (some j) (e j) h))

@@ -6,6 +6,7 @@ ghost use Rattle.texture_store.specs.Seen.{sides_seen};
 ghost use Rattle.store_laws.specs.Listed.{drawn_in, listed, values_after};
 ghost use Rattle.render_stores.specs.Seen.{stores_seen};
 ghost use Rattle.view_drawing.specs.Recorded.{recorded_seen};
+ghost use Rattle.view_drawing.specs.Entered.{AreSomeGiven, HaveGiven};
 
 use crate::items::{Recorded, do_items, give_values};
 use crate::preparing::Stage;
@@ -16,6 +17,7 @@ use int_raster::{DrawList, Surface, draw_view};
 use render_stores::RenderStores;
 use std::alloc::AllocError;
 use std::thread::Threads;
+use store_model::put_back_law;
 use view_table::View;
 
 /// Makes the draws of items on a surface of the stage's sides, and gives their values. Where memory is wanting, nothing
@@ -31,7 +33,7 @@ fn draw_surface<R: Threads + Sync>(
     requires wide { stage.now.width ≡ surface.old.color.width }
     requires high { stage.now.height ≡ surface.old.color.height }
     ensures drawn { OnOk result (fold (drawn_in stage.now.textures.now stage.now.programs.now (view_seen stage.now.view.now)) (record { buffers = buffers.old; surface = surface_seen surface.old }) (map recorded_seen items.now) ≡ record { buffers = buffers.new; surface = surface_seen surface.new }) }
-    ensures kept { OnErr result (surface.new ≡ surface.old) }
+    ensures begun { OnErr result ((surface.new ≡ surface.old) × AreSomeGiven (map recorded_seen items.now) buffers.old buffers.new) }
     ensures color { sides_seen surface.new.color ≡ sides_seen surface.old.color }
     ensures depth { option_map sides_seen surface.new.depth ≡ option_map sides_seen surface.old.depth }
 {
@@ -61,8 +63,11 @@ fn draw_target<R: Threads + Sync>(
     room: &mut DrawingRoom,
 ) -> Result<(), AllocError>
     requires { view.now.target ≡ Some target }
-    ensures { OnOk result (stores_seen stores.new ≡ listed (view_seen view.now) (stores_seen stores.old) (map recorded_seen items.now)) }
+    ensures drawn { OnOk result (stores_seen stores.new ≡ listed (view_seen view.now) (stores_seen stores.old) (map recorded_seen items.now)) }
+    ensures begun { OnErr result (HaveGiven (map recorded_seen items.now) (stores_seen stores.old) (stores_seen stores.new)) }
 {
+    stores.textures.tell_facts();
+    put_back_law();
     match stores.textures.take_target(target.index()) {
         None => {
             give_all(&mut stores.buffers, items);
@@ -95,7 +100,8 @@ fn draw_back<R: Threads + Sync>(
     room: &mut DrawingRoom,
 ) -> Result<(), AllocError>
     requires { view.now.target ≡ None }
-    ensures { OnOk result (stores_seen stores.new ≡ listed (view_seen view.now) (stores_seen stores.old) (map recorded_seen items.now)) }
+    ensures drawn { OnOk result (stores_seen stores.new ≡ listed (view_seen view.now) (stores_seen stores.old) (map recorded_seen items.now)) }
+    ensures begun { OnErr result (HaveGiven (map recorded_seen items.now) (stores_seen stores.old) (stores_seen stores.new)) }
 {
     let stage = Stage {
         textures: &stores.textures,
@@ -123,7 +129,8 @@ pub(crate) fn draw_listed<R: Threads + Sync>(
     items: &[Recorded<'_>],
     room: &mut DrawingRoom,
 ) -> Result<(), AllocError>
-    ensures { OnOk result (stores_seen stores.new ≡ listed (view_seen view.now) (stores_seen stores.old) (map recorded_seen items.now)) }
+    ensures drawn { OnOk result (stores_seen stores.new ≡ listed (view_seen view.now) (stores_seen stores.old) (map recorded_seen items.now)) }
+    ensures begun { OnErr result (HaveGiven (map recorded_seen items.now) (stores_seen stores.old) (stores_seen stores.new)) }
 {
     match view.target {
         Some(target) => draw_target(rt, stores, target, view, items, room),

@@ -1,10 +1,11 @@
 // What the draws and touches of a view do while its target is taken out.
-ghost use Rattle.std.specs.Prelude.{◌≡◌, map, OnOk};
+ghost use Rattle.std.specs.Prelude.{◌≡◌, map, OnOk, OnErr};
 ghost use Rattle.view_table.specs.Seen.{view_seen};
 ghost use Rattle.draw_encoder.specs.Seen.{item_seen};
 ghost use Rattle.store_laws.specs.Listed.{values_after};
 ghost use Rattle.view_drawing.specs.Prepared.{DoesTo, DoAllTo};
 ghost use Rattle.view_drawing.specs.Recorded.{recorded_seen};
+ghost use Rattle.view_drawing.specs.Entered.{AreSomeGiven};
 
 use crate::preparing::{Stage, add_draw};
 use crate::room::DrawingRoom;
@@ -23,7 +24,8 @@ pub(crate) fn do_item<'x>(
     list: &mut DrawList<'x>,
     room: &mut DrawingRoom,
 ) -> Result<(), AllocError>
-    ensures { OnOk result (DoesTo stage.now.width stage.now.height stage.now.textures.now stage.now.programs.now (view_seen stage.now.view.now) (item_seen recording.now.bytes recording.now.uniforms item.now) buffers.old list.old buffers.new list.new) }
+    ensures done { OnOk result (DoesTo stage.now.width stage.now.height stage.now.textures.now stage.now.programs.now (view_seen stage.now.view.now) (item_seen recording.now.bytes recording.now.uniforms item.now) buffers.old list.old buffers.new list.new) }
+    ensures given { buffers.new ≡ values_after buffers.old (item_seen recording.now.bytes recording.now.uniforms item.now) }
 {
     let sets = recording.uniforms.as_slice();
     match item {
@@ -59,7 +61,7 @@ pub struct Recorded<'x> {
     pub item: &'x Item,
 }
 
-/// Does the draws and touches of a view in order.
+/// Does the draws and touches of a view in order. Where memory is wanting, some of the first items have given their values.
 pub(crate) fn do_items<'x>(
     stage: &Stage<'x>,
     buffers: &mut BufferStore,
@@ -67,7 +69,8 @@ pub(crate) fn do_items<'x>(
     list: &mut DrawList<'x>,
     room: &mut DrawingRoom,
 ) -> Result<(), AllocError>
-    ensures { OnOk result (DoAllTo stage.now.width stage.now.height stage.now.textures.now stage.now.programs.now (view_seen stage.now.view.now) (map recorded_seen items.now) buffers.old list.old buffers.new list.new) }
+    ensures done { OnOk result (DoAllTo stage.now.width stage.now.height stage.now.textures.now stage.now.programs.now (view_seen stage.now.view.now) (map recorded_seen items.now) buffers.old list.old buffers.new list.new) }
+    ensures given { OnErr result (AreSomeGiven (map recorded_seen items.now) buffers.old buffers.new) }
 {
     for recorded in items {
         do_item(

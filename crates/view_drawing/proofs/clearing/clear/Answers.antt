@@ -7,8 +7,17 @@ use Rattle.int_raster.proofs.Wholes.{refill}
 use Rattle.texture_store.proofs.BlockLaws.{length-map_from}
 use Rattle.view_table.specs.Seen.{clear_seen}
 use Rattle.view_drawing.specs.Cleared.{in_rect, cleared_color}
-use Rattle.view_drawing.proofs.Clears.{clear_step, flat_cleared, deep_cleared, flat_surface, deep_surface, SamePixels}
+use Rattle.view_drawing.proofs.Clears.{clear_step, flat_cleared, deep_cleared, flat_surface, deep_surface, SamePixels, rows_fit}
 use Rattle.view_drawing.proofs.clearing.clear.Goals as goal
+
+pub clear_depth_rows-requires-clause-below : goal.clear_depth_rows-requires-clause-below
+clear_depth_rows-requires-clause-below c =
+    let s = c.args.surface.now in
+    let d = c.in-Some.depth in
+    let sizes = s.one_size d c.in-Some.is in
+    let lent : c.as_mut_slice-depths.result.now ≡ c.in-Some.depth.texels = c.as_mut_slice-depths.ensures.value in
+    rows_fit (c.cut_to-cut.result.y + c.cut_to-cut.result.h) s.color.height s.color.width (length c.as_mut_slice-depths.result.now) c.cut_to-cut.ensures.below
+    (ap length lent ∙ d.whole ∙ (λ i. sizes.0 i * sizes.1 i))
 
 pub returns-in-None : goal.returns-in-None
 returns-in-None c =

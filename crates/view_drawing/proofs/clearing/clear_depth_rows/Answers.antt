@@ -9,8 +9,8 @@ use Rattle.view_drawing.proofs.clearing.clear_depth_rows.Goals as goal
 pub loop-r-init : goal.loop-r-init
 loop-r-init c = sym (no_rows c.args.width c.args.cut.now.x c.args.cut.now.y c.args.cut.now.w (cleared_word (clear_seen c.args.clear.now)) 0 (map word_in c.args.depths.now))
 
-pub clear_depth_row-requires-inside : goal.clear_depth_row-requires-inside
-clear_depth_row-requires-inside c =
+pub clear_depth_row-requires : goal.clear_depth_row-requires
+clear_depth_row-requires c =
     let room = row_fits (c.args.cut.now.y + c.loop-r.r) (c.args.cut.now.y + c.args.cut.now.h) c.args.width c.args.cut.now.x c.args.cut.now.w (length c.args.depths.now) c.place-at.result (omega (arith, c.loop-r-test.true)) c.requires.right c.place-at.ensures c.requires.below in
     omega (arith, room, c.loop-r.auto.depths)
 

@@ -16,8 +16,8 @@ use Rattle.view_drawing.proofs.Facings.{facings_kept}
 use Rattle.view_drawing.proofs.CutLaws.{prepared_drawn, list_width, list_height, draw_added}
 use Rattle.view_drawing.proofs.preparing.add_painted.Goals as goal
 
-pub returns-in_ok-push : goal.returns-in_ok-push
-returns-in_ok-push c sets s ew eh =
+pub returns : goal.returns
+returns c sets s ew eh =
     let view = view_seen c.args.stage.now.view.now in
     let width = c.args.stage.now.width in
     let height = c.args.stage.now.height in
@@ -33,8 +33,8 @@ returns-in_ok-push c sets s ew eh =
     let facings = map (facing_shown d.front d.back) triangles in
     let paint = paint_seen c.args.paint in
     prepared_drawn view cut d vertices indices paint facings width height (fold drawn_prepared s old) (list_width s old ∙ ew) (list_height s old ∙ eh)
-    (λ x y. c.cut_by_both.ensures x y ∙ (λ i. contains (c.view_rect.ensures i) x y && passes_scissor view.scissor x y && passes_scissor d.scissor x y))
+    (λ x y. c.cut_by_both.ensures x y ∙ (λ i. contains (c.view_rect-rect.ensures i) x y && passes_scissor view.scissor x y && passes_scissor d.scissor x y))
     (ap (map (facing_shown d.front d.back)) c.in_ok-shape_draw.ensures
-    ∙ (λ i. map (facing_shown d.front d.back) (kept_of (cull_of d.state) (triangles_of (primitive_of d.state) (map (option_and_then (place d.model view.transform (c.view_rect.ensures i))) vs))))
+    ∙ (λ i. map (facing_shown d.front d.back) (kept_of (cull_of d.state) (triangles_of (primitive_of d.state) (map (option_and_then (place d.model view.transform (c.view_rect-rect.ensures i))) vs))))
     ∙ facings_kept view rect d vs)
     ∙ draw_added s old new (record { cut = cut; state = d.state; paint = paint; facings = facings }) (rw c.deref.ensures.value at c.in_ok-push.ensures.ok)
