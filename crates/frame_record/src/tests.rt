@@ -96,7 +96,7 @@ struct Words {
     stencil: StencilWord,
 }
 
-fn words() -> Option<Words> {
+fn plain_words() -> Option<Words> {
     Some(Words {
         state: StateWord::read(15).ok()?,
         stencil: StencilWord::read(0).ok()?,
@@ -200,7 +200,7 @@ fn some_views(alloc: Global) -> Result<ViewTable, Fail> {
 #[test]
 fn items_by_view_depth_and_journal(rt: HostRuntime) -> Result<(), Fail> {
     let alloc = rt.alloc();
-    let words = words().ok_or("words")?;
+    let words = plain_words().ok_or("words")?;
     let program = Handle::of(Kind::Program, 3, 1, Info::Plain);
     let stray = Handle::of(Kind::Uniform, 3, 2, Info::Plain);
     let first = two(

@@ -13,16 +13,27 @@ use std::thread;
 use std::thread::{Promise, Threads};
 use view_table::ViewTable;
 
-// A frame of a number, with one payload and nothing to draw.
-fn frame(rt: &HostRuntime, number: u32) -> Result<Frame, Fail> {
+// What came back: the frame's number, its payload's first byte, and the outcome of its render.
+type Came = (u32, Option<u8>, Outcome);
+
+fn seen(back: &RenderedFrame) -> Came {
+    let payload = match back.frame.payloads.as_slice().first() {
+        Some(bytes) => bytes.as_slice().first().copied(),
+        None => None,
+    };
+    (back.frame.number, payload, back.outcome)
+}
+
+// A frame of a number, with one payload of that number and nothing to draw.
+fn frame(rt: &HostRuntime, number: u8) -> Result<Frame, Fail> {
     let alloc = rt.alloc();
     let views = ViewTable::new(alloc, 256)?;
     let pre = CmdBuffer::new(alloc).finish()?;
     let post = CmdBuffer::new(alloc).finish()?;
     let mut payloads = Vec::new(alloc);
-    payloads.push(Vec::from_elem(alloc, 9u8, 3)?)?;
+    payloads.push(Vec::from_elem(alloc, number, 3)?)?;
     Ok(Frame::new(
-        number,
+        u32::from(number),
         views,
         pre,
         post,
@@ -32,7 +43,7 @@ fn frame(rt: &HostRuntime, number: u32) -> Result<Frame, Fail> {
     ))
 }
 
-// Renders each frame until the stop.
+// Gives each frame back until the stop, the one of number 3 as shown, and the others as skipped.
 fn serve<R: Wait>(rt: &R, mut end: RenderEnd) -> RenderEnd
     requires { ((render_knows end).taken ≡ []) × ((render_knows end).returned ≡ []) }
     ensures { (render_table result ≡ render_table end) × ((render_knows result).taken ≡ frames_of (render_knows result).returned) }
@@ -41,10 +52,12 @@ fn serve<R: Wait>(rt: &R, mut end: RenderEnd) -> RenderEnd
         let Some(frame) = end.take(rt) else {
             break;
         };
-        end.give_back(RenderedFrame {
-            frame,
-            outcome: Outcome::Shown,
-        });
+        let outcome = if frame.number == 3 {
+            Outcome::Shown
+        } else {
+            Outcome::Skipped
+        };
+        end.give_back(RenderedFrame { frame, outcome });
     }
     end
 }
@@ -61,14 +74,14 @@ impl Promise<RenderEnd> for Served {
     ghost kept_by = { λ p r. (render_table r ≡ render_table p.0.value) × ((render_knows r).taken ≡ frames_of (render_knows r).returned) };
 }
 
-// Two frames by way of a render thread; their numbers, as they came back.
+// Two frames by way of a render thread, as they came back.
 fn by_a_thread<R: Threads + Wait + Sync>(
     rt: &R,
     mut api: ApiEnd,
     end: RenderEnd,
     first: Frame,
     second: Frame,
-) -> Option<(u32, u32)>
+) -> Option<(Came, Came)>
     requires api { ((api_knows api).given ≡ []) × ((api_knows api).back ≡ []) × (1 ≤ api.latency) × (render_table end ≡ api_table api) }
     requires end { ((render_knows end).taken ≡ []) × ((render_knows end).returned ≡ []) }
 {
@@ -93,7 +106,7 @@ fn by_a_thread<R: Threads + Wait + Sync>(
                     api.stop();
                     let end = handle.join(rt);
                     api.close(end);
-                    Some((one.frame.number, two.frame.number))
+                    Some((seen(&one), seen(&two)))
                 }
                 Err(_) => None,
             }
@@ -105,10 +118,11 @@ fn by_a_thread<R: Threads + Wait + Sync>(
 fn a_thread_renders_at_each_latency(rt: HostRuntime) -> Result<(), Fail> {
     for latency in 1..4 {
         let (api, end) = swap_pair(rt.alloc(), latency)?;
-        let numbers = by_a_thread(&rt, api, end, frame(&rt, 3)?, frame(&rt, 4)?).ok_or(
+        let came = by_a_thread(&rt, api, end, frame(&rt, 3)?, frame(&rt, 4)?).ok_or(
             "no thread",
         )?;
-        assert!(rt; numbers == (3, 4));
+        assert!(rt; came.0 == (3, Some(3), Outcome::Shown));
+        assert!(rt; came.1 == (4, Some(4), Outcome::Skipped));
     }
     Ok(())
 }
@@ -126,8 +140,8 @@ fn pass<R: Wait>(rt: &R, end: &mut RenderEnd, outcome: Outcome) -> bool
     true
 }
 
-// With two frames out, the oldest comes back and the next is given: its number and its outcome.
-fn turn<R: Threads + Wait + Sync>(rt: &R, api: &mut ApiEnd, next: Frame) -> (u32, Outcome)
+// With two frames out, the oldest comes back and the next is given.
+fn turn<R: Threads + Wait + Sync>(rt: &R, api: &mut ApiEnd, next: Frame) -> Came
     requires out { length (api_knows api.old).given ≡ length (api_knows api.old).back + 2 }
     requires latency { 3 ≤ api.old.latency }
     ensures table { (api_table api.new ≡ api_table api.old) × (api.new.latency ≡ api.old.latency) }
@@ -135,7 +149,7 @@ fn turn<R: Threads + Wait + Sync>(rt: &R, api: &mut ApiEnd, next: Frame) -> (u32
 {
     let back = api.take_back(rt);
     api.give(rt, next);
-    (back.frame.number, back.outcome)
+    seen(&back)
 }
 
 #[test]
@@ -155,11 +169,11 @@ fn two_frames_out_of_three(rt: HostRuntime) -> Result<(), Fail> {
     assert!(rt; pass(&rt, &mut end, Outcome::Skipped));
     let fourth = api.take_back(&rt);
     let fifth = api.take_back(&rt);
-    assert!(rt; first == (3, Outcome::Shown));
-    assert!(rt; second == (4, Outcome::PictureFault));
-    assert!(rt; third == (5, Outcome::Skipped));
-    assert!(rt; (fourth.frame.number, fourth.outcome) == (6, Outcome::OutOfMemory));
-    assert!(rt; (fifth.frame.number, fifth.outcome) == (7, Outcome::Skipped));
+    assert!(rt; first == (3, Some(3), Outcome::Shown));
+    assert!(rt; second == (4, Some(4), Outcome::PictureFault));
+    assert!(rt; third == (5, Some(5), Outcome::Skipped));
+    assert!(rt; seen(&fourth) == (6, Some(6), Outcome::OutOfMemory));
+    assert!(rt; seen(&fifth) == (7, Some(7), Outcome::Skipped));
     api.stop();
     assert!(rt; end.take(&rt).is_none());
     Ok(())
