@@ -2,7 +2,6 @@
 #![tactic(auto)]
 
 mod book;
-mod calls;
 mod creates;
 mod deaths;
 mod desk;
@@ -19,10 +18,9 @@ mod tests;
 mod textures;
 mod updates;
 
-ghost use Rattle.resource_book.specs.Laws.{WrittenLaw};
+ghost use Rattle.resource_book.specs.Laws.{PlaceLaw, WrittenLaw};
 
 pub use book::Book;
-pub use calls::ResourceCalls;
 pub use frames::Work;
 pub use opening::Start;
 pub use rows::{Fact, Row};
@@ -30,4 +28,9 @@ pub use rows::{Fact, Row};
 /// What the book knows after an accepted call is what the calls of the frame wrote, without contents.
 pub fn written_law()
     ensures { WrittenLaw }
+{}
+
+/// What a call makes in a lawful state has a free place in the world that the state stands for.
+pub fn place_law()
+    ensures { PlaceLaw }
 {}
