@@ -4,7 +4,7 @@
 //! The laws are functions without parameters: each has an empty body, and its contract is the law.
 #![tactic(auto)]
 
-ghost use Rattle.call_laws.specs.Laws.{CallLaw, FrameSaysLaw, RunLaw};
+ghost use Rattle.call_laws.specs.Laws.{CallLaw, FrameSaysLaw, NextLaw, RunLaw};
 
 /// What is written in a frame says the changes and deaths of the state of the calls. Each accepted call keeps that:
 /// it writes a command for each change, with the payload's place, and a destroy for each death.
@@ -16,6 +16,12 @@ pub fn call_law()
 /// views whose targets are such things, says what the definition's frame has.
 pub fn frame_says_law()
     ensures { FrameSaysLaw }
+{}
+
+/// Where what was written says a frame, the next frame begins with nothing written, which says the world behind the
+/// frame without what died in it.
+pub fn next_law()
+    ensures { NextLaw }
 {}
 
 /// From accepted calls to pictures: the frames of a context, rendered by index in order from empty stores, have

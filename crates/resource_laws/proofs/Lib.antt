@@ -9,3 +9,4 @@ pub mod StartLaws
 pub mod CallLaws
 pub mod RunLaws
 pub mod DestroyOrder
+pub mod FreeLaws

@@ -1,8 +1,8 @@
 -- Laws of the state of the calls.
-use Rattle.std.specs.Prelude.{◌≡◌, ℕ, ◌+◌, ◌≤◌, true, nat_lt, length, if◌then◌else◌, List, [], ◌∷◌, ◌++◌, map, filter, Some, None}
+use Rattle.std.specs.Prelude.{◌≡◌, ℕ, ◌+◌, ◌<◌, ◌≤◌, true, nat_lt, length, if◌then◌else◌, List, [], ◌∷◌, ◌++◌, map, filter, Some, None, MatchOption}
 use Rattle.std.specs.List.{find}
-use Rattle.gfx_model.specs.Words.{Kind, all_kinds, Handle, is_kind}
-use Rattle.gfx_model.specs.Resources.{Thing, Resources, ResourceCall, destroy, Effect, effect, refusal_of, opening, start_frame, is_at, is_live_handle, references_of, book_of, greatest_serial}
+use Rattle.gfx_model.specs.Words.{Kind, all_kinds, greatest, Handle, is_kind}
+use Rattle.gfx_model.specs.Resources.{Thing, Resources, ResourceCall, create_uniform, destroy, named_uniform, Effect, effect, refusal_of, opening, start_frame, is_at, is_live_handle, references_of, book_of, greatest_serial}
 use Rattle.resource_laws.specs.Bare.{bare_of}
 use Rattle.resource_laws.specs.Lawful.{IsLawful}
 
@@ -52,6 +52,21 @@ ReachedLaw = (r : Resources) → IsReached r → IsLawful r × IsLawful (bare_of
 abbrev pub LiveLaw : Type 0
 LiveLaw = (r : Resources) (h : Handle) → IsLawful r → is_live_handle r h ≡ true
     → (t : Thing) × (find (is_at h.kind h.index) r.things ≡ Some t) × (t.handle.serial ≡ h.serial) × (t.death ≡ None)
+
+-- ---- where a lawful state puts what is made
+
+-- the handle's index is one of its kind, and no thing stands at its place
+abbrev pub IsFree : Resources → Handle → Type 0
+IsFree r h = (h.index < greatest h.kind) × (find (is_at h.kind h.index) r.things ≡ None)
+
+-- a call gives a handle of a free place; or, for a name that a live uniform has, that uniform's handle
+abbrev pub Gives : Resources → ResourceCall → Handle → Type 0
+Gives r (create_uniform name k) h = MatchOption (named_uniform r name) (IsFree r h) (λ t. h ≡ t.handle)
+Gives r c h = IsFree r h
+
+-- what an accepted call gives stands at a free place
+abbrev pub FreeLaw : Type 0
+FreeLaw = (r : Resources) (c : ResourceCall) (h : Handle) → IsLawful r → refusal_of r c ≡ None → (effect r c).made ≡ Some h → Gives r c h
 
 -- ---- the order of destroys
 

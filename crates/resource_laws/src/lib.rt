@@ -3,7 +3,7 @@
 //! The laws are functions without parameters: each has an empty body, and its contract is the law.
 #![tactic(auto)]
 
-ghost use Rattle.resource_laws.specs.Laws.{BareLaw, BareStartLaw, OpeningLaw, CallLaw, StartLaw, ReachedLaw, LiveLaw, DestroyOrderLaw};
+ghost use Rattle.resource_laws.specs.Laws.{BareLaw, BareStartLaw, OpeningLaw, CallLaw, StartLaw, ReachedLaw, LiveLaw, FreeLaw, DestroyOrderLaw};
 
 /// Contents are not read: with each thing's bytes, texels and value left out a call is refused for the same, and
 /// else does the same but for contents. So a context needs no contents.
@@ -40,6 +40,11 @@ pub fn reached_law()
 /// Where a handle is accepted as live, the thing at its place has its serial and lives.
 pub fn live_law()
     ensures { LiveLaw }
+{}
+
+/// A call gives a handle of a place where nothing stands; or, for a name that a live uniform has, that uniform's handle.
+pub fn free_law()
+    ensures { FreeLaw }
 {}
 
 /// Calls add to the waiting indices of a kind those of its things that died, in the order of the calls.
