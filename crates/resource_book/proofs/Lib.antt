@@ -18,3 +18,9 @@ pub mod Starts
 pub mod Numbered
 pub mod TargetCalls
 pub mod WrittenLaws
+pub mod Apartness
+pub mod Holders
+pub mod Named
+pub mod Overs
+pub mod PlaceLaws
+pub mod GivesLaws

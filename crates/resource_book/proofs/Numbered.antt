@@ -1,14 +1,14 @@
 -- The numbers of things by their places, found one after the other.
-use Rattle.std.proofs.Common.{◌≡◌, ℕ, zero, suc, ◌+◌, ◌<◌, ◌≤◌, ◌==◌, Bool, true, false, ◌&&◌, if◌then◌else◌, List, [], ◌∷◌, ◌++◌, map, take, drop, length, replicate, Option, Some, None, refl, sym, ap, ◌∙◌, subst, arith, slice_index_or, slice_set, eq-eqb}
-use Rattle.std.specs.List.{AllByRecursion, find}
+use Rattle.std.proofs.Common.{◌≡◌, ℕ, zero, suc, ◌+◌, ◌<◌, ◌≤◌, Bool, true, ◌&&◌, if◌then◌else◌, List, [], ◌∷◌, ◌++◌, take, length, replicate, Option, Some, None, refl, sym, ap, ◌∙◌, subst, arith, slice_index_or, slice_set, eq-eqb}
+use Rattle.std.specs.List.{AllByRecursion}
 use Rattle.std.proofs.lemmas.List.{take_more, length-take-le, length-replicate, get_or-replicate}
-use Rattle.gfx_model.specs.Words.{Kind, kind_number, greatest, first_place, place_of_handle}
+use Rattle.gfx_model.specs.Words.{kind_number, greatest, first_place, place_of_handle}
 use Rattle.gfx_model.proofs.Apart.{place_below}
 use Rattle.gfx_model.specs.Resources.{Thing, is_at}
 use Rattle.resource_laws.specs.Lawful.{count_where}
 use Rattle.resource_book.specs.declared.rows.Row.{Row}
 use Rattle.resource_book.specs.Seen.{row_seen, rows_seen}
-use Rattle.resource_book.specs.Tables.{IsPlaced, StandApart, number_of}
+use Rattle.resource_book.specs.Tables.{IsPlaced, StandApart}
 use Rattle.resource_book.proofs.Rooms.{none_counted}
 use Rattle.resource_book.proofs.TableLaws.{placed_row}
 

@@ -145,7 +145,7 @@ true_case : (p : Thing → Bool) (x : Thing) (xs : List Thing) (t : Thing) (b : 
 true_case p x xs t true e f h = ap p (sym (same_Some x t h)) ∙ e
 true_case p x xs t false e f h = f h
 
-found_true : (p : Thing → Bool) (ts : List Thing) (t : Thing) → find p ts ≡ Some t → p t ≡ true
+pub found_true : (p : Thing → Bool) (ts : List Thing) (t : Thing) → find p ts ≡ Some t → p t ≡ true
 found_true p [] t h = absurd (none-some t h)
 found_true p (x ∷ xs) t h = true_case p x xs t (p x) refl (found_true p xs t) h
 

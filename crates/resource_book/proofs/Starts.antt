@@ -1,5 +1,5 @@
 -- The start of a frame: indices that go back on their stacks, things that are kept, and targets that live.
-use Rattle.std.proofs.Common.{◌≡◌, ℕ, zero, suc, ◌+◌, ◌<◌, ◌≤◌, Bool, true, false, ◌&&◌, if◌then◌else◌, List, [], ◌∷◌, map, filter, length, Option, Some, None, refl, sym, ap, ◌∙◌, subst, arith, slice_index_or}
+use Rattle.std.proofs.Common.{◌≡◌, ℕ, zero, suc, ◌<◌, ◌≤◌, Bool, true, false, ◌&&◌, if◌then◌else◌, List, [], ◌∷◌, map, filter, length, Option, Some, None, refl, sym, ap, subst, arith, slice_index_or}
 use Rattle.std.specs.List.{AllByRecursion}
 use Rattle.gfx_model.specs.Words.{Handle, Kind, layout_kind, vertex_buffer_kind, index_buffer_kind, texture_kind, frame_buffer_kind, program_kind, uniform_kind, kind_number, greatest}
 use Rattle.gfx_model.specs.Views.{View, Views}
@@ -28,7 +28,7 @@ dead_few : (k : Kind) (i : ℕ) (ts : List Thing) → count_where (dies_at k i a
 dead_few k i [] = omega arith
 dead_few k i (t ∷ ts) = let a = and_few (is_at k i t) (dies any t.death) in let b = dead_few k i ts in omega (arith, a, b)
 
-by_kind : (Q : ℕ → Type 0) → ((k : Kind) → Q (kind_number k)) → (i : ℕ) → i < 7 → Q i
+pub by_kind : (Q : ℕ → Type 0) → ((k : Kind) → Q (kind_number k)) → (i : ℕ) → i < 7 → Q i
 by_kind Q h zero lt = h layout_kind
 by_kind Q h (suc zero) lt = h vertex_buffer_kind
 by_kind Q h (suc (suc zero)) lt = h index_buffer_kind
@@ -84,7 +84,7 @@ fits_step : (P : Thing → Type 0) (p : Thing → Bool) (t : Thing) (ts : List T
 fits_step P p t ts true h a = (h, a)
 fits_step P p t ts false h a = a
 
-all_kept : (P : Thing → Type 0) (p : Thing → Bool) (ts : List Thing) → AllByRecursion P ts → AllByRecursion P (filter p ts)
+pub all_kept : (P : Thing → Type 0) (p : Thing → Bool) (ts : List Thing) → AllByRecursion P ts → AllByRecursion P (filter p ts)
 all_kept P p [] a = tt
 all_kept P p (t ∷ ts) a = fits_step P p t ts (p t) a.0 (all_kept P p ts a.1)
 

@@ -1,6 +1,6 @@
 -- Rows as the things that they are.
-use Rattle.std.proofs.Common.{◌≡◌, ℕ, ◌<◌, List, [], ◌∷◌, ◌++◌, length, map, take, ◌+◌, ◌*◌, ◌≤◌, refl, sym, ap, ◌∙◌, subst, arith, slice_index_or, slice_set, Option, Some, None}
-use Rattle.std.proofs.lemmas.List.{get_or-map, map-set, map-append, length-map, length-set, length-append, take_more}
+use Rattle.std.proofs.Common.{◌≡◌, ℕ, ◌<◌, List, [], ◌∷◌, ◌++◌, length, map, take, ◌+◌, ◌≤◌, refl, sym, ap, ◌∙◌, subst, arith, slice_index_or, slice_set, Option, Some, None}
+use Rattle.std.proofs.lemmas.List.{get_or-map, map-set, map-append, length-map, length-set, take_more}
 use Rattle.std.proofs.lemmas.List.Sums.{sum_by_push, sum_by-set}
 use Rattle.std.specs.List.{find}
 use Rattle.gfx_model.specs.Words.{greatest, place_of_handle}
@@ -8,9 +8,12 @@ use Rattle.gfx_model.specs.Resources.{Thing, is_at, texel_count}
 use Rattle.resource_laws.specs.Bare.{bare}
 use Rattle.resource_book.specs.declared.rows.Row.{Row}
 use Rattle.resource_book.specs.Seen.{row_seen, rows_seen}
-use Rattle.resource_book.specs.Tables.{IsPlaced, IsTable, texels_of, place_count}
+use Rattle.resource_book.specs.Tables.{IsPlaced, IsTable, StandApart, IsOfKind, texels_of, place_count}
 use Rattle.resource_book.proofs.BareLaws.{rows_bare}
 use Rattle.resource_book.proofs.Numbers.{placed_changed, placed_more}
+use Rattle.resource_book.proofs.Apartness.{all_set, all_here, apart_set, apart_more, kind_kept}
+use Rattle.resource_laws.proofs.AttachLaws.{all_snoc}
+use Rattle.std.specs.List.{AllByRecursion}
 
 pub within : (rows : List Row) (ts : List Thing) (n : ℕ) → rows_seen rows ≡ ts → n < length ts → n < length rows
 within rows ts n e lt = omega (arith, lt, ap length e, length-map rows row_seen)
@@ -58,6 +61,15 @@ pub table_rows : (f : Thing → Thing) (places : List (Option ℕ)) (texels : �
     → row_seen new ≡ f (row_seen r) → IsTable places texels (rows_seen (slice_set rows n new))
 table_rows f places texels rows n r new keeps same h lt is e = record {
   placed = placed_rows f places rows n r new keeps h.placed lt is e;
+  apart = subst StandApart (sym (map-set row_seen rows n new))
+      (apart_set (rows_seen rows) n (row_seen new) (row_seen r) (omega (arith, lt, length-map rows row_seen))
+      (ap (λ (t : Thing). t.handle) e ∙ keeps (row_seen r) ∙ ap (λ (t : Thing). t.handle) (sym (thing_at rows (rows_seen rows) n r (row_seen r) refl (omega (arith, lt, length-map rows row_seen)) is)))
+      h.apart);
+  kinds =
+      let at = thing_at rows (rows_seen rows) n r (row_seen r) refl (omega (arith, lt, length-map rows row_seen)) is in
+      let old : IsOfKind (row_seen r) = subst IsOfKind at (all_here IsOfKind (rows_seen rows) n (row_seen r) (omega (arith, lt, length-map rows row_seen)) h.kinds) in
+      subst (AllByRecursion IsOfKind) (sym (map-set row_seen rows n new))
+      (all_set IsOfKind (rows_seen rows) n (row_seen new) h.kinds (kind_kept (row_seen new) (row_seen r) (ap (λ (t : Thing). t.handle) e ∙ keeps (row_seen r)) (ap (λ (t : Thing). t.content) e ∙ same (row_seen r)) old));
   sum =
       let lt' : n < length (rows_seen rows) = omega (arith, lt, length-map rows row_seen) in
       let s = sum_by-set (λ (t : Thing). texel_count t.content) (rows_seen rows) n (row_seen new) (row_seen r) lt' in
@@ -70,3 +82,14 @@ table_rows f places texels rows n r new keeps same h lt is e = record {
 
 pub sum_next : (rows : List Row) (i : ℕ) (r : Row) → i < length rows → r ≡ slice_index_or rows i r → texels_of (rows_seen (take i rows)) + texel_count (row_seen r).content ≡ texels_of (rows_seen (take (i + 1) rows))
 sum_next rows i r lt is = sum_more (texels_of (rows_seen (take i rows))) (take i rows) r (take (i + 1) rows) refl (take_more rows i r lt ∙ (λ j. take i rows ++ sym is j ∷ []))
+
+-- ---- a row more
+
+pub rows_more : (rows new : List Row) (r : Row) → new ≡ rows ++ r ∷ [] → rows_seen rows ++ row_seen r ∷ [] ≡ rows_seen new
+rows_more rows new r made = sym (ap rows_seen made ∙ map-append row_seen rows (r ∷ []))
+
+pub apart_row : (rows new : List Row) (ts : List Thing) (r : Row) → rows_seen rows ≡ ts → StandApart (rows_seen rows) → r.handle.index < greatest r.handle.kind → find (is_at r.handle.kind r.handle.index) ts ≡ None → new ≡ rows ++ r ∷ [] → StandApart (rows_seen new)
+apart_row rows new ts r e apart below none made = subst StandApart (rows_more rows new r made) (apart_more (rows_seen rows) (row_seen r) below (ap (find (is_at r.handle.kind r.handle.index)) e ∙ none) apart)
+
+pub kinds_row : (rows new : List Row) (r : Row) → AllByRecursion IsOfKind (rows_seen rows) → IsOfKind (row_seen r) → new ≡ rows ++ r ∷ [] → AllByRecursion IsOfKind (rows_seen new)
+kinds_row rows new r kinds kind made = subst (AllByRecursion IsOfKind) (rows_more rows new r made) (all_snoc IsOfKind (rows_seen rows) (row_seen r) kinds kind)

@@ -1,5 +1,5 @@
 -- How a view's target is refused.
-use Rattle.std.proofs.Common.{◌≡◌, ℕ, Bool, true, false, List, [], ◌∷◌, Option, Some, None, Result, MatchResult, if◌then◌else◌, refl, sym, ap, ◌∙◌, subst}
+use Rattle.std.proofs.Common.{◌≡◌, ℕ, true, false, [], ◌∷◌, Option, Some, None, Result, MatchResult, if◌then◌else◌, refl, sym, ap, ◌∙◌, subst}
 use Rattle.gfx_model.specs.Words.{Handle}
 use Rattle.gfx_model.specs.Views.{Views}
 use Rattle.gfx_model.specs.Resources as model

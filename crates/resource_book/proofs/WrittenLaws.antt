@@ -3,13 +3,13 @@ use Rattle.std.proofs.Common.{◌≡◌, List, [], ◌∷◌, ◌++◌, length, 
 use Rattle.std.proofs.lemmas.List.{append-nil}
 use Rattle.std.specs.List.{find}
 use Rattle.gfx_model.specs.Words.{kind_number}
-use Rattle.gfx_model.specs.Commands.{Command, destroy_command}
+use Rattle.gfx_model.specs.Commands.{destroy_command}
 use Rattle.gfx_model.specs.Resources.{Thing, Resources, ResourceCall, effect, references_of, is_at, create_layout, create_vertex_buffer, create_index_buffer, create_texture, create_frame_buffer, create_program, create_uniform, update_buffer, update_texture, destroy, set_view_rect, set_view_scissor, set_view_clear, set_view_mode, set_view_transform, set_view_target, set_view_order, reset_view}
 use Rattle.call_laws.specs.Calls.{Written, after_call, written, payload_for, where_changed, destroys_of}
 use Rattle.resource_laws.specs.Bare.{bare, bare_of}
 use Rattle.resource_laws.proofs.BareCalls.{find_bare}
 use Rattle.resource_laws.proofs.BareEffects.{effect_same}
-use Rattle.resource_book.specs.Written.{BookView, add_all, after_in}
+use Rattle.resource_book.specs.Written.{add_all, after_in}
 use Rattle.resource_book.specs.Laws.{bared}
 
 added : {A : Type 0} (xs ys : List A) → xs ++ ys ≡ add_all xs ys

@@ -3,6 +3,7 @@ use Rattle.std.specs.Prelude.{ℕ, ◌≡◌, ◌<◌, ◌≤◌, ◌+◌, ◌*�
 use Rattle.gfx_model.specs.Resources.{Thing, is_at, texel_count}
 use Rattle.std.specs.List.{AllByRecursion}
 use Rattle.gfx_model.specs.Words.{Kind, greatest, first_place}
+use Rattle.store_laws.specs.Standing.{content_kind}
 use Rattle.resource_laws.specs.Lawful.{count_where}
 
 -- how many places there are
@@ -33,6 +34,10 @@ pub record StandApart (things : List Thing) : Type 0 where
   pub fits : AllByRecursion (λ t. t.handle.index < greatest t.handle.kind) things
   pub once : (k : Kind) (index : ℕ) → index < greatest k → count_where (is_at k index) things ≤ 1
 
+-- a thing's content is of its handle's kind
+abbrev pub IsOfKind : Thing → Type 0
+IsOfKind t = content_kind t.content ≡ t.handle.kind
+
 -- how many texels things have
 abbrev pub texels_of : List Thing → ℕ
 texels_of things = sum_by (λ t. texel_count t.content) things
@@ -40,5 +45,7 @@ texels_of things = sum_by (λ t. texel_count t.content) things
 -- what every table keeps: the numbers by places, and how many texels there are
 pub record IsTable (places : List (Option ℕ)) (texels : ℕ) (things : List Thing) : Type 0 where
   pub placed : IsPlaced places things
+  pub apart : StandApart things
+  pub kinds : AllByRecursion IsOfKind things
   pub sum : texels ≡ texels_of things
   pub most : texels ≤ most_texels * length things

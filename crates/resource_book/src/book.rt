@@ -1,5 +1,7 @@
 // The resource calls.
+ghost use Rattle.std.specs.List.{list_all};
 ghost use Rattle.gfx_model.specs.Resources as model;
+ghost use Rattle.gfx_model.specs.Resources.{is_kept_thing};
 ghost use Rattle.fix_math.specs.Seen.{rect_seen, affine_seen};
 ghost use Rattle.gfx_words.specs.Seen.{mode_seen, format_seen, program_seen, uniform_seen};
 ghost use Rattle.texture_store.specs.Seen.{own_source_seen};
@@ -38,6 +40,7 @@ impl Model for Book {
 
 impl Book {
     ghost use Rattle.resource_laws.specs.Lawful.{IsLawful};
+    ghost use Rattle.resource_laws.specs.Laws.{Gives};
     ghost use Rattle.resource_book.specs.Answered.{Creates, Updates, Changes, Destroys, HasLive};
     ghost use Rattle.resource_book.specs.Works.{IsWork, with_nothing_written};
 
@@ -55,21 +58,24 @@ impl Book {
 
     /// Makes a layout. `Full` exactly where 64 layouts live or wait; then `SerialsSpent` exactly where no serial is left.
     pub fn create_layout(&mut self, layout: VertexLayout) -> Result<Handle, Refusal>
-        ensures { Creates result (model.create_layout layout) self.old self.new }
+        ensures answer { Creates result (model.create_layout layout) self.old self.new }
+        ensures free { IfOk result (λ h. Gives self.old.resources (model.create_layout layout) h) }
     {
         self.desk.create_layout(layout)
     }
 
     /// Makes a vertex buffer of a layout. `BadSize` exactly where there are not 1 to 524,288 bytes; then `WrongKind`, `Stale`, `Full` (1,024) and `SerialsSpent`.
     pub fn create_vertex_buffer(&mut self, layout: Handle, bytes: &[u8]) -> Result<Handle, Refusal>
-        ensures { Creates result (model.create_vertex_buffer layout bytes.now) self.old self.new }
+        ensures answer { Creates result (model.create_vertex_buffer layout bytes.now) self.old self.new }
+        ensures free { IfOk result (λ h. Gives self.old.resources (model.create_vertex_buffer layout bytes.now) h) }
     {
         self.desk.create_vertex_buffer(layout, bytes)
     }
 
     /// Makes an index buffer. `BadSize` exactly where there are not 2 to 524,288 bytes, or an odd number; then `Full` (1,024) and `SerialsSpent`.
     pub fn create_index_buffer(&mut self, bytes: &[u8]) -> Result<Handle, Refusal>
-        ensures { Creates result (model.create_index_buffer bytes.now) self.old self.new }
+        ensures answer { Creates result (model.create_index_buffer bytes.now) self.old self.new }
+        ensures free { IfOk result (λ h. Gives self.old.resources (model.create_index_buffer bytes.now) h) }
     {
         self.desk.create_index_buffer(bytes)
     }
@@ -85,7 +91,8 @@ impl Book {
         blit_dst: bool,
         source: TexSource,
     ) -> Result<Handle, Refusal>
-        ensures { Creates result (model.create_texture width height (format_seen format) blit_dst (own_source_seen source)) self.old self.new }
+        ensures answer { Creates result (model.create_texture width height (format_seen format) blit_dst (own_source_seen source)) self.old self.new }
+        ensures free { IfOk result (λ h. Gives self.old.resources (model.create_texture width height (format_seen format) blit_dst (own_source_seen source)) h) }
     {
         self.desk
             .create_texture(width, height, format, blit_dst, source)
@@ -97,21 +104,24 @@ impl Book {
         color: Handle,
         depth: Option<Handle>,
     ) -> Result<Handle, Refusal>
-        ensures { Creates result (model.create_frame_buffer color depth) self.old self.new }
+        ensures answer { Creates result (model.create_frame_buffer color depth) self.old self.new }
+        ensures free { IfOk result (λ h. Gives self.old.resources (model.create_frame_buffer color depth) h) }
     {
         self.desk.create_frame_buffer(color, depth)
     }
 
     /// Makes a program. `Full` exactly where 256 programs live or wait; then `SerialsSpent`.
     pub fn create_program(&mut self, kind: ProgramKind) -> Result<Handle, Refusal>
-        ensures { Creates result (model.create_program (program_seen kind)) self.old self.new }
+        ensures answer { Creates result (model.create_program (program_seen kind)) self.old self.new }
+        ensures free { IfOk result (λ h. Gives self.old.resources (model.create_program (program_seen kind)) h) }
     {
         self.desk.create_program(kind)
     }
 
     /// Makes a uniform, or refers to the live one of that name once more. `BadSize` exactly where the name has not 1 to 32 bytes; then, where one lives, `WrongKind` for the other kind and `Full` at 65,535 references; else `Full` (256) and `SerialsSpent`.
     pub fn create_uniform(&mut self, name: &[u8], kind: UniformKind) -> Result<Handle, Refusal>
-        ensures { Creates result (model.create_uniform name.now (uniform_seen kind)) self.old self.new }
+        ensures answer { Creates result (model.create_uniform name.now (uniform_seen kind)) self.old self.new }
+        ensures free { IfOk result (λ h. Gives self.old.resources (model.create_uniform name.now (uniform_seen kind)) h) }
     {
         self.desk.create_uniform(name, kind)
     }
@@ -234,6 +244,13 @@ impl Book {
         ensures { self.new ≡ record self.old { resources = model.start_frame frame self.old.resources } }
     {
         self.desk.start_frame(frame);
+    }
+
+    /// Whether the start of that frame keeps all things. It looks at the things that wait alone.
+    pub fn keeps_all(&self, frame: u32) -> bool
+        ensures { result ≡ list_all (is_kept_thing self.now.resources.latency frame) self.now.resources.things }
+    {
+        self.desk.shelf.keeps_all(frame)
     }
 
     /// The things.

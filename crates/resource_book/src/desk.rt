@@ -5,6 +5,7 @@ ghost use Rattle.gfx_model.specs.Commands.{command_bytes};
 ghost use Rattle.gfx_model.specs.Resources as model;
 ghost use Rattle.gfx_words.specs.Kinds.{kind_seen, info_seen};
 ghost use Rattle.gfx_words.specs.Seen.{IsFirstRefusal};
+ghost use Rattle.store_laws.specs.Standing.{content_kind};
 ghost use Rattle.cmd_buffer.specs.Seen.{command_seen};
 ghost use Rattle.resource_laws.specs.Bare.{bare_content, bare_of};
 ghost use Rattle.resource_laws.specs.Lawful.{IsLawful};
@@ -57,6 +58,7 @@ impl Desk {
         requires lawful { IsLawful (desk_seen self.old).resources }
         requires index { (model.lacks_index (desk_seen self.old).resources (kind_seen kind)).0 ≡ false }
         requires serial { (model.lacks_serial (desk_seen self.old).resources).0 ≡ false }
+        requires kind { content_kind (fact_seen fact) ≡ kind_seen kind }
         requires room { 1 ≤ self.old.shelf.table.spare }
         ensures limits { HasLimits self.new.shelf }
         ensures made { Some result ≡ (model.make (kind_seen kind) (info_seen info) (fact_seen fact) (desk_seen self.old).resources).made }

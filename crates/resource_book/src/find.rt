@@ -1,11 +1,12 @@
 // Looking for things.
-ghost use Rattle.std.specs.Prelude.{◌≡◌, ◌<◌, ◌&&◌, ◌==◌, option_map, map, filter, drop, length, slice_index_or, Some, None, true, false, MatchOption, MatchResult};
+ghost use Rattle.std.specs.Prelude.{◌≡◌, ◌<◌, ◌&&◌, ◌==◌, option_map, map, filter, length, if◌then◌else◌, slice_index_or, Some, None, true, false, MatchOption, MatchResult};
 ghost use Rattle.std.specs.List.{find};
-ghost use Rattle.gfx_model.specs.Words.{is_kind, is_live_in, greatest};
-ghost use Rattle.gfx_model.specs.Resources.{Thing, is_at, is_live, has_name, holds_texture, word_of_thing, uniform_kind_in, byte_count, bytes_of_thing, holders, least_index, lesser_index, can_attach, texture_sides, same_sides, not_live_option};
+ghost use Rattle.gfx_model.specs.Words.{Kind, uniform_kind, frame_buffer_kind, is_kind, is_live_in, greatest};
+ghost use Rattle.gfx_model.specs.Resources.{Thing, is_at, is_live, has_name, holds_texture, word_of_thing, uniform_kind_in, byte_count, bytes_of_thing, holders, least_index, can_attach, texture_sides, same_sides, not_live_option};
 ghost use Rattle.gfx_words.specs.Kinds.{kind_seen, uniform_seen, format_seen};
 ghost use Rattle.resource_book.specs.Seen.{fact_seen, row_seen, rows_seen};
-ghost use Rattle.resource_book.specs.Finding.{least_holder};
+ghost use Rattle.resource_book.specs.Finding.{held_by, lesser_number};
+ghost use Rattle.resource_book.specs.Tables.{number_of};
 ghost use Rattle.resource_book.specs.Answered.{HasLiveThing};
 
 use crate::rows::{Fact, Row};
@@ -22,19 +23,51 @@ fn has_name(row: &Row, name: &[u8]) -> bool
     }
 }
 
+// the number of the uniform of an index, where it lives and has a name
+fn named_at(table: &ThingTable, index: u16, name: &[u8]) -> Option<usize>
+    requires { index < greatest uniform_kind }
+    ensures { result ≡ number_of (λ t. is_at uniform_kind index t && (is_live t && has_name name.now t.content)) table.now.things }
+{
+    table.facts();
+    match table.first_at(Kind::Uniform, index) {
+        None => None,
+        Some(n) => numbered(table.row(n), name, n),
+    }
+}
+
+// the number of a row, where it lives and has a name
+fn numbered(row: &Row, name: &[u8], number: usize) -> Option<usize>
+    ensures { result ≡ (if is_live (row_seen row.now) && has_name name.now (row_seen row.now).content then Some number else None) }
+{
+    if has_name(row, name) {
+        Some(number)
+    } else {
+        None
+    }
+}
+
+fn lesser(a: Option<usize>, b: Option<usize>) -> Option<usize>
+    ensures { result ≡ lesser_number a b }
+{
+    match (a, b) {
+        (Some(n), Some(m)) => Some(if n <= m { n } else { m }),
+        (Some(n), None) => Some(n),
+        (None, b) => b,
+    }
+}
+
 /// The number of the live uniform of a name.
 pub fn find_named(table: &ThingTable, name: &[u8]) -> Option<usize>
     ensures { MatchOption result
         (find (λ t. is_live t && has_name name.now t.content) table.now.things ≡ None)
         (λ n. (n < length table.now.things) × ((d : Thing) → find (λ t. is_live t && has_name name.now t.content) table.now.things ≡ Some (slice_index_or table.now.things n d))) }
 {
-    let rows = table.rows();
-    for i in 0..rows.len() {
-        if has_name(&rows[i], name) {
-            return Some(i);
-        }
+    table.facts();
+    let mut found = None;
+    for index in 0..Kind::Uniform.greatest() {
+        found = lesser(found, named_at(table, index, name));
     }
-    None
+    found
 }
 
 /// The kind of a uniform.
@@ -139,22 +172,25 @@ fn holds(row: &Row, serial: u32) -> bool
     }
 }
 
-fn lesser(h: Handle, other: Option<Handle>) -> Option<Handle>
-    ensures { result ≡ lesser_index h other }
+// the handle of a frame buffer, where it lives and holds a texture
+fn holder(row: &Row, serial: u32) -> Option<Handle>
+    ensures { result ≡ held_by (λ t. is_live t && holds_texture serial t.content) (Some (row_seen row.now)) }
 {
-    match other {
-        Some(g) if g.index() < h.index() => Some(g),
-        _ => Some(h),
+    if holds(row, serial) {
+        Some(row.handle)
+    } else {
+        None
     }
 }
 
-fn lesser_holder(row: &Row, serial: u32, other: Option<Handle>) -> Option<Handle>
-    ensures { result ≡ least_holder (λ t. is_live t && holds_texture serial t.content) (row_seen row.now) other }
+// the same of the frame buffer of an index
+fn holder_at(table: &ThingTable, index: u16, serial: u32) -> Option<Handle>
+    requires { index < greatest frame_buffer_kind }
+    ensures { result ≡ held_by (λ t. is_live t && holds_texture serial t.content) (find (is_at frame_buffer_kind index) table.now.things) }
 {
-    if holds(row, serial) {
-        lesser(row.handle, other)
-    } else {
-        other
+    match table.number_at(Kind::FrameBuffer, index) {
+        None => None,
+        Some(n) => holder(table.row(n), serial),
     }
 }
 
@@ -162,12 +198,14 @@ fn lesser_holder(row: &Row, serial: u32, other: Option<Handle>) -> Option<Handle
 pub fn holder_of(table: &ThingTable, serial: u32) -> Option<Handle>
     ensures { result ≡ least_index (map (λ t. t.handle) (filter (λ t. is_live t && holds_texture serial t.content) table.now.things)) }
 {
-    let rows = table.rows();
-    let mut found = None;
-    for i in 0..rows.len() {
-        found = lesser_holder(&rows[rows.len() - 1 - i], serial, found);
+    table.facts();
+    for index in 0..Kind::FrameBuffer.greatest() {
+        let found = holder_at(table, index, serial);
+        if found.is_some() {
+            return found;
+        }
     }
-    found
+    None
 }
 
 fn has_serial(row: &Row, h: Handle) -> bool

@@ -18,7 +18,7 @@ mod tests;
 mod textures;
 mod updates;
 
-ghost use Rattle.resource_book.specs.Laws.{WrittenLaw};
+ghost use Rattle.resource_book.specs.Laws.{PlaceLaw, WrittenLaw};
 
 pub use book::Book;
 pub use frames::Work;
@@ -28,4 +28,9 @@ pub use rows::{Fact, Row};
 /// What the book knows after an accepted call is what the calls of the frame wrote, without contents.
 pub fn written_law()
     ensures { WrittenLaw }
+{}
+
+/// What a call makes in a lawful state has a free place in the world that the state stands for.
+pub fn place_law()
+    ensures { PlaceLaw }
 {}

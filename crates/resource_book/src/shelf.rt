@@ -1,7 +1,9 @@
 // The definitions' state of the calls in code.
 ghost use Rattle.std.specs.Prelude.{◌≡◌, ◌<◌, ◌≤◌, ◌+◌, ◌-◌, ℕ, [], false, length, Some, None, slice_index_or};
 ghost use Rattle.gfx_model.specs.Resources as model;
-ghost use Rattle.gfx_model.specs.Resources.{Thing};
+ghost use Rattle.gfx_model.specs.Resources.{Thing, is_kept_thing};
+ghost use Rattle.store_laws.specs.Standing.{content_kind};
+ghost use Rattle.std.specs.List.{list_all};
 ghost use Rattle.gfx_model.specs.World.{Content};
 ghost use Rattle.gfx_words.specs.Kinds.{kind_seen, info_seen};
 ghost use Rattle.resource_book.specs.Answered.{HasLiveThing};
@@ -10,7 +12,7 @@ ghost use Rattle.resource_laws.specs.Lawful.{IsLawful};
 ghost use Rattle.resource_book.specs.Seen.{fact_seen};
 
 use crate::rows::{Fact, Row};
-use crate::stacks::{Stack, reclaim_all};
+use crate::stacks::{Stack, all_keep, reclaim_all};
 use crate::table::ThingTable;
 use gfx_words::{Handle, Info, Kind};
 use view_table::ViewTable;
@@ -49,6 +51,7 @@ impl Shelf {
         requires lawful { IsLawful (resources_of self.old) }
         requires index { (model.lacks_index (resources_of self.old) (kind_seen kind)).0 ≡ false }
         requires serial { (model.lacks_serial (resources_of self.old)).0 ≡ false }
+        requires kind { content_kind (fact_seen fact) ≡ kind_seen kind }
         requires room { 1 ≤ self.old.table.spare }
         ensures limits { HasLimits self.new }
         ensures made { Some result ≡ (model.make (kind_seen kind) (info_seen info) (fact_seen fact) (resources_of self.old)).made }
@@ -117,9 +120,21 @@ impl Shelf {
         ensures limits { HasLimits self.new }
         ensures after { resources_of self.new ≡ model.start_frame frame (resources_of self.old) }
     {
+        let keeps_all = self.keeps_all(frame);
         self.views.keep_targets(&self.table);
         reclaim_all(&mut self.stacks, self.latency, frame);
-        self.table.start_frame(self.latency, frame);
         self.frame = frame;
+        if !keeps_all {
+            self.table.start_frame(self.latency, frame);
+        }
+    }
+
+    /// Whether the start of a frame keeps all things. It looks at those that wait alone.
+    pub fn keeps_all(&self, frame: u32) -> bool
+        requires limits { HasLimits self.now }
+        requires lawful { IsLawful (resources_of self.now) }
+        ensures { result ≡ list_all (is_kept_thing self.now.latency frame) self.now.table.things }
+    {
+        all_keep(&self.stacks, self.latency, frame)
     }
 }

@@ -1,6 +1,6 @@
 // The indices of a kind: a stack of those that can be given, and those that wait.
 ghost use Rattle.std.specs.Prelude.{◌≡◌, ◌<◌, ◌≤◌, ◌+◌, ◌==◌, ◌++◌, ◌∷◌, [], ℕ, true, false, not, map, filter, length, slice_index_or, if◌then◌else◌, vec_capacity, IfOk};
-ghost use Rattle.std.specs.List.{AllByRecursion, range_with_len};
+ghost use Rattle.std.specs.List.{AllByRecursion, list_all, range_with_len};
 ghost use Rattle.gfx_model.specs.Resources.{is_over, book_at_start, pushed_on};
 ghost use Rattle.schedule_model.specs.Held.{count_of};
 ghost use Rattle.handle_alloc.specs.Indices.{IsGiven, with_free};
@@ -75,6 +75,13 @@ impl Stack {
         self.waiting.push_reserved(Waiting { index, death });
     }
 
+    /// Whether no index waits whose death is over.
+    pub fn keeps_all(&self, latency: u8, frame: u32) -> bool
+        ensures { result ≡ list_all (λ w. not (is_over latency frame w.1)) self.now.waiting }
+    {
+        all_later(&self.waiting, latency, frame)
+    }
+
     /// The indices of deaths that are over go on the stack, in order.
     pub fn reclaim(&mut self, latency: u8, frame: u32)
         requires once { (index : ℕ) → index < self.old.limit → count_of index self.old.free + count_where (waits_at index (λ d. true)) self.old.waiting ≤ 1 }
@@ -91,6 +98,12 @@ fn is_over(w: Waiting, latency: u8, frame: u32) -> bool
     ensures { result ≡ is_over latency frame w.death }
 {
     is_death_over(w.death, latency, frame)
+}
+
+fn all_later(waiting: &[Waiting], latency: u8, frame: u32) -> bool
+    ensures { result ≡ list_all (λ w. not (is_over latency frame w.death)) waiting.now }
+{
+    waiting.iter().all(|w| !is_over(*w, latency, frame))
 }
 
 fn give_back(free: &mut HandleAlloc, w: &Waiting, latency: u8, frame: u32)
@@ -135,6 +148,13 @@ fn next_place(later: usize, w: Waiting, latency: u8, frame: u32) -> usize
     } else {
         later + 1
     }
+}
+
+/// Whether no index of any kind waits whose death is over.
+pub fn all_keep(stacks: &[Stack], latency: u8, frame: u32) -> bool
+    ensures { result ≡ list_all (λ s. list_all (λ w. not (is_over latency frame w.1)) s.waiting) stacks.now }
+{
+    stacks.iter().all(|s| s.keeps_all(latency, frame))
 }
 
 /// The indices of all kinds at the start of a frame.

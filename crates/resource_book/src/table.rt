@@ -1,13 +1,13 @@
 // The things that are live or waiting.
 ghost use Rattle.std.specs.Prelude.{map, ◌≡◌, ◌<◌, ◌≤◌, ◌+◌, ◌-◌, ◌*◌, ◌++◌, ◌∷◌, [], length, slice_index_or, slice_set, filter, Some, None, MatchOption, OnErr, IfOk};
-ghost use Rattle.std.specs.List.{find};
+ghost use Rattle.std.specs.List.{AllByRecursion, find};
 ghost use Rattle.gfx_model.specs.Words.{greatest, place_of_handle};
 ghost use Rattle.gfx_model.specs.Resources as model;
 ghost use Rattle.gfx_model.specs.Resources.{Thing, is_at, is_kept_thing, texel_count};
 ghost use Rattle.gfx_words.specs.Kinds.{kind_seen};
 ghost use Rattle.resource_laws.specs.Bare.{bare};
 ghost use Rattle.resource_book.specs.Seen.{row_seen, rows_seen};
-ghost use Rattle.resource_book.specs.Tables.{IsPlaced, StandApart, texels_of, place_count, most_texels};
+ghost use Rattle.resource_book.specs.Tables.{IsPlaced, StandApart, IsOfKind, number_of, texels_of, place_count, most_texels};
 
 use crate::rows::{Fact, Row};
 use gfx_words::Kind;
@@ -139,6 +139,14 @@ impl ThingTable {
             (find (is_at (kind_seen kind) index) self.now.things ≡ None)
             (λ n. (n < length self.now.things) × ((d : Thing) → find (is_at (kind_seen kind) index) self.now.things ≡ Some (slice_index_or self.now.things n d))) }
     {
+        self.first_at(kind, index)
+    }
+
+    /// The number of the first thing at a kind's index.
+    pub fn first_at(&self, kind: Kind, index: u16) -> Option<usize>
+        requires { index < greatest (kind_seen kind) }
+        ensures { result ≡ number_of (is_at (kind_seen kind) index) self.now.things }
+    {
         self.numbers[kind.first_place() as usize + index as usize]
     }
 
@@ -150,9 +158,12 @@ impl ThingTable {
         &self.rows[number]
     }
 
-    /// What every table keeps: it has no contents but what the calls ask of them.
+    /// What every table keeps: no two things stand at one place, each is of its handle's kind, and it has no contents but
+    /// what the calls ask of them.
     pub fn facts(&self)
-        ensures { map bare self.now.things ≡ self.now.things }
+        ensures bare { map bare self.now.things ≡ self.now.things }
+        ensures apart { StandApart self.now.things }
+        ensures kinds { AllByRecursion IsOfKind self.now.things }
     {
         let _ = &self.rows;
     }
@@ -183,6 +194,7 @@ impl ThingTable {
     pub fn push(&mut self, row: Row)
         requires free { find (is_at row.handle.kind row.handle.index) self.old.things ≡ None }
         requires below { row.handle.index < greatest row.handle.kind }
+        requires kind { IsOfKind (row_seen row) }
         requires room { 1 ≤ self.old.spare }
         requires few { length self.old.things ≤ place_count }
         ensures things { self.new.things ≡ self.old.things ++ row_seen row ∷ [] }
@@ -227,8 +239,7 @@ impl ThingTable {
 
     /// The start of a frame keeps what lives, and what may still be named.
     pub fn start_frame(&mut self, latency: u8, frame: u32)
-        requires apart { StandApart self.old.things }
-        requires few { length self.old.things ≤ place_count }
+        requires { length self.old.things ≤ place_count }
         ensures { self.new.things ≡ filter (is_kept_thing latency frame) self.old.things }
     {
         keep_rows(&mut self.rows, latency, frame);

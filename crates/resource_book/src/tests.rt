@@ -9,7 +9,9 @@ use std::process::Abort;
 use texture_store::TexSource;
 use vertex_layout::{Attr, AttrType, LayoutBuilder};
 
-fn book(alloc: Global, serial: u32) -> Result<Book, AllocError> {
+fn book(alloc: Global, serial: u32) -> Result<Book, AllocError>
+    requires { 1 ≤ serial }
+{
     Book::new(
         alloc,
         Start {
@@ -72,9 +74,9 @@ fn a_uniform_dies_with_its_last_reference(rt: HostRuntime) -> Result<(), AllocEr
 #[test]
 fn buffers_at_their_ends(rt: HostRuntime) -> Result<(), AllocError> {
     let mut book = book(rt.alloc(), 1)?;
-    let Ok(indices) = book.create_index_buffer(&[1, 2, 3, 4]) else {
-        return Ok(())
-    };
+    let indices = book
+        .create_index_buffer(&[1, 2, 3, 4])
+        .expect(&rt, "an index buffer");
     assert_eq!(rt; book.update_buffer(indices, 2, &[9, 9]), Ok(()));
     assert_eq!(rt;
         book.update_buffer(indices, 3, &[9, 9]),
@@ -128,9 +130,9 @@ fn index_made(book: &mut Book) -> Option<u16> {
 
 // an index is given again where as many frames as may be out lie between
 fn index_again(rt: &impl Abort, book: &mut Book, latency: u8) -> Result<(), AllocError> {
-    let Ok(first) = book.create_program(ProgramKind::Color) else {
-        return Ok(())
-    };
+    let first = book
+        .create_program(ProgramKind::Color)
+        .expect(rt, "a program");
     assert_eq!(rt; first.index(), 0);
     assert_eq!(rt; book.destroy(first), Ok(true));
     for frame in 0..latency as u16 {
@@ -180,7 +182,7 @@ fn texels(rt: HostRuntime) -> Result<(), AllocError> {
         book.create_texture(1, 1, Format::Rgba8, true, TexSource::Fill(fill)),
         Err(Refusal::TexelsFull)
     );
-    let Some(last) = last else { return Ok(()) };
+    let last = last.expect(&rt, "a texture");
     assert_eq!(rt; book.destroy(last), Ok(true));
     // a waiting texture counts
     next_frame(&mut book)?;
@@ -204,18 +206,14 @@ fn color_texture(book: &mut Book) -> Result<Handle, Refusal> {
 #[test]
 fn the_holder_of_least_index(rt: HostRuntime) -> Result<(), AllocError> {
     let mut book = book(rt.alloc(), 1)?;
-    let Ok(a) = color_texture(&mut book) else {
-        return Ok(())
-    };
-    let Ok(b) = color_texture(&mut book) else {
-        return Ok(())
-    };
-    let Ok(first) = book.create_frame_buffer(a, None) else {
-        return Ok(())
-    };
-    let Ok(second) = book.create_frame_buffer(b, None) else {
-        return Ok(())
-    };
+    let a = color_texture(&mut book).expect(&rt, "a texture");
+    let b = color_texture(&mut book).expect(&rt, "a texture");
+    let first = book
+        .create_frame_buffer(a, None)
+        .expect(&rt, "a frame buffer");
+    let second = book
+        .create_frame_buffer(b, None)
+        .expect(&rt, "a frame buffer");
     assert_eq!(rt; book.destroy(a), Err(Refusal::Attached { holder: first }));
     assert_eq!(rt; book.destroy(b), Err(Refusal::Attached { holder: second }));
     assert_eq!(rt; book.set_view_target(0, Some(first)), Ok(()));
@@ -227,9 +225,9 @@ fn the_holder_of_least_index(rt: HostRuntime) -> Result<(), AllocError> {
     let seen = next_frame(&mut book)?;
     // the target of a frame buffer that died is gone in the frame behind its death
     assert!(rt; dead.views.get(0) != seen.views.get(0));
-    let Ok(third) = book.create_frame_buffer(b, None) else {
-        return Ok(())
-    };
+    let third = book
+        .create_frame_buffer(b, None)
+        .expect(&rt, "a frame buffer");
     assert_eq!(rt; third.index(), 0);
     assert_eq!(rt; second.index(), 1);
     assert_eq!(rt; book.destroy(b), Err(Refusal::Attached { holder: third }));
@@ -241,23 +239,26 @@ fn layouts_and_buffers(rt: HostRuntime) -> Result<(), AllocError> {
     let mut book = book(rt.alloc(), 1)?;
     let mut builder = LayoutBuilder::new();
     builder.add(Attr::Position, AttrType::Fixed, 2);
-    let Ok(layout) = builder.end() else {
-        return Ok(())
-    };
-    let Ok(layout) = book.create_layout(layout) else {
-        return Ok(())
-    };
+    let layout = builder.end().expect(&rt, "a layout");
+    let layout = book.create_layout(layout).expect(&rt, "a layout");
     assert!(rt; book.create_vertex_buffer(layout, &[0; 8]).is_ok());
     assert_eq!(rt;
         book.create_vertex_buffer(layout, &[]),
         Err(Refusal::BadSize)
     );
     assert!(rt; book.create_index_buffer(&[0; 6]).is_ok());
-    assert!(rt; color_texture(&mut book).is_ok());
+    let texture = color_texture(&mut book).expect(&rt, "a texture");
+    let rect = Rect {
+        x: 3,
+        y: 3,
+        w: 1,
+        h: 1,
+    };
+    assert_eq!(rt; book.update_texture(texture, rect, &[9; 4]), Ok(()));
     assert!(rt; book.create_uniform(b"tint", UniformKind::Vec4).is_ok());
     let work = next_frame(&mut book)?;
-    // bytes of vertices, bytes of indices and a name
-    assert_eq!(rt; work.payloads.len(), 3);
+    // bytes of vertices, bytes of indices, texels and a name
+    assert_eq!(rt; work.payloads.len(), 4);
     assert_eq!(rt; work.post.as_slice().len(), 1);
     Ok(())
 }

@@ -1,11 +1,13 @@
-use Rattle.std.proofs.Common.{◌&&◌, sym, ◌∙◌}
-use Rattle.gfx_model.specs.Resources.{is_live, has_name}
-use Rattle.resource_book.proofs.FindLaws.{found_thing, found_none}
+use Rattle.std.proofs.Common.{◌∙◌, sym, arith}
+use Rattle.resource_book.specs.Finding.{lesser_number}
+use Rattle.resource_book.proofs.Named.{named_none, named_next, named_all}
 use Rattle.resource_book.proofs.find.find_named.Goals as goal
 
-pub returns-then-has_name : goal.returns-then-has_name
-returns-then-has_name c = found_thing (λ t. is_live t && has_name c.args.name.now t.content) c.rows-rows.result.now c.args.table.now.things c.loop-i.i c.index-rows-i.result c.rows-rows.ensures c.loop-i-test.true c.index-rows-i.is
-    (sym c.has_name.ensures ∙ c.if-has_name.true) c.loop-i.invariant
+pub loop-index-init : goal.loop-index-init
+loop-index-init c = sym (named_none c.args.name.now c.args.table.now.things)
+
+pub loop-index-preserved : goal.loop-index-preserved
+loop-index-preserved c = c.lesser-found.ensures ∙ (λ j. lesser_number (c.loop-index.invariant j) (c.named_at.ensures j)) ∙ sym (named_next c.args.name.now c.loop-index.index c.args.table.now.things c.facts.ensures.kinds)
 
 pub returns : goal.returns
-returns c = found_none (λ t. is_live t && has_name c.args.name.now t.content) c.rows-rows.result.now c.args.table.now.things c.loop-i.i c.rows-rows.ensures c.loop-i-test.false c.loop-i.invariant
+returns c = named_all c.args.name.now c.loop-index.index c.args.table.now.things c.loop-index.found (omega (arith, c.loop-index-test.false, c.greatest-index-end.ensures)) c.facts.ensures.kinds c.facts.ensures.apart c.loop-index.invariant

@@ -1,4 +1,4 @@
-use Rattle.std.proofs.Common.{◌≡◌, sym, ap, ◌∙◌, subst, arith, List, slice_index_or}
+use Rattle.std.proofs.Common.{sym, ap, ◌∙◌, subst, arith, List, slice_index_or}
 use Rattle.gfx_model.proofs.PartlyMapped.{partly-next, partly-set, partly-done}
 use Rattle.resource_book.specs.Stacks.{StackView, CanReclaim, reclaimed}
 use Rattle.resource_book.proofs.ReclaimLaws.{map_from_map}

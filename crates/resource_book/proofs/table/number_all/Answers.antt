@@ -1,4 +1,4 @@
-use Rattle.std.proofs.Common.{rules, refl, ap, sym, ◌∙◌, subst, arith, List, ℕ, Option, Some, length, vec_len, take, ◌+◌}
+use Rattle.std.proofs.Common.{rules, refl, sym, subst, arith, List, ℕ, Option, vec_len, take, ◌+◌}
 use Rattle.std.proofs.lemmas.List.{take_all}
 use Rattle.gfx_model.specs.Words.{place_of_handle}
 use Rattle.resource_book.specs.declared.rows.Row.{Row}

@@ -7,4 +7,4 @@ use Rattle.resource_book.proofs.desk.Desk.reset_view.Goals as goal
 
 pub returns-clause-answer : goal.returns-clause-answer
 returns-clause-answer c =
-    view_changed c.reset_view.result (reset_view c.args.view) (desk_seen c.args.self.now) c.reset_view.new.self (effect (resources_of c.args.self.now.shelf) (reset_view c.args.view)).after.views c.facts.ensures c.reset_view.ensures refl refl
+    view_changed c.reset_view.result (reset_view c.args.view) (desk_seen c.args.self.now) c.reset_view.new.self (effect (resources_of c.args.self.now.shelf) (reset_view c.args.view)).after.views c.facts.ensures.bare c.reset_view.ensures refl refl

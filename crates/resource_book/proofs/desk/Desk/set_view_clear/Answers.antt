@@ -7,4 +7,4 @@ use Rattle.resource_book.proofs.desk.Desk.set_view_clear.Goals as goal
 
 pub returns-clause-answer : goal.returns-clause-answer
 returns-clause-answer c =
-    view_changed c.set_clear.result (set_view_clear c.args.view (record { flags = c.args.flags; color = c.args.color; depth = c.args.depth; stencil = c.args.stencil })) (desk_seen c.args.self.now) c.set_clear.new.self (effect (resources_of c.args.self.now.shelf) (set_view_clear c.args.view (record { flags = c.args.flags; color = c.args.color; depth = c.args.depth; stencil = c.args.stencil }))).after.views c.facts.ensures c.set_clear.ensures refl refl
+    view_changed c.set_clear.result (set_view_clear c.args.view (record { flags = c.args.flags; color = c.args.color; depth = c.args.depth; stencil = c.args.stencil })) (desk_seen c.args.self.now) c.set_clear.new.self (effect (resources_of c.args.self.now.shelf) (set_view_clear c.args.view (record { flags = c.args.flags; color = c.args.color; depth = c.args.depth; stencil = c.args.stencil }))).after.views c.facts.ensures.bare c.set_clear.ensures refl refl

@@ -1,4 +1,4 @@
-use Rattle.std.proofs.Common.{refl, ◌∙◌, sym, ap}
+use Rattle.std.proofs.Common.{refl, ◌∙◌, sym}
 use Rattle.gfx_model.specs.Resources.{effect, set_view_target}
 use Rattle.resource_book.specs.Desks.{desk_seen}
 use Rattle.resource_book.specs.Shelves.{resources_of}
@@ -11,7 +11,7 @@ returns-then-is_no_view-clause-answer c = (target_no_view (resources_of c.args.s
 
 pub returns-in-Ok-clause-answer : goal.returns-in-Ok-clause-answer
 returns-in-Ok-clause-answer c =
-    view_changed c.set_target.result (set_view_target c.args.view c.args.target) (desk_seen c.args.self.now) c.set_target.new.self (effect (resources_of c.args.self.now.shelf) (set_view_target c.args.view c.args.target)).after.views c.facts.ensures
+    view_changed c.set_target.result (set_view_target c.args.view c.args.target) (desk_seen c.args.self.now) c.set_target.new.self (effect (resources_of c.args.self.now.shelf) (set_view_target c.args.view c.args.target)).after.views c.facts.ensures.bare
     (target_answered c.set_target.result (resources_of c.args.self.now.shelf) c.args.view c.args.target c.set_target.new.self (effect (resources_of c.args.self.now.shelf) (set_view_target c.args.view c.args.target)).after.views c.in-Ok.ensures c.set_target.ensures) refl refl
 
 pub returns-in-Err-clause-answer : goal.returns-in-Err-clause-answer

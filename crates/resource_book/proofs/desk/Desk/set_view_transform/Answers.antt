@@ -8,4 +8,4 @@ use Rattle.resource_book.proofs.desk.Desk.set_view_transform.Goals as goal
 
 pub returns-clause-answer : goal.returns-clause-answer
 returns-clause-answer c =
-    view_changed c.set_transform.result (set_view_transform c.args.view (affine_seen c.args.t)) (desk_seen c.args.self.now) c.set_transform.new.self (effect (resources_of c.args.self.now.shelf) (set_view_transform c.args.view (affine_seen c.args.t))).after.views c.facts.ensures c.set_transform.ensures refl refl
+    view_changed c.set_transform.result (set_view_transform c.args.view (affine_seen c.args.t)) (desk_seen c.args.self.now) c.set_transform.new.self (effect (resources_of c.args.self.now.shelf) (set_view_transform c.args.view (affine_seen c.args.t))).after.views c.facts.ensures.bare c.set_transform.ensures refl refl

@@ -1,7 +1,8 @@
 use Rattle.std.proofs.Common.{rules, refl, ap, sym, subst, arith, List, []}
+use Rattle.std.specs.List.{AllByRecursion}
 use Rattle.resource_book.specs.declared.rows.Row.{Row}
 use Rattle.resource_book.specs.Seen.{rows_seen}
-use Rattle.resource_book.specs.Tables.{IsPlaced, texels_of}
+use Rattle.resource_book.specs.Tables.{IsPlaced, StandApart, IsOfKind, texels_of}
 use Rattle.resource_book.proofs.Numbered.{numbered_none}
 use Rattle.resource_book.proofs.table.ThingTable.new.Goals as goal
 
@@ -9,6 +10,8 @@ pub invariant_of-result : goal.invariant_of-result
 invariant_of-result c = record {
   placed = subst (λ (rows : List Row). IsPlaced c.in_ok-numbers.numbers.items (rows_seen rows)) (sym c.new.ensures.items)
       (numbered_none c.in_ok-numbers.numbers.items 3776 [] (c.in_ok-numbers.ensures.items_if_clones_equal (λ y k. search rules)) refl);
+  apart = subst (λ (rows : List Row). StandApart (rows_seen rows)) (sym c.new.ensures.items) (record { fits = tt; once = λ k i lt. omega arith });
+  kinds = subst (λ (rows : List Row). AllByRecursion IsOfKind (rows_seen rows)) (sym c.new.ensures.items) tt;
   sum = ap (λ (rows : List Row). texels_of (rows_seen rows)) (sym c.new.ensures.items);
   most = omega arith;
 }
