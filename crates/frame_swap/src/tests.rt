@@ -1,5 +1,5 @@
 // A thread that renders, at each latency.
-ghost use Rattle.std.specs.Prelude.{◌≡◌, ◌≤◌, []};
+ghost use Rattle.std.specs.Prelude.{◌≡◌, ◌+◌, ◌≤◌, [], length};
 ghost use Rattle.frame_record.specs.Links.{frames_of};
 ghost use Rattle.frame_swap.specs.Ends.{api_table, api_knows, render_table, render_knows};
 
@@ -13,16 +13,27 @@ use std::thread;
 use std::thread::{Promise, Threads};
 use view_table::ViewTable;
 
-// A frame of a number, with one payload and nothing to draw.
-fn frame(rt: &HostRuntime, number: u32) -> Result<Frame, Fail> {
+// What came back: the frame's number, its payload's first byte, and the outcome of its render.
+type Came = (u32, Option<u8>, Outcome);
+
+fn seen(back: &RenderedFrame) -> Came {
+    let payload = match back.frame.payloads.as_slice().first() {
+        Some(bytes) => bytes.as_slice().first().copied(),
+        None => None,
+    };
+    (back.frame.number, payload, back.outcome)
+}
+
+// A frame of a number, with one payload of that number and nothing to draw.
+fn frame(rt: &HostRuntime, number: u8) -> Result<Frame, Fail> {
     let alloc = rt.alloc();
     let views = ViewTable::new(alloc, 256)?;
     let pre = CmdBuffer::new(alloc).finish()?;
     let post = CmdBuffer::new(alloc).finish()?;
     let mut payloads = Vec::new(alloc);
-    payloads.push(Vec::from_elem(alloc, 9u8, 3)?)?;
+    payloads.push(Vec::from_elem(alloc, number, 3)?)?;
     Ok(Frame::new(
-        number,
+        u32::from(number),
         views,
         pre,
         post,
@@ -32,7 +43,7 @@ fn frame(rt: &HostRuntime, number: u32) -> Result<Frame, Fail> {
     ))
 }
 
-// Renders each frame until the stop.
+// Gives each frame back until the stop, the one of number 3 as shown, and the others as skipped.
 fn serve<R: Wait>(rt: &R, mut end: RenderEnd) -> RenderEnd
     requires { ((render_knows end).taken ≡ []) × ((render_knows end).returned ≡ []) }
     ensures { (render_table result ≡ render_table end) × ((render_knows result).taken ≡ frames_of (render_knows result).returned) }
@@ -41,10 +52,12 @@ fn serve<R: Wait>(rt: &R, mut end: RenderEnd) -> RenderEnd
         let Some(frame) = end.take(rt) else {
             break;
         };
-        end.give_back(RenderedFrame {
-            frame,
-            outcome: Outcome::Shown,
-        });
+        let outcome = if frame.number == 3 {
+            Outcome::Shown
+        } else {
+            Outcome::Skipped
+        };
+        end.give_back(RenderedFrame { frame, outcome });
     }
     end
 }
@@ -61,14 +74,14 @@ impl Promise<RenderEnd> for Served {
     ghost kept_by = { λ p r. (render_table r ≡ render_table p.0.value) × ((render_knows r).taken ≡ frames_of (render_knows r).returned) };
 }
 
-// Two frames by way of a render thread; their numbers, as they came back.
+// Two frames by way of a render thread, as they came back.
 fn by_a_thread<R: Threads + Wait + Sync>(
     rt: &R,
     mut api: ApiEnd,
     end: RenderEnd,
     first: Frame,
     second: Frame,
-) -> Option<(u32, u32)>
+) -> Option<(Came, Came)>
     requires api { ((api_knows api).given ≡ []) × ((api_knows api).back ≡ []) × (1 ≤ api.latency) × (render_table end ≡ api_table api) }
     requires end { ((render_knows end).taken ≡ []) × ((render_knows end).returned ≡ []) }
 {
@@ -93,7 +106,7 @@ fn by_a_thread<R: Threads + Wait + Sync>(
                     api.stop();
                     let end = handle.join(rt);
                     api.close(end);
-                    Some((one.frame.number, two.frame.number))
+                    Some((seen(&one), seen(&two)))
                 }
                 Err(_) => None,
             }
@@ -105,10 +118,63 @@ fn by_a_thread<R: Threads + Wait + Sync>(
 fn a_thread_renders_at_each_latency(rt: HostRuntime) -> Result<(), Fail> {
     for latency in 1..4 {
         let (api, end) = swap_pair(rt.alloc(), latency)?;
-        let numbers = by_a_thread(&rt, api, end, frame(&rt, 3)?, frame(&rt, 4)?).ok_or(
+        let came = by_a_thread(&rt, api, end, frame(&rt, 3)?, frame(&rt, 4)?).ok_or(
             "no thread",
         )?;
-        assert!(rt; numbers == (3, 4));
+        assert!(rt; came.0 == (3, Some(3), Outcome::Shown));
+        assert!(rt; came.1 == (4, Some(4), Outcome::Skipped));
     }
+    Ok(())
+}
+
+// The render end takes one frame and gives it back with an outcome.
+fn pass<R: Wait>(rt: &R, end: &mut RenderEnd, outcome: Outcome) -> bool
+    requires { (render_knows end.old).taken ≡ frames_of (render_knows end.old).returned }
+    ensures table { render_table end.new ≡ render_table end.old }
+    ensures none_held { (render_knows end.new).taken ≡ frames_of (render_knows end.new).returned }
+{
+    let Some(frame) = end.take(rt) else {
+        return false;
+    };
+    end.give_back(RenderedFrame { frame, outcome });
+    true
+}
+
+// With two frames out, the oldest comes back and the next is given.
+fn turn<R: Threads + Wait + Sync>(rt: &R, api: &mut ApiEnd, next: Frame) -> Came
+    requires out { length (api_knows api.old).given ≡ length (api_knows api.old).back + 2 }
+    requires latency { 3 ≤ api.old.latency }
+    ensures table { (api_table api.new ≡ api_table api.old) × (api.new.latency ≡ api.old.latency) }
+    ensures out { length (api_knows api.new).given ≡ length (api_knows api.new).back + 2 }
+{
+    let back = api.take_back(rt);
+    api.give(rt, next);
+    seen(&back)
+}
+
+#[test]
+fn two_frames_out_of_three(rt: HostRuntime) -> Result<(), Fail> {
+    let (mut api, mut end) = swap_pair(rt.alloc(), 3)?;
+    assert!(rt; api.try_take_back().is_none());
+    assert!(rt; end.try_take().is_err());
+    api.give(&rt, frame(&rt, 3)?);
+    api.give(&rt, frame(&rt, 4)?);
+    assert!(rt; pass(&rt, &mut end, Outcome::Shown));
+    let first = turn(&rt, &mut api, frame(&rt, 5)?);
+    assert!(rt; pass(&rt, &mut end, Outcome::PictureFault));
+    assert!(rt; pass(&rt, &mut end, Outcome::Skipped));
+    let second = turn(&rt, &mut api, frame(&rt, 6)?);
+    let third = turn(&rt, &mut api, frame(&rt, 7)?);
+    assert!(rt; pass(&rt, &mut end, Outcome::OutOfMemory));
+    assert!(rt; pass(&rt, &mut end, Outcome::Skipped));
+    let fourth = api.take_back(&rt);
+    let fifth = api.take_back(&rt);
+    assert!(rt; first == (3, Some(3), Outcome::Shown));
+    assert!(rt; second == (4, Some(4), Outcome::PictureFault));
+    assert!(rt; third == (5, Some(5), Outcome::Skipped));
+    assert!(rt; seen(&fourth) == (6, Some(6), Outcome::OutOfMemory));
+    assert!(rt; seen(&fifth) == (7, Some(7), Outcome::Skipped));
+    api.stop();
+    assert!(rt; end.take(&rt).is_none());
     Ok(())
 }

@@ -3,7 +3,7 @@
 //! They speak of definitions alone, so that a reader can rely on a law without reading its proof, and a program's proof can use it by a call.
 //! There are eleven laws: of order, of a journal's first fault, of reading, of writing, of fronts, of a journal's text, two of recordings,
 //! and three of journals and draw orders.
-//! `one_reading`, `readable_law` and `written_front` are corollaries: of the law of reading, of that of writing, and of those of fronts and of writing.
+//! `one_reading` and `written_front` are corollaries: of the law of reading, and of those of fronts and of writing.
 #![tactic(auto)]
 
 ghost use Rattle.gfx_model.specs.Frames.{CollectedLaw, DrawOrderLaw, OrderedItemsLaw};
@@ -38,7 +38,7 @@ pub fn writing_law()
     ensures { WritingLaw }
 {}
 
-/// A scene is readable exactly where what is written of it is read as it, so whether it is can be computed. A corollary of the law of writing.
+/// A scene is readable exactly where some text is read as it, and exactly where what is written of it is read as it.
 pub fn readable_law()
     ensures { ReadableLaw }
 {}

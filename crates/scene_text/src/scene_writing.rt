@@ -3,7 +3,7 @@ ghost use Rattle.std.specs.Prelude.{◌≡◌, ◌++◌, ◌∷◌, [], map, fla
 ghost use Rattle.std.specs.Fmt.{decimal};
 ghost use Rattle.scene_model.specs.Grammar.{scene_of, whole_language, says_latency};
 ghost use Rattle.spelling_model.specs.LineSpelling.{head_lines, latency_lines};
-ghost use Rattle.spelling_model.specs.Spelling.{IsReadable};
+ghost use Rattle.spelling_model.specs.Readable.{IsReadable};
 ghost use Rattle.spelling_model.specs.Written.{line_text, written};
 ghost use Rattle.scene_text.specs.Seen.{name_seen, scene_seen};
 ghost use Rattle.scene_text.specs.WrittenParts.{resource_text, encoder_text, block_text, beside_text, frame_text};

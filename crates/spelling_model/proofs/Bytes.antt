@@ -28,7 +28,7 @@ digit_high b v d e =
     let same : b ≡ 87 + v = omega (arith, low, high, e) in
     (same ∙ ap (λ t. cond t (48 + v) (87 + v)) (sym large), omega (arith, low, high, e))
 
-digit_takes : (b v : ℕ) → hex_value b ≡ Some v → (b ≡ hex_digit v) × (v < 16)
+pub digit_takes : (b v : ℕ) → hex_value b ≡ Some v → (b ≡ hex_digit v) × (v < 16)
 unfolding hex_value
 digit_takes b v e = by (is_digit b) refl (leb 97 b && leb b 102) refl e
   where

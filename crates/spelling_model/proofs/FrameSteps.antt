@@ -92,18 +92,18 @@ IsResourceWord w =
     (is_front_word w ≡ false) × (is_size_word w ≡ false) × (is_encoders_word w ≡ false) × (is_room_word w ≡ false) × (is_latency_word w ≡ false) × (is_frame_word w ≡ false) × (is_encoder_word w ≡ false)
     × (opens_part w ≡ false) × (ends_frame w ≡ false)
 
-none_of_two : (a b : Bool) → a ≡ false → b ≡ false → (a || b) ≡ true → ⊥
+pub none_of_two : (a b : Bool) → a ≡ false → b ≡ false → (a || b) ≡ true → ⊥
 none_of_two true b h k e = cc h
 none_of_two false true h k e = cc k
 none_of_two false false h k e = cc e
 
-none_of_three : (a b c : Bool) → a ≡ false → b ≡ false → c ≡ false → (a || b || c) ≡ true → ⊥
+pub none_of_three : (a b c : Bool) → a ≡ false → b ≡ false → c ≡ false → (a || b || c) ≡ true → ⊥
 none_of_three true b c h k l e = cc h
 none_of_three false true c h k l e = cc k
 none_of_three false false true h k l e = cc l
 none_of_three false false false h k l e = cc e
 
-not_both : {b : Bool} → b ≡ false → b ≡ true → ⊥
+pub not_both : {b : Bool} → b ≡ false → b ≡ true → ⊥
 not_both h k = cc (sym h ∙ k)
 
 resource_here : (all : List Field) (p : List (List Field)) (fs : List Field) (r : Reading) (names : List BoundName) (l : ResourceLine) (w : Word) → IsResourceWord w → fs ≡ resource_fields all l → (st : Stage) → r.stage ≡ st → can_stand st w ≡ true → SoFar all p r st

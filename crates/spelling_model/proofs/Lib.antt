@@ -22,3 +22,15 @@ mod Unreadable
 pub mod LineTexts
 pub mod Writing
 pub mod Fronts
+mod FieldRanges
+mod NameRanges
+mod LineRanges
+pub mod FrameRanges
+mod FieldsAgain
+mod NamesAgain
+mod Spelled
+mod LinesAgain
+mod StepsAgain
+mod SceneAgain
+mod LinesApart
+mod TextsAgain

@@ -60,7 +60,7 @@ optional_takes names f o e all p = by (is_dash f) refl e
 abbrev pub Created : List BoundName → Field → ℕ × List BoundName → Type 0
 Created names f n = IsPrefix (texts names) (texts n.1) × ((all : List Field) → IsPrefix (texts n.1) all → f ≡ name_at all n.0)
 
-length_texts : (names : List BoundName) → length (texts names) ≡ length names
+pub length_texts : (names : List BoundName) → length (texts names) ≡ length names
 length_texts [] = refl
 length_texts (b ∷ names) = ap suc (length_texts names)
 

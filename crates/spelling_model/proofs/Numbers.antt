@@ -75,10 +75,10 @@ u64_takes f n e = number_takes 0 (2 ^ 64 - 1) f n (lit< tt) e
 
 -- ---- signed numbers
 
-pos_small : (n : ℕ) → int_le (pos n) (pos 2147483647) ≡ true → n < 2 ^ 64
+pub pos_small : (n : ℕ) → int_le (pos n) (pos 2147483647) ≡ true → n < 2 ^ 64
 pos_small n h = let t : leb n 2147483647 ≡ true = h in omega (arith, leb-true n 2147483647 t)
 
-neg_small : (n : ℕ) → int_le (negsuc 2147483647) (neg_ℤ (pos n)) ≡ true → n < 2 ^ 64
+pub neg_small : (n : ℕ) → int_le (negsuc 2147483647) (neg_ℤ (pos n)) ≡ true → n < 2 ^ 64
 neg_small zero h = lit< tt
 neg_small (suc n) h = let t : leb n 2147483647 ≡ true = h in omega (arith, leb-true n 2147483647 t)
 
@@ -112,7 +112,7 @@ negative_takes (b ∷ f) h le =
     let digits : f ≡ decimal (value_onto 0 f) = numeral_takes f q.1 (neg_small (value_onto 0 f) le) in
     (λ i. minus i ∷ digits i) ∙ negative_spelled (value_onto 0 f) (not_zero f q.1 (untrue (slice_index_or f 0 48 == 48) p.1))
 
-in_i32 : (y z : ℤ) → i32_in_range y ≡ Ok z → (y ≡ z) × (int_le (negsuc 2147483647) y ≡ true) × (int_le y (pos 2147483647) ≡ true)
+pub in_i32 : (y z : ℤ) → i32_in_range y ≡ Ok z → (y ≡ z) × (int_le (negsuc 2147483647) y ≡ true) × (int_le y (pos 2147483647) ≡ true)
 in_i32 y z e =
     let a = if_ok (int_le (negsuc 2147483647) y && int_le y (pos 2147483647)) (Ok y) out_of_range z e in
     let b = both (int_le (negsuc 2147483647) y) (int_le y (pos 2147483647)) a.0 in

@@ -57,7 +57,7 @@ pieces_take ps part e = by (length ps == 2) refl (length ps == 3) refl e
     by false t true h e = three_joined ps h ∙ attribute_part_takes ps part e
     by false t false h e = absurd (cc e)
 
-in_part_ok : (r : Read LayoutPart) (part : LayoutPart) → in_part r ≡ Ok part → r ≡ Ok part
+pub in_part_ok : (r : Read LayoutPart) (part : LayoutPart) → in_part r ≡ Ok part → r ≡ Ok part
 in_part_ok (Ok x) part e = e
 in_part_ok (Err c) part e = absurd (cc e)
 

@@ -11,6 +11,8 @@ use Rattle.spelling_model.proofs.SoFar.{SoFar}
 use Rattle.spelling_model.proofs.ReadLines.{read_fields, read_steps}
 use Rattle.spelling_model.proofs.Texts.{fields_read, bytes_read}
 use Rattle.spelling_model.proofs.Choices.{choices_same}
+use Rattle.spelling_model.proofs.FrameRanges.{reads-readable}
+use Rattle.spelling_model.proofs.TextsAgain.{readable-read}
 
 -- ---- what is read is spelled
 
@@ -67,7 +69,7 @@ read_again s text bytes e k =
 -- ---- the laws
 
 pub reading-law : ReadingLaw
-reading-law s bytes = (λ e. ((bytes, e), spells s bytes e), λ k. read_again s k.0.0 bytes k.0.1 k.1)
+reading-law s bytes = (λ e. (reads-readable bytes s e, spells s bytes e), λ k. let r = readable-read s k.0 in read_again s r.0 bytes r.1 k.1)
 
 ok_scene : (s t : Scene) → ◌≡◌ {A = Result Scene Fault} (Ok s) (Ok t) → s ≡ t
 ok_scene s t e = cc e
@@ -75,5 +77,5 @@ ok_scene s t e = cc e
 pub one-reading : OneReading
 one-reading s t bytes = (
   λ e f. ok_scene s t (sym e ∙ f),
-  λ r q x y. ok_scene s t (sym (read_again s r.0 bytes r.1 x) ∙ read_again t q.0 bytes q.1 y),
+  λ r q x y. let a = readable-read s r in let b = readable-read t q in ok_scene s t (sym (read_again s a.0 bytes a.1 x) ∙ read_again t b.0 bytes b.1 y),
 )

@@ -8,7 +8,7 @@ use Rattle.gfx_model.specs.Vertex.{attribute_part, position_attribute, fixed_typ
 use Rattle.scene_model.specs.Scene.{ResourceLine, EncoderLine, layout_line, program_line, uniform_line, destroy_line, clear_line, reset_line, order_line, transform_line, bind_line, set_line, Block, Scene}
 use Rattle.scene_model.specs.Field.{i32_number, word_in, hex_value, hex_byte, skip_piece, attribute_piece, part_field}
 use Rattle.scene_model.specs.Grammar.{Fault, plain_room, empty_frame, scene_of, whole_language, after_word, after_resource, after_encoder_line}
-use Rattle.spelling_model.specs.Spelling.{IsReadable}
+use Rattle.spelling_model.specs.Readable.{IsReadable}
 use Rattle.spelling_model.specs.Written.{written}
 use Rattle.spelling_model.proofs.Writing.{readable-law}
 
@@ -30,14 +30,14 @@ abbrev RefusedAt : ℕ → ℕ → Scene → Type 0
 RefusedAt line cause s = scene_of whole_language (written s) ≡ Err (record { line = line; cause = cause })
 
 unreadable : (line cause : ℕ) (s : Scene) → RefusedAt line cause s → IsReadable s → ⊥
-unreadable line cause s e r = no_scene s (record { line = line; cause = cause }) (sym e ∙ (readable-law s).0 r)
+unreadable line cause s e r = no_scene s (record { line = line; cause = cause }) (sym e ∙ (readable-law s).1.0 r)
 
 plain_is_read : scene_of whole_language (written plain) ≡ Ok plain
 unfolding digits after_word after_resource after_encoder_line i32_number word_in hex_value hex_byte skip_piece attribute_piece part_field
 plain_is_read = refl
 
 plain_is_readable : IsReadable plain
-plain_is_readable = (readable-law plain).1 plain_is_read
+plain_is_readable = (readable-law plain).1.1 plain_is_read
 
 -- a version that is none
 version_three_refused : RefusedAt 1 12 (record plain { version = 3 })
@@ -64,7 +64,7 @@ two_is_one : ◌≡◌ {A = Result Scene Fault} (Ok plain) (Ok (record plain { l
 two_is_one e = let scenes : plain ≡ record plain { latency = 2 } = cc e in let numbers : 1 ≡ 2 = ap (λ s. s.latency) scenes in cc numbers
 
 latency_in_version_one : IsReadable (record plain { latency = 2 }) → ⊥
-latency_in_version_one r = two_is_one (sym latency_is_left_out ∙ (readable-law (record plain { latency = 2 })).0 r)
+latency_in_version_one r = two_is_one (sym latency_is_left_out ∙ (readable-law (record plain { latency = 2 })).1.0 r)
 
 -- a name that no line binds: another scene is read
 name_is_left_out : scene_of whole_language (written (record plain { names = codes "a" ∷ [] })) ≡ Ok plain
@@ -75,7 +75,7 @@ none_is_one : ◌≡◌ {A = Result Scene Fault} (Ok plain) (Ok (record plain { 
 none_is_one e = let scenes : plain ≡ record plain { names = codes "a" ∷ [] } = cc e in let counts : 0 ≡ 1 = ap (λ s. length s.names) scenes in cc counts
 
 name_without_line : IsReadable (record plain { names = codes "a" ∷ [] }) → ⊥
-name_without_line r = none_is_one (sym name_is_left_out ∙ (readable-law (record plain { names = codes "a" ∷ [] })).0 r)
+name_without_line r = none_is_one (sym name_is_left_out ∙ (readable-law (record plain { names = codes "a" ∷ [] })).1.0 r)
 
 -- a latency past the greatest
 latency_of_four_refused : RefusedAt 5 7 (record plain { version = 2; latency = 4 })

@@ -10,6 +10,8 @@ use Rattle.spelling_model.specs.LineSpelling.{resource_fields, block_lines, besi
 use Rattle.spelling_model.specs.Spelling.{MayLeaveRoom, MayLeaveLatency, MayLeaveBesides, Spells}
 use Rattle.spelling_model.specs.Written.{scene_text, has_beside, written, WritingLaw, ReadableLaw}
 use Rattle.spelling_model.proofs.LineTexts.{IsLine, AreLines, lines_apart, lines_joined, lines_of_text, text_of_lines}
+use Rattle.spelling_model.proofs.FrameRanges.{reads-readable}
+use Rattle.spelling_model.proofs.TextsAgain.{readable-read}
 use Rattle.spelling_model.proofs.Reading.{reading-law}
 
 -- ---- other choices have lines too
@@ -92,11 +94,12 @@ written_latency s b left = by (says_latency s.version) refl b left
 
 pub writing-law : WritingLaw
 writing-law s r =
-    let spells = ((reading-law s r.0).0 r.1).1 in (
-      λ with_room with_latency besides room latency left. (reading-law s (scene_text with_room with_latency besides s)).1 (r, text_spells s r.0 spells with_room with_latency besides room latency left),
+    let t = readable-read s r in
+    let spells = ((reading-law s t.0).0 t.1).1 in (
+      λ with_room with_latency besides room latency left. (reading-law s (scene_text with_room with_latency besides s)).1 (r, text_spells s t.0 spells with_room with_latency besides room latency left),
       (reading-law s (scene_text true (says_latency s.version) (map has_beside s.frames) s)).1
-          (r, text_spells s r.0 spells true (says_latency s.version) (map has_beside s.frames) (λ e. absurd (cc e)) (written_latency s spells.1.with_latency spells.1.latency_left) (written_left s.frames)),
+          (r, text_spells s t.0 spells true (says_latency s.version) (map has_beside s.frames) (λ e. absurd (cc e)) (written_latency s spells.1.with_latency spells.1.latency_left) (written_left s.frames)),
     )
 
 pub readable-law : ReadableLaw
-readable-law s = (λ r. (writing-law s r).1, λ e. (written s, e))
+readable-law s = ((λ r. readable-read s r, λ t. reads-readable t.0 s t.1), (λ r. (writing-law s r).1, λ e. reads-readable (written s) s e))

@@ -2,3 +2,4 @@ pub mod FieldSpelling
 pub mod LineSpelling
 pub mod Spelling
 pub mod Written
+pub mod Readable

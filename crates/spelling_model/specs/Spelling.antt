@@ -4,6 +4,7 @@ use Rattle.scene_model.specs.Scene.{SceneFrame, Scene}
 use Rattle.scene_model.specs.Field.{split_at}
 use Rattle.scene_model.specs.Grammar.{Field, is_skipped, plain_room, says_latency, scene_of, whole_language}
 use Rattle.spelling_model.specs.LineSpelling.{spelled_lines}
+use Rattle.spelling_model.specs.Readable.{IsReadable}
 
 -- the fields of each line that is not skipped
 abbrev pub kept_fields : List ℕ → List (List Field)
@@ -42,9 +43,9 @@ pub record IsSpelling (s : Scene) (lines : List (List Field)) : Type 0 where
 abbrev pub Spells : List ℕ → Scene → Type 0
 Spells bytes s = IsEnded bytes × IsSpelling s (kept_fields bytes)
 
--- some text is read as the scene: its numbers are in range, its names are bound, its lines are in order
-abbrev pub IsReadable : Scene → Type 0
-IsReadable s = (text : List ℕ) × (scene_of whole_language text ≡ Ok s)
+-- some text is read as the scene
+abbrev pub IsRead : Scene → Type 0
+IsRead s = (text : List ℕ) × (scene_of whole_language text ≡ Ok s)
 
 -- bytes are read as a scene exactly where the scene is readable and they spell it
 abbrev pub ReadingLaw : Type 0

@@ -3,7 +3,8 @@ use Rattle.std.specs.Prelude.{◌≡◌, ◌↔◌, ℕ, Bool, true, not, ◌==�
 use Rattle.scene_model.specs.Scene.{SceneFrame, Scene}
 use Rattle.scene_model.specs.Grammar.{Field, says_latency, scene_of, front_of, whole_language}
 use Rattle.spelling_model.specs.LineSpelling.{spelled_lines}
-use Rattle.spelling_model.specs.Spelling.{MayLeaveRoom, MayLeaveLatency, MayLeaveBesides, IsReadable}
+use Rattle.spelling_model.specs.Spelling.{MayLeaveRoom, MayLeaveLatency, MayLeaveBesides, IsRead}
+use Rattle.spelling_model.specs.Readable.{IsReadable}
 
 -- a line's fields with one blank between them, ended by a newline
 abbrev pub line_text : List Field → List ℕ
@@ -33,6 +34,6 @@ WritingLaw = (s : Scene) → IsReadable s
 abbrev pub WrittenFrontLaw : Type 0
 WrittenFrontLaw = (s : Scene) (rest : List ℕ) → IsReadable s → front_of whole_language (written s ++ rest) ≡ Ok (s, length (written s))
 
--- a scene is readable exactly where what is written of it is read as it: so whether it is can be computed
+-- a scene is readable exactly where some text is read as it, and exactly where what is written of it is: so whether it is can be computed
 abbrev pub ReadableLaw : Type 0
-ReadableLaw = (s : Scene) → IsReadable s ↔ (scene_of whole_language (written s) ≡ Ok s)
+ReadableLaw = (s : Scene) → (IsReadable s ↔ IsRead s) × (IsReadable s ↔ (scene_of whole_language (written s) ≡ Ok s))

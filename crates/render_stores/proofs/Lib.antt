@@ -1,0 +1,2 @@
+mod Frees
+mod Makes

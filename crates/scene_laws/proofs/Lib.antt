@@ -1,0 +1,10 @@
+pub mod Moves
+pub mod Accepting
+pub mod Lines
+pub mod Usable
+pub mod Recording
+pub mod Given
+pub mod Starting
+pub mod Pictures
+pub mod Gathering
+pub mod Colors

@@ -1,0 +1,4 @@
+pub mod SceneFrames
+pub mod Gathered
+pub mod Readables
+pub mod Laws
