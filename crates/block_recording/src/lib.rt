@@ -1,0 +1,13 @@
+//! Recorder threads that live for a whole play: jobs of an encoder and its block, the desk where they wait, and how a line is recorded.
+#![tactic(auto)]
+
+mod desk;
+mod job;
+pub mod laws;
+mod lines;
+mod threads;
+
+pub use desk::Desk;
+pub use job::{Job, block_lines};
+pub use lines::record_line;
+pub use threads::{help, serve, start_all};
