@@ -1,0 +1,97 @@
+-- What an accepted create tells.
+use Rattle.std.proofs.Common.{◌≡◌, ℕ, ◌+◌, ◌<◌, ◌≤◌, Bool, true, false, List, [], ◌∷◌, ◌++◌, map, length, Option, Some, None, if◌then◌else◌, refl, sym, ap, ◌∙◌, subst, arith}
+use Rattle.std.specs.List.{AllByRecursion}
+use Rattle.std.proofs.lemmas.Option.{same_Some, none-some}
+use Rattle.gfx_model.specs.Words.{Kind, layout_kind, vertex_buffer_kind, index_buffer_kind, texture_kind, frame_buffer_kind, program_kind, uniform_kind, Info, plain, texture_info, uniform_info, Handle, Format, ProgramKind, UniformKind, first_place, place_of_handle}
+use Rattle.gfx_model.specs.Vertex.{Layout}
+use Rattle.gfx_model.specs.World.{Item, Content, Change, layout_content, vertex_content, index_content, texture_content, frame_buffer_content, program_content, uniform_content}
+use Rattle.gfx_model.specs.Resources.{Refusal, Thing, Resources, ResourceCall, TexelSource, Effect, create_layout, create_vertex_buffer, create_index_buffer, create_texture, create_frame_buffer, create_program, create_uniform, refusals, refusal_of, effect, make, lacks_index, lacks_serial, book_of, top_index, layout_of_handle, texels_from, serial_option, zero_value}
+use Rattle.schedule_model.specs.Machine.{free, place_at}
+use Rattle.hold_table.specs.Views.{SeatView, created}
+use Rattle.resource_laws.specs.Bare.{bare_of}
+use Rattle.resource_laws.specs.Lawful.{IsLawful}
+use Rattle.resource_laws.proofs.CallLaws.{all_passed}
+use Rattle.resource_book.specs.Written.{BookView, after_in}
+use Rattle.gfx_context.specs.Kept.{IsTied, IsContext}
+use Rattle.gfx_context.specs.States.{ContextView}
+use Rattle.gfx_context.specs.Calls.{IsPlacedBy, Makes}
+use Rattle.gfx_context.specs.Places.{Stays}
+use Rattle.gfx_context.proofs.Stays.{stays_unnamed, free_unnamed}
+use Rattle.gfx_context.proofs.Moves.{kept_moved}
+use Rattle.gfx_context.proofs.Same.{same_after}
+use Rattle.gfx_context.proofs.Tied.{free_before, tied_made}
+
+-- an effect that makes a thing of a kind
+pub record IsMake (r : Resources) (e : Effect) (h : Handle) : Type 0 where
+  pub kind : Kind
+  pub info : Info
+  pub content : Content
+  pub is : e ≡ make kind info content r
+  pub some : (lacks_index r kind).0 ≡ false
+  pub serial : (lacks_serial r).0 ≡ false
+  pub handle : h ≡ record { kind = kind; index = top_index (book_of r kind).free; serial = r.next_serial; info = info }
+
+pub made_by : (k : Kind) (info : Info) (c : Content) (r : Resources) (h : Handle) → (lacks_index r k).0 ≡ false → (lacks_serial r).0 ≡ false → (make k info c r).made ≡ Some h → IsMake r (make k info c r) h
+made_by k info c r h some serial m = record { kind = k; info = info; content = c; is = refl; some = some; serial = serial; handle = sym (same_Some _ _ m) }
+
+module _ (r : Resources) (h : Handle) where
+  pub make_layout : (l : Layout) → refusal_of r (create_layout l) ≡ None → (effect r (create_layout l)).made ≡ Some h → IsMake r (effect r (create_layout l)) h
+  make_layout l e m = let p = all_passed (refusals r (create_layout l)) e in made_by layout_kind plain (layout_content l) r h p.0 p.1.0 m
+
+  pub make_vertices : (l : Handle) (bytes : List ℕ) → refusal_of r (create_vertex_buffer l bytes) ≡ None → (effect r (create_vertex_buffer l bytes)).made ≡ Some h → IsMake r (effect r (create_vertex_buffer l bytes)) h
+  make_vertices l bytes e m = let p = all_passed (refusals r (create_vertex_buffer l bytes)) e in made_by vertex_buffer_kind plain (vertex_content (layout_of_handle r l) bytes) r h p.1.1.1.0 p.1.1.1.1.0 m
+
+  pub make_indices : (bytes : List ℕ) → refusal_of r (create_index_buffer bytes) ≡ None → (effect r (create_index_buffer bytes)).made ≡ Some h → IsMake r (effect r (create_index_buffer bytes)) h
+  make_indices bytes e m = let p = all_passed (refusals r (create_index_buffer bytes)) e in made_by index_buffer_kind plain (index_content bytes) r h p.1.0 p.1.1.0 m
+
+  pub make_texture : (width height : ℕ) (f : Format) (d : Bool) (source : TexelSource) → refusal_of r (create_texture width height f d source) ≡ None → (effect r (create_texture width height f d source)).made ≡ Some h
+      → IsMake r (effect r (create_texture width height f d source)) h
+  make_texture width height f d source e m = let p = all_passed (refusals r (create_texture width height f d source)) e in
+      made_by texture_kind (texture_info f d width height) (texture_content f (texels_from width height source)) r h p.1.0 p.1.1.1.0 m
+
+  pub make_target : (color : Handle) (depth : Option Handle) → refusal_of r (create_frame_buffer color depth) ≡ None → (effect r (create_frame_buffer color depth)).made ≡ Some h → IsMake r (effect r (create_frame_buffer color depth)) h
+  make_target color None e m = let p = all_passed (refusals r (create_frame_buffer color None)) e in made_by frame_buffer_kind plain (frame_buffer_content color.serial None) r h p.1.1.0 p.1.1.1.0 m
+  make_target color (Some d) e m = let p = all_passed (refusals r (create_frame_buffer color (Some d))) e in made_by frame_buffer_kind plain (frame_buffer_content color.serial (Some d.serial)) r h p.1.1.1.0 p.1.1.1.1.0 m
+
+  pub make_program : (k : ProgramKind) → refusal_of r (create_program k) ≡ None → (effect r (create_program k)).made ≡ Some h → IsMake r (effect r (create_program k)) h
+  make_program k e m = let p = all_passed (refusals r (create_program k)) e in made_by program_kind plain (program_content k) r h p.0 p.1.0 m
+
+module _ {r : Resources} {e : Effect} {h : Handle} (m : IsMake r e h) where
+  place_is : place_of_handle h ≡ first_place m.kind + top_index (book_of r m.kind).free
+  place_is = ap place_of_handle m.handle
+
+  pub place_was_free : (seat : SeatView) → IsLawful r → IsTied r seat → place_at seat.places (place_of_handle h) ≡ free
+  place_was_free seat l t = ap (place_at seat.places) place_is ∙ free_before m.kind r l m.some m.serial seat t
+
+  pub serial_is_new : (seat : SeatView) → IsTied r seat → seat.greatest < h.serial
+  serial_is_new seat t = subst (λ (n : ℕ). seat.greatest < n) (sym (ap (λ (g : Handle). g.serial) m.handle)) t.older
+
+  tied_after : (seat : SeatView) → IsLawful r → IsTied r seat → IsTied (bare_of e.after) (created (place_of_handle h) h.serial seat)
+  tied_after seat l t = subst (λ (p : Resources × SeatView). IsTied p.0 p.1)
+      (λ j. (bare_of (sym m.is j).after, created (sym place_is j) (sym (ap (λ (g : Handle). g.serial) m.handle) j) seat))
+      (tied_made m.kind r l m.some m.serial seat t m.info m.content)
+
+-- a create of a new thing
+pub kept_made : {L : Type 0} (admits : ℕ → ℕ → List Item → ℕ → Type 0) (views : ℕ) (v : ContextView L) (c : ResourceCall) (h : Handle) → IsContext admits views v → IsLawful v.book.resources → IsMake v.book.resources (effect v.book.resources c) h
+    → IsContext admits views (record v { book = after_in c (Some h) v.book; seat = created (place_of_handle h) h.serial v.seat })
+kept_made admits views v c h k l m =
+    let same = same_after v.book.resources c in
+    kept_moved admits views v k (after_in c (Some h) v.book) (Rattle.std.proofs.Common.slice_set v.seat.places (place_of_handle h) (Rattle.schedule_model.specs.Machine.live h.serial)) h.serial
+    (λ n le. stays_unnamed v.seat.places (place_of_handle h) (Rattle.schedule_model.specs.Machine.live h.serial) n (free_unnamed n (place_at v.seat.places (place_of_handle h)) (place_was_free m v.seat l k.tied)))
+    (tied_after m v.seat l k.tied) same.0 same.1
+
+module _ {L : Type 0} {admits : ℕ → ℕ → List Item → ℕ → Type 0} {views : ℕ} {v : ContextView L} (k : IsContext admits views v) (l : IsLawful v.book.resources) (c : ResourceCall) {h : Handle} (m : IsMake v.book.resources (effect v.book.resources c) h)
+    (b : BookView) (s : SeatView) (book : b ≡ after_in c (Some h) v.book) (seat : s ≡ created (place_of_handle h) h.serial v.seat) where
+  pub kept_after : IsContext admits views (record v { book = b; seat = s })
+  kept_after = subst (λ (p : BookView × SeatView). IsContext admits views (record v { book = p.0; seat = p.1 })) (λ j. (sym book j, sym seat j)) (kept_made admits views v c h k l m)
+
+  makes_here : refusal_of v.book.resources c ≡ None → (effect v.book.resources c).made ≡ Some h → Makes c h v (record v { book = b; seat = s })
+  makes_here accepted made = record {
+    accepted = accepted;
+    made = made;
+    placed = subst (λ (e : Effect). IsPlacedBy e.changes h v.seat s) (sym m.is) (place_was_free m v.seat l k.tied, seat);
+    after = (λ j. record v { book = book j; seat = s });
+  }
+
+  pub makes_after : refusal_of v.book.resources c ≡ None → (effect v.book.resources c).made ≡ Some h → (old : ContextView L) → v ≡ old → Makes c h old (record v { book = b; seat = s })
+  makes_after accepted made old e = subst (λ (o : ContextView L). Makes c h o (record v { book = b; seat = s })) e (makes_here accepted made)

@@ -1,0 +1,123 @@
+-- The end of a frame, from its parts.
+use Rattle.std.proofs.Common.{◌≡◌, ℕ, suc, ◌+◌, ◌-◌, ◌<◌, ◌≤◌, ◌==◌, nat_le, Bool, true, false, ◌||◌, List, [], ◌∷◌, ◌++◌, map, length, Option, Some, None, MatchOption, if◌then◌else◌, refl, sym, ap, ◌∙◌, subst, arith, eq-eqb, ne_eqb}
+use Rattle.std.proofs.lemmas.Bool.{false_from_ne_true, leb-true}
+use Rattle.gfx_model.specs.Frames.{collected}
+use Rattle.gfx_model.specs.Resources as model
+use Rattle.gfx_model.specs.FrameCalls.{greatest_frame, end_frame, frame_refusal, frame_effect, backs_at_end, is_given, given, ended}
+use Rattle.resource_book.specs.Written.{BookView}
+use Rattle.resource_book.specs.Works.{with_nothing_written}
+use Rattle.frame_record.specs.declared.frame.RenderedFrame.{RenderedFrame}
+use Rattle.frame_record.specs.Seen.{entry_seen, recordings_seen}
+use Rattle.resource_book.specs.Desks.{payloads_seen}
+use Rattle.gfx_context.specs.declared.report.BackNote.{BackNote}
+use Rattle.gfx_context.specs.declared.report.FrameReport.{FrameReport}
+use Rattle.gfx_context.specs.declared.ending.Prepared.{Prepared}
+use Rattle.gfx_context.specs.Gathered.{dropped_in}
+use Rattle.gfx_context.specs.States.{ContextView, state_of}
+use Rattle.gfx_context.specs.Ended.{is_shown, MakesWay, IsPrepared, GivesWork, FinishesWhere, Gives, GivesWhere, Ends, started}
+
+-- what is known of the report before a frame is given or not
+pub record IsReport {L : Type 0} (report : FrameReport) (old : ContextView L) : Type 0 where
+  pub number : report.number ≡ old.book.resources.frame
+  pub journal : map entry_seen report.journal.items ≡ collected (recordings_seen old.gathered)
+  pub dropped : report.dropped ≡ dropped_in old.gathered
+  pub given : report.given ≡ is_shown report.back
+
+-- the state before a frame is given or not
+abbrev pub made_way : {L : Type 0} → (old : ContextView L) (out : ℕ) (back : List RenderedFrame) (link : L) → ContextView L
+made_way old out back link = record old { book = with_nothing_written old.book; out = out; back = back; link = link }
+
+abbrev pub IsLess : Option BackNote → (out old : ℕ) → Type 0
+IsLess note out old = MatchOption note (out ≡ old) (λ n. out + 1 ≡ old)
+
+module _ {L : Type 0} (old : ContextView L) (out : ℕ) (back : List RenderedFrame) (link : L) where
+  backs : (note : Option BackNote) → MakesWay note old back → IsLess note out old.out → out + backs_at_end (state_of old) ≡ old.out
+  backs None w l = (let n : backs_at_end (state_of old) ≡ 0 = ap (λ (b : Bool). if b then 1 else 0) (ne_eqb old.out old.book.resources.latency (λ e. let lt = w.0 in omega arith)) in omega arith)
+  backs (Some n) w l = (let n : backs_at_end (state_of old) ≡ suc 0 = ap (λ (b : Bool). if b then 1 else 0) (eq-eqb old.out old.book.resources.latency w.0) in omega arith)
+
+  not_shown : (note : Option BackNote) → MakesWay note old back → is_shown note ≡ false → backs_at_end (state_of old) ≡ suc 0
+  not_shown None w f = absurd cc
+  not_shown (Some n) w f = ap (λ (b : Bool). if b then 1 else 0) (eq-eqb old.out old.book.resources.latency w.0)
+
+  or_true : (b : Bool) → b || true ≡ true
+  or_true true = refl
+  or_true false = refl
+
+  given_where : (note : Option BackNote) → MakesWay note old back → (b : Bool) → is_shown note ≡ b → is_given (is_shown note) (state_of old) ≡ b
+  given_where o w true s = ap (λ (b : Bool). (backs_at_end (state_of old) == 0) || b) s ∙ or_true (backs_at_end (state_of old) == 0)
+  given_where o w false s = (λ j. (not_shown o w s j == 0) || s j)
+
+  accepts : nat_le greatest_frame old.book.resources.frame ≡ false → frame_refusal (state_of old) end_frame ≡ None
+  accepts f = ap (λ (b : Bool). if b then Some model.frames_spent else None) f
+
+  module _ (report : FrameReport) (r : IsReport report old) (spent : nat_le greatest_frame old.book.resources.frame ≡ false) (way : MakesWay report.back old back) (less : IsLess report.back out old.out) where
+    pub ends_given : (p : Prepared) (new : ContextView L) → IsPrepared old.book old.gathered p → report.given ≡ true → GivesWork p.work (made_way old out back link) new → Ends report old new
+    ends_given p new prep told w =
+        let shown : is_shown report.back ≡ true = sym r.given ∙ told in
+        let is = given_where report.back way true shown in
+        let b = backs report.back way less in
+        let count : out + 1 ≡ old.out + 1 - backs_at_end (state_of old) = omega arith in
+        let same = w.same in
+        record {
+          accepted = accepts spent;
+          number = r.number;
+          journal = r.journal;
+          dropped = r.dropped;
+          back = subst (MakesWay report.back old) (sym (ap (λ (c : ContextView L). c.back) same)) way;
+          given = told ∙ sym is;
+          state = ap state_of same ∙ (λ j. record (given (state_of old)) { out = count j }) ∙ ap (λ (b : Bool). if b then given (state_of old) else ended (state_of old)) (sym is);
+          gives = subst (λ (b : Bool). GivesWhere b old new) (sym told) (record {
+            frame = w.frame;
+            given = w.given;
+            is_of = record {
+              number = w.number;
+              views = w.views ∙ prep.work.views;
+              pre = w.pre ∙ prep.work.pre;
+              post = w.post ∙ prep.work.post;
+              payloads = ap (λ x. payloads_seen x.items) w.payloads ∙ prep.work.payloads;
+              recordings = w.recordings;
+              journal = w.journal;
+              numbers = w.numbers;
+              counted = w.counted;
+            };
+            seat = w.seat;
+            same = same ∙ (λ j. record old { book = started old.book; seat = new.seat; begun = 0; gathered = []; out = sym (ap (λ (c : ContextView L). c.out) same) j; given = new.given; back = sym (ap (λ (c : ContextView L). c.back) same) j; link = new.link });
+          });
+        }
+
+    pub ends_not_given : report.given ≡ false → Ends report old (record (made_way old out back link) { is_ended = true })
+    ends_not_given told =
+        let shown : is_shown report.back ≡ false = sym r.given ∙ told in
+        let is = given_where report.back way false shown in
+        let b = backs report.back way less in
+        let count : out ≡ old.out - backs_at_end (state_of old) = omega arith in
+        record {
+          accepted = accepts spent;
+          number = r.number;
+          journal = r.journal;
+          dropped = r.dropped;
+          back = way;
+          given = told ∙ sym is;
+          state = (λ j. record (ended (state_of old)) { out = count j }) ∙ ap (λ (b : Bool). if b then given (state_of old) else ended (state_of old)) (sym is);
+          gives = subst (λ (b : Bool). GivesWhere b old (record (made_way old out back link) { is_ended = true })) (sym told) refl;
+        }
+
+-- the parts of the end of a frame: the work is taken, way is made, and the frame is given or not
+module _ {L : Type 0} (v : ContextView L) (b : BookView) (two three : ContextView L) (p : Prepared) (report : FrameReport) (r : IsReport report v) (spent : nat_le greatest_frame v.book.resources.frame ≡ false)
+    (book : b ≡ with_nothing_written v.book) (prep : IsPrepared v.book v.gathered p) (way : MakesWay report.back (record v { book = b }) two.back) (less : IsLess report.back two.out v.out)
+    (same : two ≡ record v { book = b; out = two.out; back = two.back; link = two.link }) where
+  two_is : two ≡ made_way v two.out two.back two.link
+  two_is = same ∙ (λ j. record v { book = book j; out = two.out; back = two.back; link = two.link })
+
+  way_is : MakesWay report.back v two.back
+  way_is = subst (λ (x : BookView). MakesWay report.back (record v { book = x }) two.back) book way
+
+  ends_by : (given : Bool) → report.given ≡ given → FinishesWhere given p.work two three → Ends report v three
+  ends_by true e f = ends_given v two.out two.back two.link report r spent way_is less p three prep e (subst (λ (t : ContextView L). GivesWork p.work t three) two_is f)
+  ends_by false e f = subst (Ends report v) (sym (f ∙ ap (λ (t : ContextView L). record t { is_ended = true }) two_is)) (ends_not_given v two.out two.back two.link report r spent way_is less e)
+
+  pub ends_told : FinishesWhere report.given p.work two three → (old : ContextView L) → v ≡ old → Ends report old three
+  ends_told f old e = subst (λ (o : ContextView L). Ends report o three) e (ends_by report.given refl f)
+
+pub not_spent : (number frame : ℕ) → number ≡ frame → number < 1073741823 → nat_le greatest_frame frame ≡ false
+not_spent number frame e lt = false_from_ne_true (nat_le greatest_frame frame) (λ t. absurd (let le = leb-true greatest_frame frame t in omega (arith, le, lt, e)))

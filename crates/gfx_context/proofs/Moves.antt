@@ -1,0 +1,57 @@
+-- What a context keeps where places and the state of the calls change.
+use Rattle.std.proofs.Common.{◌≡◌, ℕ, ◌+◌, ◌-◌, ◌<◌, ◌≤◌, List, refl, sym, ap, ◌∙◌, subst, arith}
+use Rattle.gfx_model.specs.Views.{view_count}
+use Rattle.gfx_model.specs.World.{Item}
+use Rattle.schedule_model.specs.Machine.{Place}
+use Rattle.hold_table.specs.Views.{SeatView}
+use Rattle.draw_encoder.specs.declared.items.Recording.{Recording}
+use Rattle.frame_record.specs.declared.frame.Frame.{Frame}
+use Rattle.frame_record.specs.declared.frame.RenderedFrame.{RenderedFrame}
+use Rattle.frame_record.specs.Links.{out_of}
+use Rattle.resource_book.specs.Written.{BookView}
+use Rattle.gfx_context.specs.Gathered.{AreGathered}
+use Rattle.gfx_context.specs.Kept.{IsTied, AreOut, IsContext}
+use Rattle.gfx_context.specs.States.{ContextView}
+use Rattle.gfx_context.specs.Places.{Stays}
+use Rattle.gfx_context.proofs.Stays.{all_stay, frames_stay}
+
+module _ (admits : ℕ → ℕ → List Item → ℕ → Type 0) (views : ℕ) where
+  pub gathered_stays : (seat : SeatView) (begun : ℕ) (rs : List Recording) (places : List Place) (greatest : ℕ) → Stays seat.frame seat.places places → AreGathered admits views seat begun rs
+      → AreGathered admits views (record seat { places = places; greatest = greatest }) begun rs
+  gathered_stays seat begun rs places greatest s g = record {
+    count = g.count;
+    once = g.once;
+    joined = g.joined;
+    numbers = g.numbers;
+    apart = g.apart;
+    most = g.most;
+    collected = all_stay admits views seat.places places seat.frame s rs g.collected;
+  }
+
+  pub out_stays : (old places : List Place) (frame out : ℕ) (given : List Frame) (back : List RenderedFrame) → ((n : ℕ) → n < frame → frame ≤ n + out → Stays n old places) → AreOut admits views old frame out given back → AreOut admits views places frame out given back
+  out_stays old places frame out given back s o = record {
+    counted = o.counted;
+    prefix = o.prefix;
+    some = o.some;
+    numbers = o.numbers;
+    names = (let le = o.some in frames_stay admits views old places (frame - out) out (λ n from below. s n (omega (arith, from, below, le)) (omega (arith, from, below, le))) (out_of given back) o.numbers o.names);
+  }
+
+  -- the places change, and what can be named stays so; the book changes, and agrees with the places
+  pub kept_moved : {L : Type 0} (v : ContextView L) → IsContext admits views v → (b : BookView) (places : List Place) (greatest : ℕ) → ((n : ℕ) → n ≤ v.seat.frame → Stays n v.seat.places places)
+      → IsTied b.resources (record v.seat { places = places; greatest = greatest }) → view_count b.resources.views ≡ view_count v.book.resources.views → b.resources.latency ≡ v.book.resources.latency
+      → IsContext admits views (record v { book = b; seat = record v.seat { places = places; greatest = greatest } })
+  kept_moved v k b places greatest s tied vs latency = record {
+    tied = tied;
+    counted = vs ∙ k.counted;
+    latency = (subst (λ (n : ℕ). 1 ≤ n) (sym latency) k.latency.0, subst (λ (n : ℕ). n ≤ 3) (sym latency) k.latency.1);
+    few = subst (λ (n : ℕ). v.out ≤ n) (sym latency) k.few;
+    encoders = k.encoders;
+    gathered = gathered_stays v.seat v.begun v.gathered places greatest (s v.seat.frame (omega arith)) k.gathered;
+    frames = out_stays v.seat.places places v.seat.frame v.out v.given v.back (λ n lt le. s n (omega (arith, lt))) k.frames;
+  }
+
+  -- the book alone changes
+  pub kept_same : {L : Type 0} (v : ContextView L) → IsContext admits views v → (b : BookView) → IsTied b.resources v.seat → view_count b.resources.views ≡ view_count v.book.resources.views
+      → b.resources.latency ≡ v.book.resources.latency → IsContext admits views (record v { book = b })
+  kept_same v k b tied vs latency = kept_moved v k b v.seat.places v.seat.greatest (λ n le h u. u) tied vs latency

@@ -1,0 +1,184 @@
+-- How a frame ends, and how a context is shut down.
+use Rattle.std.specs.Prelude.{ℕ, ◌≡◌, ◌<◌, ◌+◌, Bool, true, false, List, [], ◌∷◌, ◌++◌, map, length, Option, Some, None, Result, MatchResult, MatchOption}
+use Rattle.gfx_model.specs.World.{Item}
+use Rattle.gfx_model.specs.Frames.{collected}
+use Rattle.gfx_model.specs.Resources as model
+use Rattle.gfx_model.specs.FrameCalls.{end_frame, shut_down, frame_refusal, frame_effect, is_given}
+use Rattle.gfx_words.specs.declared.refusals.Refusal.{Refusal}
+use Rattle.gfx_words.specs.Seen.{refusal_seen}
+use Rattle.schedule_model.specs.Held.{count_of}
+use Rattle.hold_table.specs.Views.{SeatView, once_between, advanced}
+use Rattle.resource_book.specs.Desks.{payloads_seen}
+use Rattle.resource_book.specs.Written.{BookView}
+use Rattle.resource_book.specs.Works.{IsWork, with_nothing_written}
+use Rattle.resource_book.specs.declared.frames.Work.{Work}
+use Rattle.draw_encoder.specs.declared.items.Recording.{Recording}
+use Rattle.gfx_context.specs.declared.ending.Prepared.{Prepared}
+use Rattle.frame_record.specs.declared.frame.Frame.{Frame}
+use Rattle.frame_record.specs.declared.frame.RenderedFrame.{RenderedFrame}
+use Rattle.frame_record.specs.declared.frame.Outcome.{Outcome}
+use Rattle.frame_record.specs.declared.frame.Outcome.TheVariants as outcomes
+use Rattle.frame_record.specs.Kept.{numbers_in}
+use Rattle.frame_record.specs.Links.{frames_of, CameBack}
+use Rattle.frame_record.specs.Seen.{entry_seen, recordings_seen}
+use Rattle.gfx_context.specs.declared.report.BackNote.{BackNote}
+use Rattle.gfx_context.specs.declared.report.FrameReport.{FrameReport}
+use Rattle.gfx_context.specs.Gathered.{AreOfFrame, dropped_in, with_gathered}
+use Rattle.gfx_context.specs.States.{ContextView, state_of}
+
+-- ---- the bundles of a frame
+
+-- no encoder of the frame is off, the recordings are those of exactly the encoders that were begun, and nothing else changed
+pub record Collects {L : Type 0} (admits : ℕ → ℕ → List Item → ℕ → Type 0) (views : ℕ) (old new : ContextView L) : Type 0 where
+  pub none_off : new.seat.off ≡ []
+  pub recordings : AreOfFrame admits views old.seat.frame old.seat.places old.begun new.gathered
+  pub seat : new.seat ≡ with_gathered new.seat old.seat
+  pub same : new ≡ record old { seat = new.seat; gathered = new.gathered }
+
+-- ---- the end of a frame
+
+-- the number and the outcome of a frame that came back
+abbrev pub note_of : RenderedFrame → BackNote
+note_of r = record { number = r.frame.number; outcome = r.outcome }
+
+abbrev pub is_shown_outcome : Outcome → Bool
+is_shown_outcome outcomes.Shown = true
+is_shown_outcome _ = false
+
+-- whether the frame that came back was shown; where none came, nothing was not
+abbrev pub is_shown : Option BackNote → Bool
+is_shown None = true
+is_shown (Some n) = is_shown_outcome n.outcome
+
+-- the oldest frame that was out came back, and the note is of it
+pub record IsBack (n : BackNote) (given : List Frame) (old new : List RenderedFrame) : Type 0 where
+  pub rendered : RenderedFrame
+  pub note : n ≡ note_of rendered
+  pub oldest : CameBack given old new rendered
+
+-- the oldest frame that was out came back exactly where as many were out as may be, and the note is of it
+abbrev pub MakesWay : {L : Type 0} → Option BackNote → ContextView L → (back : List RenderedFrame) → Type 0
+MakesWay note old back =
+    MatchOption note
+    ((old.out < old.book.resources.latency) × (back ≡ old.back))
+    (λ n. (old.out ≡ old.book.resources.latency) × IsBack n old.given old.back back)
+
+-- a frame is what was written, the views, what was recorded with its journal, and the frame's number; the numbers of its items are
+-- those from the frame's first to below a next one, each once
+pub record IsFrameOf {L : Type 0} (old : ContextView L) (next : ℕ) (f : Frame) : Type 0 where
+  pub number : f.number ≡ old.book.resources.frame
+  pub views : f.views ≡ old.book.resources.views
+  pub pre : f.pre ≡ old.book.pre
+  pub post : f.post ≡ old.book.post
+  pub payloads : payloads_seen f.payloads.items ≡ old.book.payloads
+  pub recordings : f.recordings.items ≡ old.gathered
+  pub journal : map entry_seen f.journal.items ≡ collected (recordings_seen old.gathered)
+  pub numbers : (n : ℕ) → count_of n (numbers_in old.gathered) ≡ once_between old.seat.base next n
+  pub counted : old.seat.base + length (numbers_in old.gathered) ≡ next
+
+-- what the end of a frame needs memory for: what was written, and the journal of what was gathered twice
+pub record IsPrepared (b : BookView) (gathered : List Recording) (p : Prepared) : Type 0 where
+  pub work : IsWork b p.work
+  pub journal : map entry_seen p.journal.items ≡ collected (recordings_seen gathered)
+  pub told : map entry_seen p.told.items ≡ collected (recordings_seen gathered)
+  pub room : p.room.items ≡ []
+
+-- the frame is given with work that was taken before, and the next one starts
+pub record GivesWork {L : Type 0} (work : Work) (old new : ContextView L) : Type 0 where
+  pub frame : Frame
+  pub given : new.given ≡ old.given ++ frame ∷ []
+  pub number : frame.number ≡ old.book.resources.frame
+  pub views : frame.views ≡ work.views
+  pub pre : frame.pre ≡ work.pre
+  pub post : frame.post ≡ work.post
+  pub payloads : frame.payloads ≡ work.payloads
+  pub recordings : frame.recordings.items ≡ old.gathered
+  pub journal : map entry_seen frame.journal.items ≡ collected (recordings_seen old.gathered)
+  pub numbers : (n : ℕ) → count_of n (numbers_in old.gathered) ≡ once_between old.seat.base new.seat.base n
+  pub counted : old.seat.base + length (numbers_in old.gathered) ≡ new.seat.base
+  pub seat : new.seat ≡ record (advanced new.seat.base old.seat) { places = new.seat.places }
+  pub same : new ≡ record old {
+    book = record old.book { resources = model.start_frame (old.book.resources.frame + 1) old.book.resources };
+    seat = new.seat;
+    begun = 0;
+    gathered = [];
+    out = old.out + 1;
+    given = new.given;
+    link = new.link;
+  }
+
+-- the frame is given, or the context is ended
+abbrev pub FinishesWhere : {L : Type 0} → Bool → Work → (old new : ContextView L) → Type 0
+FinishesWhere true work old new = GivesWork work old new
+FinishesWhere false work old new = new ≡ record old { is_ended = true }
+
+-- the state of the calls at the start of the next frame
+abbrev pub started : BookView → BookView
+started b = record { resources = model.start_frame (b.resources.frame + 1) b.resources; pre = []; post = []; payloads = [] }
+
+-- the frame is given, and the next one starts with nothing written, begun or gathered
+pub record Gives {L : Type 0} (old new : ContextView L) : Type 0 where
+  pub frame : Frame
+  pub given : new.given ≡ old.given ++ frame ∷ []
+  pub is_of : IsFrameOf old new.seat.base frame
+  pub seat : new.seat ≡ record (advanced new.seat.base old.seat) { places = new.seat.places }
+  pub same : new ≡ record old { book = started old.book; seat = new.seat; begun = 0; gathered = []; out = new.out; given = new.given; back = new.back; link = new.link }
+
+-- the frame is given, or what was written is given up and the context is ended
+abbrev pub GivesWhere : {L : Type 0} → Bool → (old new : ContextView L) → Type 0
+GivesWhere true old new = Gives old new
+GivesWhere false old new = new ≡ record old { book = with_nothing_written old.book; out = new.out; back = new.back; link = new.link; is_ended = true }
+
+-- the end of a frame is the definition's by whether the frame that came back was shown, and the report tells of it
+pub record Ends {L : Type 0} (report : FrameReport) (old new : ContextView L) : Type 0 where
+  pub accepted : frame_refusal (state_of old) end_frame ≡ None
+  pub number : report.number ≡ old.book.resources.frame
+  pub journal : map entry_seen report.journal.items ≡ collected (recordings_seen old.gathered)
+  pub dropped : report.dropped ≡ dropped_in old.gathered
+  pub back : MakesWay report.back old new.back
+  pub given : report.given ≡ is_given (is_shown report.back) (state_of old)
+  pub state : state_of new ≡ (frame_effect (is_shown report.back) (state_of old) end_frame).after
+  pub gives : GivesWhere report.given old new
+
+-- the end of a frame whose bundles are collected; a refused one changes nothing. Memory is wanting only where no test refuses; then the context is ended,
+-- and nothing else changes
+abbrev pub IsEnd : {L : Type 0} → Result FrameReport Refusal → (old new : ContextView L) → Type 0
+IsEnd result old new =
+    MatchResult result
+    (λ report. Ends report old new)
+    (λ r. MatchOption (refusal_seen r)
+    ((frame_refusal (state_of old) end_frame ≡ None) × (new ≡ record old { is_ended = true }))
+    (λ x. (frame_refusal (state_of old) end_frame ≡ Some x) × (new ≡ old)))
+
+-- the bundles are collected, and then the frame ends
+pub record CollectsAndEnds {L : Type 0} (admits : ℕ → ℕ → List Item → ℕ → Type 0) (views : ℕ) (result : Result FrameReport Refusal) (old new : ContextView L) : Type 0 where
+  pub collected : ContextView L
+  pub collects : Collects admits views old collected
+  pub ends : IsEnd result collected new
+
+-- ---- shutting down
+
+-- the oldest frame that is out comes back, if one is out
+abbrev pub TakesNext : {L : Type 0} → Option BackNote → (old new : ContextView L) → Type 0
+TakesNext note old new =
+    MatchOption note
+    ((old.out ≡ 0) × (new ≡ old))
+    (λ n. IsBack n old.given old.back new.back × (new.out + 1 ≡ old.out) × (new ≡ record old { out = new.out; back = new.back; link = new.link }))
+
+-- the notes of frames that came back, the oldest first, in three places
+abbrev pub notes_of : List RenderedFrame → List (Option BackNote)
+notes_of [] = None ∷ None ∷ None ∷ []
+notes_of (a ∷ []) = Some (note_of a) ∷ None ∷ None ∷ []
+notes_of (a ∷ b ∷ []) = Some (note_of a) ∷ Some (note_of b) ∷ None ∷ []
+notes_of (a ∷ b ∷ c ∷ rest) = Some (note_of a) ∷ Some (note_of b) ∷ Some (note_of c) ∷ []
+
+-- all frames that were out came back, in the order in which they were given, and the notes are of them; no encoder is off
+pub record Closes {L : Type 0} (old : ContextView L) (given : List Frame) (back : List RenderedFrame) (seat : SeatView) (notes : List (Option BackNote)) : Type 0 where
+  pub came : List RenderedFrame
+  pub given_is : given ≡ old.given
+  pub back_is : back ≡ old.back ++ came
+  pub many : length came ≡ (frame_effect true (state_of old) shut_down).backs
+  pub unchanged : given ≡ frames_of back
+  pub notes_are : notes ≡ notes_of came
+  pub none_off : seat.off ≡ []
+  pub seat_is : seat ≡ with_gathered seat old.seat

@@ -1,0 +1,25 @@
+-- A context as the definitions see it.
+use Rattle.std.specs.Prelude.{ℕ, Bool, List}
+use Rattle.gfx_model.specs.FrameCalls.{CallState}
+use Rattle.hold_table.specs.Views.{SeatView}
+use Rattle.draw_encoder.specs.declared.items.Recording.{Recording}
+use Rattle.resource_book.specs.Written.{BookView}
+use Rattle.frame_record.specs.declared.frame.Frame.{Frame}
+use Rattle.frame_record.specs.declared.frame.RenderedFrame.{RenderedFrame}
+
+-- the state of the calls without contents and what they wrote in this frame, what the seat knows, how many encoders were begun in this frame, the recordings
+-- that were collected in it, how many frames are out, whether the context is ended, the frames that were given and that came back, and the link
+pub record ContextView (L : Type 0) : Type 0 where
+  pub book : BookView
+  pub seat : SeatView
+  pub begun : ℕ
+  pub gathered : List Recording
+  pub out : ℕ
+  pub is_ended : Bool
+  pub given : List Frame
+  pub back : List RenderedFrame
+  pub link : L
+
+-- the state of the definition, without contents
+abbrev pub state_of : {L : Type 0} → ContextView L → CallState
+state_of v = record { resources = v.book.resources; encoders = v.begun; out = v.out; is_ended = v.is_ended }
