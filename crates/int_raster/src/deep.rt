@@ -12,7 +12,7 @@ ghost use Rattle.int_raster.specs.Seen.{paint_seen, prepared_seen, step_seen, ch
 
 use crate::colors::triangle_colors;
 use crate::columns::{drawn_columns, drawn_rows, meets};
-use crate::deep_spans::{fill, mix, step, step_exactly, store, store_shade};
+use crate::deep_spans::{fill, step, step_exactly, store, store_shade};
 use crate::lists::Prepared;
 use crate::opaque::{Mix, Rule, rule_of};
 use crate::painters::{Brush, Painter, brush_of, is_opaque, painter_of};
@@ -20,8 +20,40 @@ use crate::painting::stencil_of;
 use crate::pieces::paint_piece;
 use crate::rows::Rows;
 use crate::spans::Span;
+use crate::stores::{Laid, Opaque};
 use pixel_ops::Blending;
 use tri_cover::{Ramp, Setup, WideRamp};
+
+/// Blends or masks painted colours in a piece, with their depths.
+fn store_mixed(
+    colors: &mut [[u8; 4]],
+    depths: &mut [[u8; 4]],
+    span: &Span,
+    paints: &[[u8; 4]],
+    depth: &WideRamp,
+    mixing: &Mix,
+    setup: &Setup,
+    draw: &Prepared,
+)
+    requires inside { span.now.start + span.now.after ≤ length colors.old }
+    requires same { length depths.old ≡ length colors.old }
+    requires room { span.now.after ≤ span.now.first + length paints.now }
+    requires paints { HoldsPiece paints.now (λ x. painted (paint_seen draw.now.paint) (fragment_at (setup_seen setup.now).triangle x span.now.y)) span.now.first span.now.after }
+    requires depths { HasWideSpanDepths depth.now setup.now span.now.y span.now.first span.now.after }
+    requires mixing { IsMix mixing.now draw.now setup.now }
+    ensures { deep_pixels colors.new depths.new ≡ map_from (spanned (in_row span.now.start span.now.y (step_seen draw.now setup.now)) (span.now.start + span.now.first) (span.now.start + span.now.after)) 0 (deep_pixels colors.old depths.old) }
+{
+    let (rule, blending) = (&mixing.rule, &mixing.blending);
+    if blending.lays_over() {
+        store(
+            colors, depths, span, paints, depth, rule, &Laid, setup, draw,
+        );
+    } else {
+        store(
+            colors, depths, span, paints, depth, rule, blending, setup, draw,
+        );
+    }
+}
 
 /// Stores, blends or steps painted colours in a piece, with their depths.
 fn store_piece(
@@ -45,9 +77,11 @@ fn store_piece(
     ensures { deep_pixels colors.new depths.new ≡ map_from (spanned (in_row span.now.start span.now.y (step_seen draw.now setup.now)) (span.now.start + span.now.first) (span.now.start + span.now.after)) 0 (deep_pixels colors.old depths.old) }
 {
     match rule {
-        Some(rule) => store(colors, depths, span, paints, depth, rule, setup, draw),
+        Some(rule) => store(
+            colors, depths, span, paints, depth, rule, &Opaque, setup, draw,
+        ),
         None => match mixing {
-            Some(mixing) => mix(colors, depths, span, paints, depth, mixing, setup, draw),
+            Some(mixing) => store_mixed(colors, depths, span, paints, depth, mixing, setup, draw),
             None => step(colors, depths, span, paints, depth, setup, draw),
         },
     }
