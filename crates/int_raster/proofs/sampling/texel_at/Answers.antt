@@ -1,4 +1,4 @@
-use Rattle.std.proofs.Common.{◌≡◌, ◌<◌, ◌*◌, ◌+◌, length, [], arith, sym}
+use Rattle.std.proofs.Common.{◌<◌, ◌*◌, ◌+◌, length, [], arith, sym}
 use Rattle.std.proofs.lemmas.List.{get_or_default}
 use Rattle.std.proofs.lemmas.Nat.{mul-add-lt}
 use Rattle.gfx_model.specs.Raster as model
