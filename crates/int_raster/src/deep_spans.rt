@@ -6,11 +6,11 @@ ghost use Rattle.gfx_model.specs.World.{painted};
 ghost use Rattle.tri_cover.specs.Shown.{setup_seen};
 ghost use Rattle.int_raster.specs.Places.{deep_pixels, spanned, in_row};
 ghost use Rattle.int_raster.specs.Painted.{shade_at, HoldsPiece, HasSpanDepths, HasWideSpanDepths};
-ghost use Rattle.int_raster.specs.Rules.{IsPlain, IsRule};
+ghost use Rattle.int_raster.specs.Rules.{IsLevel, IsPlain, IsRule};
 ghost use Rattle.int_raster.specs.Seen.{facing_seen, paint_seen, step_seen};
 
 use crate::lists::Prepared;
-use crate::opaque::{Rule, stored_after};
+use crate::opaque::{Level, Rule, stored_after};
 use crate::painters::{Shade, value_at, wide_value_at};
 use crate::painting::{stencil_of, stepped, stepped_by};
 use crate::spans::Span;
@@ -107,6 +107,33 @@ pub(crate) fn step(
         colors[start + x as usize] = painted;
         depths[start + x as usize] = depth_texel(&after);
         new = new.wrapping_add(depth.right);
+    }
+}
+
+/// Stores one colour at one depth in a span where it passes.
+pub(crate) fn store_level(
+    colors: &mut [[u8; 4]],
+    depths: &mut [[u8; 4]],
+    span: &Span,
+    level: &Level,
+    setup: &Setup,
+    draw: &Prepared,
+)
+    requires inside { span.now.start + span.now.after ≤ length colors.old }
+    requires same { length depths.old ≡ length colors.old }
+    requires covered { (x : ℕ) → span.now.first ≤ x → x < span.now.after → covers (setup_seen setup.now).triangle x span.now.y ≡ true }
+    requires level { IsLevel level.now draw.now setup.now }
+    ensures { deep_pixels colors.new depths.new ≡ map_from (spanned (in_row span.now.start span.now.y (step_seen draw.now setup.now)) (span.now.start + span.now.first) (span.now.start + span.now.after)) 0 (deep_pixels colors.old depths.old) }
+{
+    let start = span.start;
+    let level = *level;
+    for x in span.first..span.after {
+        let old = colors[start + x as usize];
+        let word = depth_word(depths[start + x as usize]);
+        let after = stored_after(old, word, level.color, level.depth, &level.rule, &Opaque);
+        let painted = after.color;
+        colors[start + x as usize] = painted;
+        depths[start + x as usize] = word_texel(after.word);
     }
 }
 

@@ -30,6 +30,14 @@ pub(crate) struct Mix {
     pub blending: Blending,
 }
 
+/// A triangle of one colour and one depth that is stored as it is painted, where its depth test passes.
+#[derive(Clone, Copy)]
+pub(crate) struct Level {
+    pub color: [u8; 4],
+    pub depth: u32,
+    pub rule: Rule,
+}
+
 pub(crate) fn rule_of(state: &StateWord) -> Rule
     ensures { IsRule result state.now }
 {
