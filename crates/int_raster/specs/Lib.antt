@@ -6,3 +6,4 @@ pub mod Rules
 pub mod Bands
 pub mod Listing
 pub mod Cuts
+pub mod Sampled

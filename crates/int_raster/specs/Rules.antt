@@ -1,16 +1,20 @@
 -- The depth test of a state word by the order of two depths.
-use Rattle.std.specs.Prelude.{◌≡◌, ℕ, ◌==◌, nat_lt, Bool, true, false, if◌then◌else◌}
+use Rattle.std.specs.Prelude.{◌≡◌, ◌≤◌, ℕ, ◌==◌, nat_lt, Bool, true, false, if◌then◌else◌}
 use Rattle.gfx_model.specs.Words.{depth_test_of, writes_depth}
 use Rattle.gfx_model.specs.Pixel.{passes_depth}
 use Rattle.tri_cover.specs.declared.triangles.Setup.{Setup}
 use Rattle.int_raster.specs.declared.lists.Prepared.{Prepared}
-use Rattle.int_raster.specs.Seen.{facing_seen, step_seen, color_seen}
+use Rattle.gfx_model.specs.Raster.{covers, fragment_at}
+use Rattle.gfx_model.specs.World.{painted}
+use Rattle.tri_cover.specs.Shown.{setup_seen}
+use Rattle.int_raster.specs.Seen.{paint_seen, facing_seen, step_seen, color_seen}
 use Rattle.gfx_model.specs.Vertex.{Color}
 use Rattle.int_raster.specs.Places.{deep_pixel}
 use Rattle.int_raster.specs.Painted.{IsOpaque}
 use Rattle.pixel_ops.specs.Blended.{IsBlending}
 use Rattle.int_raster.specs.declared.opaque.Rule.{Rule}
 use Rattle.int_raster.specs.declared.opaque.Mix.{Mix}
+use Rattle.int_raster.specs.declared.opaque.Level.{Level}
 
 abbrev pub by_order : Rule → ℕ → ℕ → Bool
 by_order r new stored = if nat_lt new stored then r.less else (if new == stored then r.equal else r.greater)
@@ -41,3 +45,10 @@ pub record IsMix (m : Mix) (d : Prepared) (s : Setup) : Type 0 where
 -- a triangle changes colours alone, whatever the depths are
 abbrev pub IsFree : Prepared → Setup → Type 0
 IsFree d s = (x y : ℕ) (c z : Color) → deep_pixel (color_seen d s x y c) z ≡ step_seen d s x y (deep_pixel c z)
+
+-- all covered pixels of a triangle without a stencil word have this colour and this depth, and are stored as painted
+pub record IsLevel (l : Level) (d : Prepared) (s : Setup) : Type 0 where
+  pub plain : IsPlain l.rule d s
+  pub few : l.depth ≤ 16777215
+  pub paints : (x y : ℕ) → covers (setup_seen s).triangle x y ≡ true → l.color ≡ painted (paint_seen d.paint) (fragment_at (setup_seen s).triangle x y)
+  pub depths : (x y : ℕ) → covers (setup_seen s).triangle x y ≡ true → l.depth ≡ (fragment_at (setup_seen s).triangle x y).depth

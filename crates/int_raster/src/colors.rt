@@ -16,6 +16,7 @@ use crate::painting::stepped;
 use crate::pieces::paint_piece;
 use crate::rows::Rows;
 use crate::spans::Span;
+use crate::stores::{Laid, Opaque, Store};
 use pixel_ops::{Blending, Pixel};
 use tri_cover::Setup;
 
@@ -72,37 +73,24 @@ fn store_shade(colors: &mut [[u8; 4]], span: &Span, shade: &Shade, setup: &Setup
 }
 
 /// Stores painted colours in a piece.
-fn store(colors: &mut [[u8; 4]], span: &Span, paints: &[[u8; 4]], setup: &Setup, draw: &Prepared)
-    requires inside { span.now.start + span.now.after ≤ length colors.old }
-    requires room { span.now.after ≤ span.now.first + length paints.now }
-    requires opaque { IsOpaque draw.now.state }
-    requires paints { HoldsPiece paints.now (λ x. painted (paint_seen draw.now.paint) (fragment_at (setup_seen setup.now).triangle x span.now.y)) span.now.first span.now.after }
-    ensures { colors.new ≡ map_from (spanned (in_row span.now.start span.now.y (color_seen draw.now setup.now)) (span.now.start + span.now.first) (span.now.start + span.now.after)) 0 colors.old }
-{
-    for x in span.first..span.after {
-        colors[span.start + x as usize] = whole(paints[(x - span.first) as usize]);
-    }
-}
-
-/// Blends or masks painted colours in a piece.
-fn mix(
+fn store<S: Store>(
     colors: &mut [[u8; 4]],
     span: &Span,
     paints: &[[u8; 4]],
-    blending: &Blending,
+    store: &S,
     setup: &Setup,
     draw: &Prepared,
 )
     requires inside { span.now.start + span.now.after ≤ length colors.old }
     requires room { span.now.after ≤ span.now.first + length paints.now }
-    requires blending { IsBlending blending.now draw.now.state }
+    requires store { S.meets store.now draw.now.state }
     requires paints { HoldsPiece paints.now (λ x. painted (paint_seen draw.now.paint) (fragment_at (setup_seen setup.now).triangle x span.now.y)) span.now.first span.now.after }
     ensures { colors.new ≡ map_from (spanned (in_row span.now.start span.now.y (color_seen draw.now setup.now)) (span.now.start + span.now.first) (span.now.start + span.now.after)) 0 colors.old }
 {
     for x in span.first..span.after {
         let old = colors[span.start + x as usize];
         let color = paints[(x - span.first) as usize];
-        colors[span.start + x as usize] = blending.stored(color, old);
+        colors[span.start + x as usize] = store.stored_over(color, old);
     }
 }
 
@@ -124,9 +112,11 @@ fn store_piece(
     ensures { colors.new ≡ map_from (spanned (in_row span.now.start span.now.y (color_seen draw.now setup.now)) (span.now.start + span.now.first) (span.now.start + span.now.after)) 0 colors.old }
 {
     if opaque {
-        store(colors, span, paints, setup, draw);
+        store(colors, span, paints, &Opaque, setup, draw);
+    } else if blending.lays_over() {
+        store(colors, span, paints, &Laid, setup, draw);
     } else {
-        mix(colors, span, paints, blending, setup, draw);
+        store(colors, span, paints, blending, setup, draw);
     }
 }
 

@@ -6,22 +6,54 @@ ghost use Rattle.gfx_model.specs.World.{painted};
 ghost use Rattle.tri_cover.specs.Shown.{setup_seen};
 ghost use Rattle.int_raster.specs.Drawing.{prepared_step};
 ghost use Rattle.int_raster.specs.Places.{deep_pixels, spanned, by_place, below, in_row};
-ghost use Rattle.int_raster.specs.Painted.{PaintsSpan, HoldsPiece, HasSpanDepths, HasWideSpanDepths};
-ghost use Rattle.int_raster.specs.Rules.{IsPlain, IsMix, IsOver, IsFree};
+ghost use Rattle.int_raster.specs.Painted.{PaintsSpan, Paints, HoldsPiece, HasDepths, HasWideDepths, HasSpanDepths, HasWideSpanDepths};
+ghost use Rattle.int_raster.specs.Rules.{IsPlain, IsMix, IsLevel, IsOver, IsFree};
 ghost use Rattle.int_raster.specs.Seen.{paint_seen, prepared_seen, step_seen, change_seen};
 
 use crate::colors::triangle_colors;
 use crate::columns::{drawn_columns, drawn_rows, meets};
-use crate::deep_spans::{fill, mix, step, step_exactly, store, store_shade};
+use crate::deep_spans::{fill, step, step_exactly, store, store_level, store_shade};
 use crate::lists::Prepared;
-use crate::opaque::{Mix, Rule, rule_of};
-use crate::painters::{Brush, Painter, brush_of, is_opaque, painter_of};
+use crate::opaque::{Level, Mix, Rule, rule_of};
+use crate::painters::{Brush, Painter, brush_of, is_opaque, one_color, one_depth, painter_of};
 use crate::painting::stencil_of;
 use crate::pieces::paint_piece;
 use crate::rows::Rows;
 use crate::spans::Span;
+use crate::stores::{Laid, Opaque};
 use pixel_ops::Blending;
 use tri_cover::{Ramp, Setup, WideRamp};
+
+/// Blends or masks painted colours in a piece, with their depths.
+fn store_mixed(
+    colors: &mut [[u8; 4]],
+    depths: &mut [[u8; 4]],
+    span: &Span,
+    paints: &[[u8; 4]],
+    depth: &WideRamp,
+    mixing: &Mix,
+    setup: &Setup,
+    draw: &Prepared,
+)
+    requires inside { span.now.start + span.now.after ≤ length colors.old }
+    requires same { length depths.old ≡ length colors.old }
+    requires room { span.now.after ≤ span.now.first + length paints.now }
+    requires paints { HoldsPiece paints.now (λ x. painted (paint_seen draw.now.paint) (fragment_at (setup_seen setup.now).triangle x span.now.y)) span.now.first span.now.after }
+    requires depths { HasWideSpanDepths depth.now setup.now span.now.y span.now.first span.now.after }
+    requires mixing { IsMix mixing.now draw.now setup.now }
+    ensures { deep_pixels colors.new depths.new ≡ map_from (spanned (in_row span.now.start span.now.y (step_seen draw.now setup.now)) (span.now.start + span.now.first) (span.now.start + span.now.after)) 0 (deep_pixels colors.old depths.old) }
+{
+    let (rule, blending) = (&mixing.rule, &mixing.blending);
+    if blending.lays_over() {
+        store(
+            colors, depths, span, paints, depth, rule, &Laid, setup, draw,
+        );
+    } else {
+        store(
+            colors, depths, span, paints, depth, rule, blending, setup, draw,
+        );
+    }
+}
 
 /// Stores, blends or steps painted colours in a piece, with their depths.
 fn store_piece(
@@ -45,9 +77,11 @@ fn store_piece(
     ensures { deep_pixels colors.new depths.new ≡ map_from (spanned (in_row span.now.start span.now.y (step_seen draw.now setup.now)) (span.now.start + span.now.first) (span.now.start + span.now.after)) 0 (deep_pixels colors.old depths.old) }
 {
     match rule {
-        Some(rule) => store(colors, depths, span, paints, depth, rule, setup, draw),
+        Some(rule) => store(
+            colors, depths, span, paints, depth, rule, &Opaque, setup, draw,
+        ),
         None => match mixing {
-            Some(mixing) => mix(colors, depths, span, paints, depth, mixing, setup, draw),
+            Some(mixing) => store_mixed(colors, depths, span, paints, depth, mixing, setup, draw),
             None => step(colors, depths, span, paints, depth, setup, draw),
         },
     }
@@ -155,11 +189,12 @@ fn paint(
     }
 }
 
-/// Draws a span that a triangle covers, with a brush where there is one.
+/// Draws a span that a triangle covers: where it is level, or with a brush where there is one.
 fn draw_span(
     colors: &mut [[u8; 4]],
     depths: &mut [[u8; 4]],
     span: &Span,
+    level: &Option<Level>,
     brush: &Option<Brush>,
     rule: &Option<Rule>,
     mixing: &Option<Mix>,
@@ -169,6 +204,7 @@ fn draw_span(
     requires inside { span.now.start + span.now.after ≤ length colors.old }
     requires same { length depths.old ≡ length colors.old }
     requires covered { (x : ℕ) → span.now.first ≤ x → x < span.now.after → covers (setup_seen setup.now).triangle x span.now.y ≡ true }
+    requires level { IfSome level.now (λ l. IsLevel l draw.now setup.now) }
     requires paints { IfSome brush.now (λ b. PaintsSpan b.painter draw.now setup.now span.now.y span.now.first span.now.after) }
     requires depths { IfSome brush.now (λ b. HasWideSpanDepths b.depth setup.now span.now.y span.now.first span.now.after) }
     requires short { IfSome brush.now (λ b. IfSome b.short (λ r. HasSpanDepths r setup.now span.now.y span.now.first span.now.after)) }
@@ -176,6 +212,10 @@ fn draw_span(
     requires mixing { IfSome mixing.now (λ m. IsMix m draw.now setup.now) }
     ensures { deep_pixels colors.new depths.new ≡ map_from (spanned (in_row span.now.start span.now.y (step_seen draw.now setup.now)) (span.now.start + span.now.first) (span.now.start + span.now.after)) 0 (deep_pixels colors.old depths.old) }
 {
+    if let Some(level) = level {
+        store_level(colors, depths, span, level, setup, draw);
+        return;
+    }
     match brush {
         Some(brush) => paint(colors, depths, span, brush, rule, mixing, setup, draw),
         None => step_exactly(colors, depths, span, setup, draw),
@@ -206,6 +246,43 @@ fn mix_of(rule: &Option<Rule>, setup: &Setup, draw: &Prepared) -> Option<Mix>
     })
 }
 
+/// The one colour and the one depth of a triangle with a rule of its own.
+fn level_of(setup: &Setup, draw: &Prepared, rule: &Option<Rule>) -> Option<Level>
+    requires { IfSome rule.now (λ r. IsPlain r draw.now setup.now) }
+    ensures { IfSome result (λ l. IsLevel l draw.now setup.now) }
+{
+    match rule {
+        Some(rule) => {
+            let color = one_color(setup, &draw.paint)?;
+            let depth = one_depth(setup)?;
+            Some(Level {
+                color,
+                depth,
+                rule: *rule,
+            })
+        }
+        None => None,
+    }
+}
+
+/// What draws the pixels of a triangle that is not level.
+fn brush_unless<'x>(
+    level: &Option<Level>,
+    setup: &Setup,
+    draw: &Prepared<'x>,
+    width: u16,
+    height: u16,
+) -> Option<Brush<'x>>
+    ensures paints { IfSome result (λ b. Paints b.painter draw.now setup.now width height) }
+    ensures depths { IfSome result (λ b. HasWideDepths b.depth setup.now width height) }
+    ensures short { IfSome result (λ b. IfSome b.short (λ r. HasDepths r setup.now width height)) }
+{
+    if level.is_some() {
+        return None;
+    }
+    brush_of(setup, draw, width, height)
+}
+
 /// Draws a triangle pixel by pixel with its depth.
 fn triangle_tested(
     colors: &mut [[u8; 4]],
@@ -220,7 +297,8 @@ fn triangle_tested(
 {
     let rule = plain_rule(setup, draw);
     let mixing = mix_of(&rule, setup, draw);
-    let brush = brush_of(setup, draw, rows.width, rows.bottom());
+    let level = level_of(setup, draw, &rule);
+    let brush = brush_unless(&level, setup, draw, rows.width, rows.bottom());
     let (top, bottom) = drawn_rows(setup, &draw.cut, rows);
     let mut sides = setup.sides(rows.top + top);
     for row in top..bottom {
@@ -232,7 +310,9 @@ fn triangle_tested(
             first,
             after,
         };
-        draw_span(colors, depths, &span, &brush, &rule, &mixing, setup, draw);
+        draw_span(
+            colors, depths, &span, &level, &brush, &rule, &mixing, setup, draw,
+        );
         sides = setup.next_sides(sides, y);
     }
 }

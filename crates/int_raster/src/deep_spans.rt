@@ -6,14 +6,15 @@ ghost use Rattle.gfx_model.specs.World.{painted};
 ghost use Rattle.tri_cover.specs.Shown.{setup_seen};
 ghost use Rattle.int_raster.specs.Places.{deep_pixels, spanned, in_row};
 ghost use Rattle.int_raster.specs.Painted.{shade_at, HoldsPiece, HasSpanDepths, HasWideSpanDepths};
-ghost use Rattle.int_raster.specs.Rules.{IsPlain, IsMix};
-ghost use Rattle.int_raster.specs.Seen.{paint_seen, step_seen};
+ghost use Rattle.int_raster.specs.Rules.{IsLevel, IsPlain, IsRule};
+ghost use Rattle.int_raster.specs.Seen.{facing_seen, paint_seen, step_seen};
 
 use crate::lists::Prepared;
-use crate::opaque::{Mix, Rule, mixed_after, stored_after};
+use crate::opaque::{Level, Rule, stored_after};
 use crate::painters::{Shade, value_at, wide_value_at};
-use crate::painting::{stepped, stepped_by};
+use crate::painting::{stencil_of, stepped, stepped_by};
 use crate::spans::Span;
+use crate::stores::{Opaque, Store};
 use pixel_ops::Pixel;
 use tri_cover::{Ramp, Setup, WideRamp};
 
@@ -91,6 +92,8 @@ pub(crate) fn step(
     ensures { deep_pixels colors.new depths.new ≡ map_from (spanned (in_row span.now.start span.now.y (step_seen draw.now setup.now)) (span.now.start + span.now.first) (span.now.start + span.now.after)) 0 (deep_pixels colors.old depths.old) }
 {
     let start = span.start;
+    let stencil = stencil_of(draw, setup);
+    let mut new = wide_value_at(depth, span.first, span.y);
     for x in span.first..span.after {
         let color = colors[start + x as usize];
         let word = depth_word(depths[start + x as usize]);
@@ -99,44 +102,38 @@ pub(crate) fn step(
             depth: Some(word),
         };
         let shade = paints[(x - span.first) as usize];
-        let new = (wide_value_at(depth, x, span.y) >> 104) as u32;
-        let after = stepped_by(before, shade, new, setup, draw);
+        let after = stepped_by(before, shade, (new >> 104) as u32, stencil, draw);
         let painted = after.color;
         colors[start + x as usize] = painted;
         depths[start + x as usize] = depth_texel(&after);
+        new = new.wrapping_add(depth.right);
     }
 }
 
-/// Blends or masks painted colours in a piece where their depths pass.
-pub(crate) fn mix(
+/// Stores one colour at one depth in a span where it passes.
+pub(crate) fn store_level(
     colors: &mut [[u8; 4]],
     depths: &mut [[u8; 4]],
     span: &Span,
-    paints: &[[u8; 4]],
-    depth: &WideRamp,
-    mix: &Mix,
+    level: &Level,
     setup: &Setup,
     draw: &Prepared,
 )
     requires inside { span.now.start + span.now.after ≤ length colors.old }
     requires same { length depths.old ≡ length colors.old }
-    requires mix { IsMix mix.now draw.now setup.now }
-    requires room { span.now.after ≤ span.now.first + length paints.now }
-    requires paints { HoldsPiece paints.now (λ x. painted (paint_seen draw.now.paint) (fragment_at (setup_seen setup.now).triangle x span.now.y)) span.now.first span.now.after }
-    requires depths { HasWideSpanDepths depth.now setup.now span.now.y span.now.first span.now.after }
+    requires covered { (x : ℕ) → span.now.first ≤ x → x < span.now.after → covers (setup_seen setup.now).triangle x span.now.y ≡ true }
+    requires level { IsLevel level.now draw.now setup.now }
     ensures { deep_pixels colors.new depths.new ≡ map_from (spanned (in_row span.now.start span.now.y (step_seen draw.now setup.now)) (span.now.start + span.now.first) (span.now.start + span.now.after)) 0 (deep_pixels colors.old depths.old) }
 {
     let start = span.start;
-    let mut new = wide_value_at(depth, span.first, span.y);
+    let level = *level;
     for x in span.first..span.after {
         let old = colors[start + x as usize];
         let word = depth_word(depths[start + x as usize]);
-        let color = paints[(x - span.first) as usize];
-        let after = mixed_after(old, word, color, (new >> 104) as u32, mix);
+        let after = stored_after(old, word, level.color, level.depth, &level.rule, &Opaque);
         let painted = after.color;
         colors[start + x as usize] = painted;
         depths[start + x as usize] = word_texel(after.word);
-        new = new.wrapping_add(depth.right);
     }
 }
 
@@ -164,7 +161,7 @@ fn fill_by(
     for x in span.first..span.after {
         let old = colors[start + x as usize];
         let word = depth_word(depths[start + x as usize]);
-        let after = stored_after(old, word, color, (new >> 40) as u32, rule);
+        let after = stored_after(old, word, color, (new >> 40) as u32, rule, &Opaque);
         let painted = after.color;
         colors[start + x as usize] = painted;
         depths[start + x as usize] = word_texel(after.word);
@@ -232,7 +229,7 @@ fn store_shade_by(
             (blue >> 56) as u8,
             (alpha >> 56) as u8,
         ];
-        let after = stored_after(old, word, color, (new >> 40) as u32, rule);
+        let after = stored_after(old, word, color, (new >> 40) as u32, rule, &Opaque);
         let painted = after.color;
         colors[start + x as usize] = painted;
         depths[start + x as usize] = word_texel(after.word);
@@ -271,19 +268,22 @@ pub(crate) fn store_shade(
 }
 
 /// Stores painted colours in a piece where their depths pass.
-pub(crate) fn store(
+pub(crate) fn store<S: Store>(
     colors: &mut [[u8; 4]],
     depths: &mut [[u8; 4]],
     span: &Span,
     paints: &[[u8; 4]],
     depth: &WideRamp,
     rule: &Rule,
+    store: &S,
     setup: &Setup,
     draw: &Prepared,
 )
     requires inside { span.now.start + span.now.after ≤ length colors.old }
     requires same { length depths.old ≡ length colors.old }
-    requires plain { IsPlain rule.now draw.now setup.now }
+    requires rule { IsRule rule.now draw.now.state }
+    requires store { S.meets store.now draw.now.state }
+    requires plain { (facing_seen draw.now setup.now).stencil ≡ 0 }
     requires room { span.now.after ≤ span.now.first + length paints.now }
     requires paints { HoldsPiece paints.now (λ x. painted (paint_seen draw.now.paint) (fragment_at (setup_seen setup.now).triangle x span.now.y)) span.now.first span.now.after }
     requires depths { HasWideSpanDepths depth.now setup.now span.now.y span.now.first span.now.after }
@@ -295,7 +295,7 @@ pub(crate) fn store(
         let old = colors[start + x as usize];
         let word = depth_word(depths[start + x as usize]);
         let color = paints[(x - span.first) as usize];
-        let after = stored_after(old, word, color, (new >> 104) as u32, rule);
+        let after = stored_after(old, word, color, (new >> 104) as u32, rule, store);
         let painted = after.color;
         colors[start + x as usize] = painted;
         depths[start + x as usize] = word_texel(after.word);

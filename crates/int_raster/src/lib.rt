@@ -16,8 +16,10 @@ mod painters;
 mod painting;
 mod pieces;
 mod rows;
+mod samplers;
 mod sampling;
 mod spans;
+mod stores;
 mod surfaces;
 
 pub use cuts::{draw_cut, view_rect};

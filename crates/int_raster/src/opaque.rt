@@ -1,11 +1,9 @@
-// Fragments that are stored without a stencil, by a depth test: as they are painted, or blended and masked.
+// Fragments that are stored without a stencil, by a depth test.
 ghost use Rattle.std.specs.Prelude.{◌≡◌, ◌≤◌, ◌<◌, ◌%◌, ◌^◌, ◌+◌, ◌*◌, ◌/◌, ◌==◌, ◌&&◌, ◌||◌, ℕ, nat_lt, if◌then◌else◌, Some};
 ghost use Rattle.gfx_model.specs.Pixel.{pixel_step as model_step};
-ghost use Rattle.int_raster.specs.Painted.{IsOpaque, bytes_of};
 ghost use Rattle.int_raster.specs.Rules.{IsRule};
-ghost use Rattle.pixel_ops.specs.Blended.{IsBlending};
 
-use crate::painters::whole;
+use crate::stores::Store;
 use gfx_words::StateWord;
 use pixel_ops::{Blending, depth_test};
 
@@ -30,6 +28,14 @@ pub(crate) struct Stored {
 pub(crate) struct Mix {
     pub rule: Rule,
     pub blending: Blending,
+}
+
+/// A triangle of one colour and one depth that is stored as it is painted, where its depth test passes.
+#[derive(Clone, Copy)]
+pub(crate) struct Level {
+    pub color: [u8; 4],
+    pub depth: u32,
+    pub rule: Rule,
 }
 
 pub(crate) fn rule_of(state: &StateWord) -> Rule
@@ -99,35 +105,22 @@ fn kept_word(stores: bool, depth: u32, word: u32) -> u32
 
 /// What is stored after a fragment of a colour and a depth.
 #[inline(always)]
-pub(crate) fn stored_after(
+pub(crate) fn stored_after<S: Store>(
     old: [u8; 4],
     word: u32,
     color: [u8; 4],
     depth: u32,
     rule: &Rule,
+    store: &S,
 ) -> Stored
     requires { depth ≤ 16777215 }
-    ensures { (state : ℕ) → IsOpaque state → IsRule rule.now state →
+    ensures { (state : ℕ) → S.meets store.now state → IsRule rule.now state →
         record { color = result.color; depth = Some result.word } ≡ model_step (record { color = old; depth = Some word }) (record { color = color; depth = depth }) state 0 }
 {
     let pass = passes(rule, depth, depth_of(word));
+    let new = store.stored_over(color, old);
     Stored {
-        color: kept_color(pass, whole(color), old),
+        color: kept_color(pass, new, old),
         word: kept_word(both(pass, rule.writes), depth, word),
-    }
-}
-
-/// What is stored after a fragment of a colour and a depth that is blended or masked.
-#[inline(always)]
-pub(crate) fn mixed_after(old: [u8; 4], word: u32, color: [u8; 4], depth: u32, mix: &Mix) -> Stored
-    requires { depth ≤ 16777215 }
-    ensures { (state : ℕ) → IsRule mix.now.rule state → IsBlending mix.now.blending state →
-        record { color = result.color; depth = Some result.word } ≡ model_step (record { color = old; depth = Some word }) (record { color = color; depth = depth }) state 0 }
-{
-    let pass = passes(&mix.rule, depth, depth_of(word));
-    let mixed = mix.blending.stored(color, old);
-    Stored {
-        color: kept_color(pass, mixed, old),
-        word: kept_word(both(pass, mix.rule.writes), depth, word),
     }
 }

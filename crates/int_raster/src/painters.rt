@@ -155,7 +155,7 @@ fn has_one_color(setup: &Setup) -> bool
 }
 
 /// The colour of a triangle that is painted in one.
-fn one_color(setup: &Setup, paint: &Paint) -> Option<[u8; 4]>
+pub(crate) fn one_color(setup: &Setup, paint: &Paint) -> Option<[u8; 4]>
     ensures { IfSome result (λ color. (x y : ℕ) → covers (setup_seen setup.now).triangle x y ≡ true → color ≡ world.painted (paint_seen paint.now) (fragment_at (setup_seen setup.now).triangle x y)) }
 {
     match *paint {
@@ -172,7 +172,7 @@ fn one_color(setup: &Setup, paint: &Paint) -> Option<[u8; 4]>
 }
 
 /// The depth of a triangle whose corners have the same.
-fn one_depth(setup: &Setup) -> Option<u32>
+pub(crate) fn one_depth(setup: &Setup) -> Option<u32>
     ensures few { IfSome result (λ depth. depth ≤ 16777215) }
     ensures same { IfSome result (λ depth. (x y : ℕ) → covers (setup_seen setup.now).triangle x y ≡ true → depth ≡ (fragment_at (setup_seen setup.now).triangle x y).depth) }
 {

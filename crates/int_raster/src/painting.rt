@@ -64,17 +64,17 @@ pub(crate) fn stepped(before: Pixel, setup: &Setup, x: u16, y: u16, draw: &Prepa
     pixel_step(before, &shaded, &draw.state, stencil_of(draw, setup))
 }
 
-/// A pixel after a triangle of a draw that has a colour and a depth there.
+/// A pixel after a fragment of a draw, by the stencil word of the side that it shows.
 pub(crate) fn stepped_by(
     before: Pixel,
     color: [u8; 4],
     depth: u32,
-    setup: &Setup,
+    stencil: StencilWord,
     draw: &Prepared,
 ) -> Pixel
     requires { depth ≤ 16777215 }
-    ensures { pixel_seen result ≡ model_step (pixel_seen before) (record { color = color; depth = depth }) draw.now.state (facing_seen draw.now setup.now).stencil }
+    ensures { pixel_seen result ≡ model_step (pixel_seen before) (record { color = color; depth = depth }) draw.now.state stencil }
 {
     let shaded = Shaded { color, depth };
-    pixel_step(before, &shaded, &draw.state, stencil_of(draw, setup))
+    pixel_step(before, &shaded, &draw.state, stencil)
 }

@@ -7,7 +7,7 @@ ghost use Rattle.int_raster.specs.Painted.{place_at, shade_at, painter_color, Ho
 
 use crate::painters::{Painter, Place, Shade, value_at, wide_value_at};
 use crate::painting::product;
-use crate::sampling::texel_at;
+use crate::sampling::{sampler_of, texel_at};
 use crate::spans::Span;
 use fix_math::Texels;
 
@@ -48,12 +48,13 @@ fn texture_piece(texels: &Texels, at: &Place, piece: &Span, colors: &mut [[u8; 4
     requires room { piece.now.after ≤ piece.now.first + length colors.old }
     ensures { HoldsPiece colors.new (λ x. sample (texels_seen texels.now) (pos (place_at at.now.u x piece.now.y)) (pos (place_at at.now.v x piece.now.y))) piece.now.first piece.now.after }
 {
+    let sampler = sampler_of(texels);
     let mut u = wide_value_at(&at.u, piece.first, piece.y);
     let mut v = wide_value_at(&at.v, piece.first, piece.y);
     for x in piece.first..piece.after {
         let column = unit_part(u);
         let row = unit_part(v);
-        colors[(x - piece.first) as usize] = texel_at(texels, column, row);
+        colors[(x - piece.first) as usize] = texel_at(&sampler, column, row);
         u = u.wrapping_add(at.u.right);
         v = v.wrapping_add(at.v.right);
     }

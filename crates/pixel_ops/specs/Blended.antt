@@ -2,7 +2,7 @@
 use Rattle.std.specs.Prelude.{◌≡◌, ℕ, if◌then◌else◌, true, false, [], ◌∷◌, ◌++◌, map, slice_index}
 use Rattle.gfx_model.specs.Vertex.{Color}
 use Rattle.gfx_model.specs.Words.{write_mask, is_blended, color_source, color_destination, color_equation, alpha_source, alpha_destination, alpha_equation}
-use Rattle.gfx_model.specs.Pixel.{blend_channel, stored_channels}
+use Rattle.gfx_model.specs.Pixel.{blend_channel, stored_channels, stored_color}
 use Rattle.pixel_ops.specs.declared.parts.Blending.{Blending}
 
 -- the parts are those of a state word
@@ -37,3 +37,7 @@ over_by source stored =
     let sa = slice_index source 3 in
     let da = slice_index stored 3 in
     map (λ k. blend_channel 5 6 0 false (slice_index source k) (slice_index stored k) sa da) (0 ∷ 1 ∷ 2 ∷ []) ++ blend_channel 5 6 0 true sa da sa da ∷ []
+
+-- a draw of a state word stores each colour so
+abbrev pub LaysOver : ℕ → Type 0
+LaysOver state = (source stored : Color) → over_by source stored ≡ stored_color state source stored

@@ -99,9 +99,9 @@ fn over_channel(s: u8, d: u8, sa: u8) -> u8
     multiply(s, sa).saturating_add(multiply(d, 255 - sa))
 }
 
-/// The source over the stored colour.
+/// The source by its alpha over the stored colour by what is left.
 #[inline(always)]
-fn over(source: [u8; 4], stored: [u8; 4]) -> [u8; 4]
+pub fn lay_over(source: [u8; 4], stored: [u8; 4]) -> [u8; 4]
     ensures { result ≡ over_by source stored }
 {
     let sa = source[3];
@@ -115,7 +115,7 @@ fn over(source: [u8; 4], stored: [u8; 4]) -> [u8; 4]
 
 impl Blending {
     ghost use Rattle.std.specs.Prelude.{false};
-    ghost use Rattle.pixel_ops.specs.Blended.{IsBlending, mixed_by, stored_by};
+    ghost use Rattle.pixel_ops.specs.Blended.{IsBlending, LaysOver, mixed_by, stored_by};
 
     /// The parts of a state word.
     pub fn new(state: &StateWord) -> Blending
@@ -132,6 +132,13 @@ impl Blending {
             alpha_equation: state.alpha_equation(),
             over: is_over(state),
         }
+    }
+
+    /// Whether all channels are stored as `lay_over` answers.
+    pub fn lays_over(&self) -> bool
+        ensures { (state : ℕ) → IsTrue result → IsBlending self.now state → LaysOver state }
+    {
+        self.over
     }
 
     /// One channel of the colour.
@@ -191,7 +198,7 @@ impl Blending {
         ensures { (state : ℕ) → IsBlending self.now state → result ≡ model.stored_color state source stored }
     {
         if self.over {
-            return over(source, stored);
+            return lay_over(source, stored);
         }
         let mixed = self.mixed(source, stored);
         [

@@ -6,5 +6,5 @@ use Rattle.int_raster.proofs.colors.store.Given as goal
 
 -- the pixels before the column are stepped
 abbrev pub invariant-loop-x : goal.invariant-loop-x
-invariant-loop-x l =
+invariant-loop-x g l =
     l.colors ≡ map_from (spanned (in_row l.fn.span.start l.fn.span.y (color_seen l.fn.draw l.fn.setup)) (l.fn.span.start + l.fn.span.first) (l.fn.span.start + l.x)) 0 l.fn.colors

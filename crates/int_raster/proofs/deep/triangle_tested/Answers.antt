@@ -33,7 +33,7 @@ draw_span-requires-clause-paints c =
     let f = facing_seen c.args.draw.now c.args.setup.now in
     let ends = c.drawn_columns-first.result in
     let within = c.drawn_columns-first.ensures.within in
-    IfSome_then c.brush_of-brush.result c.brush_of-brush.ensures.paints
+    IfSome_then c.brush_unless-brush.result c.brush_unless-brush.ensures.paints
     (λ b h x lo hi. h x (c.args.rows.now.top + c.loop-row.row) (omega (arith, hi, within)) (omega (arith, c.loop-row-test.true, c.drawn_rows-top.ensures.within))
     (drawn_column (rect_seen d.cut) f ends.0 ends.1 x (c.args.rows.now.top + c.loop-row.row) (c.drawn_columns-first.ensures.columns x (omega (arith, hi, within))) lo hi))
 
@@ -43,7 +43,7 @@ draw_span-requires-clause-depths c =
     let f = facing_seen c.args.draw.now c.args.setup.now in
     let ends = c.drawn_columns-first.result in
     let within = c.drawn_columns-first.ensures.within in
-    IfSome_then c.brush_of-brush.result c.brush_of-brush.ensures.depths
+    IfSome_then c.brush_unless-brush.result c.brush_unless-brush.ensures.depths
     (λ b h x lo hi. h x (c.args.rows.now.top + c.loop-row.row) (omega (arith, hi, within)) (omega (arith, c.loop-row-test.true, c.drawn_rows-top.ensures.within))
     (drawn_column (rect_seen d.cut) f ends.0 ends.1 x (c.args.rows.now.top + c.loop-row.row) (c.drawn_columns-first.ensures.columns x (omega (arith, hi, within))) lo hi))
 
@@ -53,7 +53,7 @@ draw_span-requires-clause-short c =
     let f = facing_seen c.args.draw.now c.args.setup.now in
     let ends = c.drawn_columns-first.result in
     let within = c.drawn_columns-first.ensures.within in
-    IfSome_then c.brush_of-brush.result c.brush_of-brush.ensures.short
+    IfSome_then c.brush_unless-brush.result c.brush_unless-brush.ensures.short
     (λ b g. IfSome_then b.short g (λ r h x lo hi. h x (c.args.rows.now.top + c.loop-row.row) (omega (arith, hi, within)) (omega (arith, c.loop-row-test.true, c.drawn_rows-top.ensures.within))
     (drawn_column (rect_seen d.cut) f ends.0 ends.1 x (c.args.rows.now.top + c.loop-row.row) (c.drawn_columns-first.ensures.columns x (omega (arith, hi, within))) lo hi)))
 

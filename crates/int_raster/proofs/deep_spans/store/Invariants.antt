@@ -7,7 +7,7 @@ use Rattle.int_raster.proofs.deep_spans.store.Given as goal
 
 -- the pixels before the column are stepped, and the depth stands at it
 abbrev pub invariant-loop-x : goal.invariant-loop-x
-invariant-loop-x l = record {
+invariant-loop-x g l = record {
   new : l.new ≡ wide_at l.fn.depth l.x l.fn.span.y;
   done : deep_pixels l.colors l.depths ≡ map_from (spanned (in_row l.fn.span.start l.fn.span.y (step_seen l.fn.draw l.fn.setup)) (l.fn.span.start + l.fn.span.first) (l.fn.span.start + l.x)) 0 (deep_pixels l.fn.colors l.fn.depths);
 }

@@ -27,7 +27,7 @@ loop-x-preserved c =
       v = wide_more p.v c.loop-x.x s.y c.loop-x.v i.v;
       held = held_more (λ x. sample t (pos (place_at p.u x s.y)) (pos (place_at p.v x s.y))) s.first c.loop-x.x c.loop-x.colors c.texel_at.result i.held c.loop-x.auto.x
           (omega (arith, c.loop-x-test.true, c.loop-x.auto.colors, c.loop-x.auto.x, c.requires.room))
-          (c.texel_at.ensures ∙ (λ j. sample t (pos (u j)) (pos (v j))));
+          (c.texel_at.ensures ∙ (λ j. sample (c.sampler_of-sampler.ensures j) (pos c.unit_part-column.result) (pos c.unit_part-row.result)) ∙ (λ j. sample t (pos (u j)) (pos (v j))));
     }
 
 pub returns : goal.returns

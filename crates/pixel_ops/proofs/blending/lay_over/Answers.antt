@@ -1,6 +1,6 @@
 use Rattle.std.proofs.Common.{◌∷◌, [], true, false}
 use Rattle.std.specs.Prelude.{slice_index}
-use Rattle.pixel_ops.proofs.blending.over.Goals as goal
+use Rattle.pixel_ops.proofs.blending.lay_over.Goals as goal
 
 pub returns : goal.returns
 returns c =

@@ -1,0 +1,6 @@
+-- Textures that are sampled.
+use Rattle.gfx_model.specs.Raster.{Texels}
+use Rattle.int_raster.specs.declared.samplers.Sampler.{Sampler}
+
+abbrev pub sampler_seen : Sampler → Texels
+sampler_seen s = record { width = s.width; height = s.height; texels = s.texels.now }

@@ -1,0 +1,53 @@
+// How painted colours are stored over old ones: as they are, laid over by their alpha, or by a state word's parts.
+ghost use Rattle.std.specs.Prelude.{◌≡◌, ℕ};
+ghost use Rattle.gfx_model.specs.Pixel.{stored_color};
+ghost use Rattle.pixel_ops.specs.Blended.{IsBlending, LaysOver};
+ghost use Rattle.int_raster.specs.Painted.{IsOpaque};
+
+use crate::painters::whole;
+use pixel_ops::{Blending, lay_over};
+
+/// What is chosen once for many pixels, so that their loop does not ask again.
+pub(crate) trait Store {
+    /// Whether it stores as a state word says.
+    ghost meets: { Self → ℕ → Type 0 };
+
+    /// The colour that is stored of a new one and an old one.
+    fn stored_over(&self, new: [u8; 4], old: [u8; 4]) -> [u8; 4]
+        ensures { (state : ℕ) → meets self.now state → result ≡ stored_color state new old };
+}
+
+/// Colours are stored as they are.
+#[derive(Clone, Copy)]
+pub(crate) struct Opaque;
+
+impl Store for Opaque {
+    ghost meets = { λ _ state. IsOpaque state };
+
+    #[inline(always)]
+    fn stored_over(&self, new: [u8; 4], _old: [u8; 4]) -> [u8; 4] {
+        whole(new)
+    }
+}
+
+/// Colours are laid over the old ones by their alpha.
+#[derive(Clone, Copy)]
+pub(crate) struct Laid;
+
+impl Store for Laid {
+    ghost meets = { λ _ state. LaysOver state };
+
+    #[inline(always)]
+    fn stored_over(&self, new: [u8; 4], old: [u8; 4]) -> [u8; 4] {
+        lay_over(new, old)
+    }
+}
+
+impl Store for Blending {
+    ghost meets = { IsBlending };
+
+    #[inline(always)]
+    fn stored_over(&self, new: [u8; 4], old: [u8; 4]) -> [u8; 4] {
+        self.stored(new, old)
+    }
+}
