@@ -2,6 +2,7 @@
 #![tactic(auto)]
 
 mod book;
+mod calls;
 mod creates;
 mod deaths;
 mod desk;
@@ -21,6 +22,7 @@ mod updates;
 ghost use Rattle.resource_book.specs.Laws.{PlaceLaw, WrittenLaw};
 
 pub use book::Book;
+pub use calls::ResourceCalls;
 pub use frames::Work;
 pub use opening::Start;
 pub use rows::{Fact, Row};
