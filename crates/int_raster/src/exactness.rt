@@ -155,7 +155,7 @@ const FAR: Rect = Rect {
 };
 
 // Opaque, with depth tests, masked, blended, and with stencils.
-const WORDS: [(u64, u32, u32); 16] = [
+const WORDS: [(u64, u32, u32); 8] = [
     (15, 0, 0),
     (15 + (2 << 4) + (1 << 38), 0, 0),
     (15 + (5 << 4) + (1 << 38), 0, 0),
@@ -164,14 +164,6 @@ const WORDS: [(u64, u32, u32); 16] = [
     (15 + (0x6565 << 12), 0, 0),
     (15 + (4 << 4) + (1 << 38), 0x3346_ff07, 0),
     (15 + (3 << 4), 0x7118_0f80, 0x4358_ff01),
-    (15 + (1 << 4) + (1 << 38) + (0x6565 << 12), 0, 0),
-    (15 + (4 << 4) + (0x6565 << 12), 0, 0),
-    (15 + (0x2222 << 12), 0, 0),
-    (15 + (2 << 4) + (1 << 38) + (0x3434 << 12), 0, 0),
-    (6 + (0x6565 << 12), 0, 0),
-    (9 + (1 << 4) + (0x7815 << 12) + (9 << 28), 0, 0),
-    (15 + (1 << 38) + (0x6565 << 12), 0x3346_ff07, 0),
-    (15 + (1 << 4) + (1 << 38), 0, 0),
 ];
 
 fn paint_of<'x>(kind: u32, texels: &'x Texels) -> Paint<'x> {
@@ -187,7 +179,7 @@ fn paint_of<'x>(kind: u32, texels: &'x Texels) -> Paint<'x> {
 
 // Random words, paint and cut.
 fn random_draw<'x, R: Abort>(rt: &R, numbers: &mut Numbers, texels: &'x Texels) -> Prepared<'x> {
-    let (word, front, back) = WORDS[(numbers.next() & 15) as usize];
+    let (word, front, back) = WORDS[(numbers.next() & 7) as usize];
     Prepared {
         cut: numbers.cut(),
         state: state(rt, word),
