@@ -1,6 +1,7 @@
 // The scene at the front of a text.
 ghost use Rattle.std.specs.Prelude.{◌≤◌, length, IfOk};
 ghost use Rattle.scene_model.specs.Grammar.{front_of};
+ghost use Rattle.spelling_model.specs.Readable.{IsReadable};
 ghost use Rattle.scene_text.specs.Bounds.{IsBounded};
 ghost use Rattle.scene_text.specs.Reads.{ReadsFront};
 ghost use Rattle.scene_text.specs.Seen.{scene_seen};
@@ -50,6 +51,7 @@ fn read_to_done(alloc: Global, bytes: &[u8]) -> Result<(Scene, usize), SceneFaul
 pub fn read_front(alloc: Global, bytes: &[u8]) -> Result<(Scene, usize), SceneFault>
     requires { length bytes.now ≤ 4294967294 }
     ensures exact { ReadsFront result (front_of whole_language bytes.now) }
+    ensures readable { IfOk result (λ found. IsReadable (scene_seen found.0)) }
     ensures bounds { IfOk result (λ found. IsBounded (scene_seen found.0)) }
     ensures within { IfOk result (λ found. found.1 ≤ length bytes.now) }
 {

@@ -1,5 +1,5 @@
 // The names that are bound, each with its place.
-ghost use Rattle.std.specs.Prelude.{◌≡◌, ◌<◌, ◌^◌, [], map, length, IfOk};
+ghost use Rattle.std.specs.Prelude.{◌≡◌, ◌<◌, ◌^◌, [], map, length, IfOk, true, Ok};
 ghost use Rattle.scene_model.specs.Grammar.{text_of};
 ghost use Rattle.scene_text.specs.Seen.{name_seen};
 ghost use Rattle.std.specs.List.{list_all};
@@ -18,10 +18,15 @@ use std::marker::Model;
 // How many names there are at most.
 const MOST: usize = 4_294_967_295;
 
+// How many places are kept beside the map.
+const KEPT: usize = 64;
+
 /// The names in the order in which they were bound first, and whether a `uniform` line bound them.
 #[derive(Drop)]
 pub struct Names {
     bound: IndexMap<Vec<u8>, bool>,
+    // By a small number of a name's spelling, the place of the name that was bound last with it: tried before the map.
+    kept: [u32; 64],
 }
 
 impl Model for Names {
@@ -72,12 +77,35 @@ fn is_name(field: &[u8]) -> bool
     }
 }
 
+/// A small number of a name's spelling: not the same for most names that are used together.
+fn small_number(field: &[u8]) -> usize
+    ensures { result < 64 }
+{
+    match field {
+        [] => 0,
+        [only] => usize::from(*only) % KEPT,
+        [first, .., last] => (usize::from(*first) * 3 + usize::from(*last) + field.len()) % KEPT,
+    }
+}
+
 impl Names {
     pub fn new(alloc: Global) -> Names
         ensures { result ≡ [] }
     {
         Names {
             bound: IndexMap::new(alloc),
+            kept: [0; 64],
+        }
+    }
+
+    /// Whether the name at a place is spelled so.
+    fn is_at(&self, place: u32, field: &[u8]) -> bool
+        ensures { result ≡ true → is_name field.now ≡ true → used_name self.now field.now ≡ Ok place }
+    {
+        let _count = self.bound.len();
+        match self.bound.get_index(place as usize) {
+            Some((text, _)) => is(field, text),
+            None => false,
         }
     }
 
@@ -87,6 +115,10 @@ impl Names {
     {
         if !is_name(field) {
             return Err(Cause::NoName);
+        }
+        let kept = self.kept[small_number(field)];
+        if self.is_at(kept, field) {
+            return Ok(kept);
         }
         match self.bound.get_index_of(field) {
             Some(place) => Ok(place as u32),
@@ -158,6 +190,7 @@ impl Names {
                 }
                 let text = Vec::from_slice(alloc, field)?;
                 self.bound.insert(text, by_uniform)?;
+                self.kept[small_number(field)] = place as u32;
                 Ok(place as u32)
             }
         }

@@ -1,5 +1,5 @@
 // Numbers.
-ghost use Rattle.std.specs.Prelude.{◌≡◌, ◌<◌, ◌≤◌, ◌^◌, ◌-◌, MatchOption, IfOk, FitsSigned};
+ghost use Rattle.std.specs.Prelude.{◌≡◌, ◌<◌, ◌≤◌, ◌^◌, ◌-◌, MatchOption, IfOk, IfSome, FitsSigned, true};
 ghost use Rattle.std.specs.Int.{w32};
 ghost use Rattle.std.specs.List.{list_all};
 ghost use Rattle.scene_model.specs.Field.{is_digit, is_numeral, value_onto, number_in, u8_number, u16_number, u32_number, i32_number, is_negative_numeral, number_to};
@@ -44,8 +44,29 @@ pub fn value_to(digits: &[u8], high: u32) -> Option<u32>
     Some(value as u32)
 }
 
-/// A number from `low` to `high`.
-pub fn number(field: &[u8], low: u32, high: u32) -> Result<u32, Cause>
+/// The value of a field that is spelled as a number up to `high`, in one pass. Nothing is said of any other field.
+fn value_of(field: &[u8], high: u32) -> Option<u32>
+    ensures { IfSome result (λ n. (is_numeral field.now ≡ true) × (n ≡ value_onto 0 field.now) × (n ≤ high)) }
+{
+    let first = *field.first()?;
+    if first == b'0' && field.len() != 1 {
+        return None;
+    }
+    let mut value: u64 = 0;
+    for digit in field {
+        if !is_digit(*digit) {
+            return None;
+        }
+        value = value * 10 + u64::from(digit.saturating_sub(b'0'));
+        if value > u64::from(high) {
+            return None;
+        }
+    }
+    Some(value as u32)
+}
+
+/// A number from `low` to `high`, or the cause why the field is none.
+fn spelled_number(field: &[u8], low: u32, high: u32) -> Result<u32, Cause>
     ensures value { Gives (λ n. n) result (number_in low high field.now) }
     ensures most { IfOk result (λ n. n ≤ high) }
 {
@@ -61,6 +82,23 @@ pub fn number(field: &[u8], low: u32, high: u32) -> Result<u32, Cause>
             }
         }
         None => Err(Cause::OutOfRange),
+    }
+}
+
+/// A number from `low` to `high`.
+pub fn number(field: &[u8], low: u32, high: u32) -> Result<u32, Cause>
+    ensures value { Gives (λ n. n) result (number_in low high field.now) }
+    ensures most { IfOk result (λ n. n ≤ high) }
+{
+    match value_of(field, high) {
+        Some(n) => {
+            if low <= n {
+                Ok(n)
+            } else {
+                Err(Cause::OutOfRange)
+            }
+        }
+        None => spelled_number(field, low, high),
     }
 }
 
@@ -129,7 +167,7 @@ fn is_negative_numeral(field: &[u8]) -> bool
 }
 
 #[tactic(auto, unfolding(scene_model::specs::Field::i32_number))]
-pub fn i32_number(field: &[u8]) -> Result<i32, Cause>
+fn spelled_i32(field: &[u8]) -> Result<i32, Cause>
     ensures value { Gives (λ n. n) result (i32_number field.now) }
     ensures fits { IfOk result (λ n. FitsSigned w32 n) }
 {
@@ -145,5 +183,16 @@ pub fn i32_number(field: &[u8]) -> Result<i32, Cause>
     match value_to(&field[1..], 2_147_483_648) {
         Some(n) => Ok((-i64::from(n)) as i32),
         None => Err(Cause::OutOfRange),
+    }
+}
+
+#[tactic(auto, unfolding(scene_model::specs::Field::i32_number))]
+pub fn i32_number(field: &[u8]) -> Result<i32, Cause>
+    ensures value { Gives (λ n. n) result (i32_number field.now) }
+    ensures fits { IfOk result (λ n. FitsSigned w32 n) }
+{
+    match value_of(field, 2_147_483_647) {
+        Some(n) => Ok(n as i32),
+        None => spelled_i32(field),
     }
 }

@@ -42,6 +42,13 @@ impl<T: Drop> Sequence<T> {
         &self.all
     }
 
+    /// The vector of the items, so that they can be taken out one by one.
+    pub fn into_vec(self) -> Vec<T>
+        ensures { result.items ≡ self }
+    {
+        self.all
+    }
+
     /// One more item at the end. Without memory for it the list stays as it is.
     pub fn push(&mut self, item: T) -> Result<(), AllocError>
         ensures more { IfOk result (λ _. self.new ≡ self.old ++ item ∷ []) }

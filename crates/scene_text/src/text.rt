@@ -1,6 +1,7 @@
 // Whole texts.
 ghost use Rattle.std.specs.Prelude.{◌≡◌, ◌≤◌, length, IfOk};
 ghost use Rattle.scene_model.specs.Grammar.{scene_of};
+ghost use Rattle.spelling_model.specs.Readable.{IsReadable};
 ghost use Rattle.scene_model.specs.Grammar as model;
 ghost use Rattle.scene_text.specs.Bounds.{IsBounded};
 ghost use Rattle.scene_text.specs.Reads.{Reads, at};
@@ -83,7 +84,8 @@ pub fn at_last_piece(
 ///
 /// What is read keeps the bounds of a scene: version 1 or 2; sides of 1 to 2,048 pixels; 1 to 8 encoders, each with room
 /// for 1 to 8,191 items, so a frame has at most 65,528; a latency of 1 to 3, and of 1 in version 1; 1 to 1,024 frames,
-/// whose blocks have ascending numbers below the number of encoders.
+/// whose blocks have ascending numbers below the number of encoders. Each name of a line is a place of the list of names, and a
+/// frame's part has at most 4,294,967,295 lines.
 ///
 /// # Errors
 ///
@@ -91,6 +93,7 @@ pub fn at_last_piece(
 pub fn read(alloc: Global, bytes: &[u8]) -> Result<Scene, SceneFault>
     requires { length bytes.now ≤ 4294967294 }
     ensures exact { Reads result (scene_of whole_language bytes.now) }
+    ensures readable { IfOk result (λ s. IsReadable (scene_seen s)) }
     ensures bounds { IfOk result (λ s. IsBounded (scene_seen s)) }
 {
     let mut reading = Reading::new(alloc);

@@ -33,4 +33,6 @@ mod LinesAgain
 mod StepsAgain
 mod SceneAgain
 mod LinesApart
-mod TextsAgain
+pub mod TextsAgain
+pub mod Growing
+pub mod FrontReads

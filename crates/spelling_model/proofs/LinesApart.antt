@@ -16,8 +16,7 @@ use Rattle.spelling_model.proofs.Joins.{joined_by}
 use Rattle.spelling_model.proofs.LineTexts.{IsLine, AreLines, lines_joined}
 use Rattle.spelling_model.proofs.NamesAgain.{HasNames}
 use Rattle.spelling_model.proofs.Spelled.{is_visible, IsSpelled, weaker, decimal_spelled, u8_spelled, resource_spelled, encoder_spelled}
-use Rattle.spelling_model.proofs.StepsAgain.{grows, lines_grow}
-use Rattle.spelling_model.proofs.SceneAgain.{frames_grow}
+use Rattle.spelling_model.proofs.Growing.{grows, lines_grow, frames_grow}
 
 not_blank : (b : ℕ) → is_visible b ≡ true → not (b == 32) ≡ true
 not_blank b h = grind (arith, nat_tests, h)

@@ -22,7 +22,8 @@ use Rattle.spelling_model.proofs.FrameRanges.{last_blocks}
 use Rattle.spelling_model.proofs.FieldsAgain.{goes_on, number_again, u8_again}
 use Rattle.spelling_model.proofs.NamesAgain.{named, HasNames}
 use Rattle.spelling_model.proofs.Spelled.{IsSpelled, decimal_spelled, u8_spelled}
-use Rattle.spelling_model.proofs.StepsAgain.{kept_again, inside, lines_grow, before_again, beside_again, with_last, encoder_lines_again}
+use Rattle.spelling_model.proofs.Growing.{lines_grow, frames_grow}
+use Rattle.spelling_model.proofs.StepsAgain.{kept_again, inside, before_again, beside_again, with_last, encoder_lines_again}
 
 -- lines one behind the other
 pub then : (xs ys : List (List Field)) (r q : Reading) (m : Read Reading) → read_fields r xs ≡ Ok q → read_fields q ys ≡ m → read_fields r (xs ++ ys) ≡ m
@@ -161,14 +162,6 @@ frame_again all bound base closed f st h few le lt k at =
           ∙ then (map (resource_fields all) f.before) (flat_map (block_lines all) f.blocks ++ beside_lines all (has_beside f) f.beside) (inside base in_before (named all bound) closed empty_frame) (inside base in_before (named all here) closed f1) _ before
           (then (flat_map (block_lines all) f.blocks) (beside_lines all (has_beside f) f.beside) (inside base in_before (named all here) closed f1) (inside base blocks.0 (named all here) closed f2) _ blocks.2 beside.2),
     )
-
-pub frames_grow : (bound : List Bool) (frames : List SceneFrame) → length bound ≤ length (bound_by_frames bound frames)
-frames_grow bound [] = omega arith
-frames_grow bound (f ∷ frames) =
-    let a = lines_grow bound f.before in
-    let b = lines_grow (bound_by_lines bound f.before) f.beside in
-    let c = frames_grow (bound_by_frame bound f) frames in
-    omega (arith, a, b, c)
 
 -- where frames stand, and behind the last one
 abbrev Behind : List SceneFrame → Stage → Stage → Type 0

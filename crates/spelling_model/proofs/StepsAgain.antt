@@ -9,6 +9,7 @@ use Rattle.scene_model.specs.Field.{bad_byte, misplaced_word, unknown_version, B
 use Rattle.scene_model.specs.Grammar.{Field, field, Word, words, whole_language, Stage, in_before, in_block, in_beside, is_resource_word, is_encoder_word, can_stand, Reading, with_names, with_resource_line, with_before_line, with_beside_line, with_encoder_line, on_last_frame, unless, is_text_byte, is_other_version, is_in_place, are_filled, are_filled_before, resource_form, encoder_form, after_resource, after_encoder_line, after_word, after_fields}
 use Rattle.spelling_model.specs.LineSpelling.{resource_fields, encoder_fields}
 use Rattle.spelling_model.specs.Readable.{bound_by, bound_by_lines, IsResourceLine, AreResourceLines, IsEncoderLine}
+use Rattle.spelling_model.proofs.Growing.{grows, lines_grow}
 use Rattle.spelling_model.proofs.ReadLines.{after_kept, read_fields}
 use Rattle.spelling_model.proofs.SoFar.{moved, on_last-append}
 use Rattle.spelling_model.proofs.FieldsAgain.{goes_on}
@@ -95,35 +96,6 @@ resource_line all bound l r h le grown k same place =
     ∙ own.after r
     ∙ goes_on (resource_form whole_language (views_in r.version) r.names (resource_fields all l) (resource_word l)) (l, named all (bound_by bound l)) _
     (ap (λ names. resource_form whole_language (views_in r.version) names (resource_fields all l) (resource_word l)) same ∙ resource_again (views_in r.version) all bound l h le grown spelled k)
-
--- lines bind no fewer names
-pub grows : (bound : List Bool) (l : ResourceLine) → length bound ≤ length (bound_by bound l)
-grows bound (layout_line n parts) = omega (arith, length-append bound (false ∷ []))
-grows bound (vertex_buffer_line n layout bytes) = omega (arith, length-append bound (false ∷ []))
-grows bound (index_buffer_line n bytes) = omega (arith, length-append bound (false ∷ []))
-grows bound (texture_line n width height format destination source) = omega (arith, length-append bound (false ∷ []))
-grows bound (frame_buffer_line n color depth) = omega (arith, length-append bound (false ∷ []))
-grows bound (program_line n kind) = omega (arith, length-append bound (false ∷ []))
-grows bound (uniform_line n kind) = by (nat_lt n (length bound))
-  where
-    by : (t : Bool) → length bound ≤ length (cond t bound (bound ++ true ∷ []))
-    by true = omega arith
-    by false = omega (arith, length-append bound (true ∷ []))
-grows bound (update_line n offset bytes) = omega arith
-grows bound (texel_update_line n r bytes) = omega arith
-grows bound (destroy_line n) = omega arith
-grows bound (rect_line view r) = omega arith
-grows bound (view_scissor_line view r) = omega arith
-grows bound (clear_line view c) = omega arith
-grows bound (mode_line view mode) = omega arith
-grows bound (target_line view target) = omega arith
-grows bound (view_transform_line view m) = omega arith
-grows bound (reset_line view) = omega arith
-grows bound (order_line ids) = omega arith
-
-pub lines_grow : (bound : List Bool) (lines : List ResourceLine) → length bound ≤ length (bound_by_lines bound lines)
-lines_grow bound [] = omega arith
-lines_grow bound (l ∷ lines) = let a = grows bound l in let b = lines_grow (bound_by bound l) lines in omega (arith, a, b)
 
 -- the lines before the drawing
 pub before_again : (all : List Field) (base : Reading) (closed : List SceneFrame) (lines : List ResourceLine) (bound : List Bool) (f : SceneFrame) → HasNames all → length (bound_by_lines bound lines) ≤ length all → AreResourceLines (views_in base.version) bound lines

@@ -1,9 +1,10 @@
-use Rattle.std.proofs.Common.{ℕ, List, Result, Ok, Err, ◌+◌, take, drop, ap, subst, sym, ◌∙◌}
+use Rattle.std.proofs.Common.{ℕ, ◌≤◌, length, List, Result, Ok, Err, ◌+◌, take, drop, ap, subst, sym, ◌∙◌}
 use Rattle.std.specs.Prelude.{IfOk}
 use Rattle.std.proofs.lemmas.List.{take_rest}
 use Rattle.scene_model.specs.Grammar.{scene_of, read_pieces, whole_language}
 use Rattle.scene_text.specs.declared.scene.Scene.{Scene}
 use Rattle.scene_text.specs.declared.fault.SceneFault.{SceneFault}
+use Rattle.spelling_model.specs.Readable.{IsReadable}
 use Rattle.scene_text.specs.Bounds.{IsBounded}
 use Rattle.scene_text.specs.Reads.{Reads}
 use Rattle.scene_text.specs.Seen.{scene_seen}
@@ -13,21 +14,33 @@ use Rattle.scene_text.proofs.Lines.{line_more, line_stops, line_less}
 use Rattle.scene_text.proofs.text.read.Goals as goal
 
 -- what is read as the definition says keeps the bounds of each scene that is read
-read_bounded : (result : Result Scene SceneFault) (bytes : List ℕ) → Reads result (scene_of whole_language bytes) → IfOk result (λ s. IsBounded (scene_seen s))
-read_bounded (Ok scene) bytes e = bounded bytes (scene_seen scene) e
-read_bounded (Err fault) bytes e = tt
+read_bounded : (result : Result Scene SceneFault) (bytes : List ℕ) → length bytes ≤ 4294967294 → Reads result (scene_of whole_language bytes) → IfOk result (λ s. IsBounded (scene_seen s))
+read_bounded (Ok scene) bytes le e = (bounded bytes (scene_seen scene) le e).1
+read_bounded (Err fault) bytes le e = tt
+
+-- and is readable
+read_readable : (result : Result Scene SceneFault) (bytes : List ℕ) → length bytes ≤ 4294967294 → Reads result (scene_of whole_language bytes) → IfOk result (λ s. IsReadable (scene_seen s))
+read_readable (Ok scene) bytes le e = (bounded bytes (scene_seen scene) le e).0
+read_readable (Err fault) bytes le e = tt
 
 pub returns-in-Err : goal.returns-in-Err
 returns-in-Err c = record {
   exact = rw c.at.ensures (line_stops whole_language c.in-Err.fault c.loop-n.line (reading_seen c.loop-n.reading) (take c.in-Some.n c.loop-n.rest.now) c.loop-n.rest.now (drop (c.in-Some.n + 1) c.loop-n.rest.now) _ c.loop-n.invariant.left c.in-Some.ensures.cases.1 c.in-Err.ensures);
+  readable = tt;
   bounds = tt;
 }
+
+pub returns-clause-readable : goal.returns-clause-readable
+returns-clause-readable c =
+    let last = c.in_default.ensures.cases in
+    let whole = sym (ap (read_pieces whole_language c.loop-n.line (Ok (reading_seen c.loop-n.reading))) last) ∙ c.loop-n.invariant.left in
+    read_readable c.at_last_piece.result c.args.bytes.now c.requires (subst (Reads c.at_last_piece.result) whole c.at_last_piece.ensures)
 
 pub returns-clause-bounds : goal.returns-clause-bounds
 returns-clause-bounds c =
     let last = c.in_default.ensures.cases in
     let whole = sym (ap (read_pieces whole_language c.loop-n.line (Ok (reading_seen c.loop-n.reading))) last) ∙ c.loop-n.invariant.left in
-    read_bounded c.at_last_piece.result c.args.bytes.now (subst (Reads c.at_last_piece.result) whole c.at_last_piece.ensures)
+    read_bounded c.at_last_piece.result c.args.bytes.now c.requires (subst (Reads c.at_last_piece.result) whole c.at_last_piece.ensures)
 
 pub loop-n-preserved : goal.loop-n-preserved
 loop-n-preserved c =
