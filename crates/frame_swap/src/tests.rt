@@ -118,9 +118,7 @@ fn by_a_thread<R: Threads + Wait + Sync>(
 fn a_thread_renders_at_each_latency(rt: HostRuntime) -> Result<(), Fail> {
     for latency in 1..4 {
         let (api, end) = swap_pair(rt.alloc(), latency)?;
-        let came = by_a_thread(&rt, api, end, frame(&rt, 3)?, frame(&rt, 4)?).ok_or(
-            "no thread",
-        )?;
+        let came = by_a_thread(&rt, api, end, frame(&rt, 3)?, frame(&rt, 4)?).ok_or("no thread")?;
         assert!(rt; came.0 == (3, Some(3), Outcome::Shown));
         assert!(rt; came.1 == (4, Some(4), Outcome::Skipped));
     }

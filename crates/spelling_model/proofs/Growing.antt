@@ -38,4 +38,3 @@ frames_grow bound (f ∷ frames) =
     let b = lines_grow (bound_by_lines bound f.before) f.beside in
     let c = frames_grow (bound_by_frame bound f) frames in
     omega (arith, a, b, c)
-
