@@ -12,7 +12,9 @@ use Rattle.resource_laws.specs.Bare.{bare_of}
 use Rattle.resource_laws.specs.Lawful.{IsLawful}
 use Rattle.resource_laws.proofs.CallLaws.{all_passed}
 use Rattle.resource_book.specs.Written.{BookView, after_in}
-use Rattle.gfx_context.specs.Kept.{IsTied, IsContext}
+use Rattle.gfx_context.specs.Kept.{IsTied, AreTargets, IsContext}
+use Rattle.gfx_model.specs.Views.{View}
+use Rattle.gfx_context.proofs.Targets.{targets_stay}
 use Rattle.gfx_context.specs.States.{ContextView}
 use Rattle.gfx_context.specs.Calls.{IsPlacedBy, Makes}
 use Rattle.gfx_context.specs.Places.{Stays}
@@ -76,9 +78,12 @@ pub kept_made : {L : Type 0} (admits : ℕ → ℕ → List Item → ℕ → Typ
     → IsContext admits views (record v { book = after_in c (Some h) v.book; seat = created (place_of_handle h) h.serial v.seat })
 kept_made admits views v c h k l m =
     let same = same_after v.book.resources c in
+    let stays = λ (n : ℕ). stays_unnamed v.seat.places (place_of_handle h) (Rattle.schedule_model.specs.Machine.live h.serial) n (free_unnamed n (place_at v.seat.places (place_of_handle h)) (place_was_free m v.seat l k.tied)) in
     kept_moved admits views v k (after_in c (Some h) v.book) (Rattle.std.proofs.Common.slice_set v.seat.places (place_of_handle h) (Rattle.schedule_model.specs.Machine.live h.serial)) h.serial
     (λ n le. stays_unnamed v.seat.places (place_of_handle h) (Rattle.schedule_model.specs.Machine.live h.serial) n (free_unnamed n (place_at v.seat.places (place_of_handle h)) (place_was_free m v.seat l k.tied)))
     (tied_after m v.seat l k.tied) same.0 same.1
+    (subst (λ (xs : List View). AreTargets v.seat.frame (Rattle.std.proofs.Common.slice_set v.seat.places (place_of_handle h) (Rattle.schedule_model.specs.Machine.live h.serial)) xs) (sym (ap (λ (e : Effect). e.after.views.settings) m.is))
+    (targets_stay v.seat.frame v.seat.places (Rattle.std.proofs.Common.slice_set v.seat.places (place_of_handle h) (Rattle.schedule_model.specs.Machine.live h.serial)) (stays v.seat.frame) v.book.resources.views.settings k.targets))
 
 module _ {L : Type 0} {admits : ℕ → ℕ → List Item → ℕ → Type 0} {views : ℕ} {v : ContextView L} (k : IsContext admits views v) (l : IsLawful v.book.resources) (c : ResourceCall) {h : Handle} (m : IsMake v.book.resources (effect v.book.resources c) h)
     (b : BookView) (s : SeatView) (book : b ≡ after_in c (Some h) v.book) (seat : s ≡ created (place_of_handle h) h.serial v.seat) where

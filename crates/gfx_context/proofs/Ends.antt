@@ -14,7 +14,10 @@ use Rattle.frame_record.specs.Links.{CameBack}
 use Rattle.resource_book.specs.Written.{BookView}
 use Rattle.gfx_context.specs.Places.{Stays}
 use Rattle.gfx_context.specs.Gathered.{AreCollected, AreGathered, once_below, with_gathered}
-use Rattle.gfx_context.specs.Kept.{IsTied, AreOut, IsContext}
+use Rattle.gfx_context.specs.Kept.{IsTied, AreOut, AreTargets, IsContext}
+use Rattle.gfx_model.specs.Views.{View}
+use Rattle.resource_laws.specs.Lawful.{IsLawful}
+use Rattle.gfx_context.proofs.Targets.{targets_stay, live_targets}
 use Rattle.gfx_context.specs.States.{ContextView}
 use Rattle.gfx_context.specs.Ended.{GivesWork}
 use Rattle.gfx_model.specs.Frames.{collected}
@@ -35,6 +38,7 @@ module _ {L : Type 0} (admits : ℕ → ℕ → List Item → ℕ → Type 0) (v
   pub kept_collected : (s : SeatView) (rs : List Recording) → s ≡ with_gathered s v.seat → AreGathered admits views s v.begun rs → IsContext admits views (record v { seat = s; gathered = rs })
   kept_collected s rs e g = record {
     tied = tied_seat v.book.resources s v.seat e k.tied;
+    targets = subst (λ (x : SeatView). AreTargets x.frame x.places v.book.resources.views.settings) (sym e) k.targets;
     counted = k.counted;
     latency = k.latency;
     few = k.few;
@@ -47,6 +51,7 @@ module _ {L : Type 0} (admits : ℕ → ℕ → List Item → ℕ → Type 0) (v
       → IsContext admits views (record v { out = left; given = given; back = new; link = link })
   kept_back left given new r e same c link = record {
     tied = k.tied;
+    targets = k.targets;
     counted = k.counted;
     latency = k.latency;
     few = (let l = k.few in omega arith);
@@ -82,13 +87,20 @@ module _ {L : Type 0} (admits : ℕ → ℕ → List Item → ℕ → Type 0) (v
         collected = tt;
       }
 
-  pub kept_given : v.seat.off ≡ [] → v.out < v.book.resources.latency → IsTied b.resources s → ((n : ℕ) → v.book.resources.frame + 1 ≤ n + v.book.resources.latency → Stays n v.seat.places s.places)
+  targets_next : IsLawful v.book.resources → s.frame ≡ suc v.seat.frame → Stays (suc v.seat.frame) v.seat.places s.places → AreTargets s.frame s.places b.resources.views.settings
+  targets_next l frame stays =
+      subst (λ (p : ℕ × List View). AreTargets p.0 s.places p.1) (λ j. (sym frame j, sym (ap (λ (r : model.Resources). r.views.settings) resources) j))
+      (targets_stay (suc v.seat.frame) v.seat.places s.places stays (map (model.with_live_target v.book.resources) v.book.resources.views.settings)
+      (live_targets v.book.resources l v.seat.places k.tied.placed v.seat.frame (suc v.seat.frame) v.book.resources.views.settings k.targets))
+
+  pub kept_given : IsLawful v.book.resources → v.seat.off ≡ [] → v.out < v.book.resources.latency → IsTied b.resources s → ((n : ℕ) → v.book.resources.frame + 1 ≤ n + v.book.resources.latency → Stays n v.seat.places s.places)
       → IsContext admits views (record v { book = b; seat = s; begun = 0; gathered = rs; out = v.out + 1; given = given; back = back; link = link })
-  kept_given none few tied stays =
+  kept_given l none few tied stays =
       let latency : b.resources.latency ≡ v.book.resources.latency = ap (λ (r : model.Resources). r.latency) resources in
       let frame : s.frame ≡ suc v.seat.frame = ap (λ (x : SeatView). x.frame) seat in
       record {
         tied = tied;
+        targets = targets_next l frame (stays (suc v.seat.frame) (let e = k.tied.frame in let some = k.latency.0 in omega (arith, e, some)));
         counted = ap (λ (r : model.Resources). view_count r.views) resources ∙ length-map v.book.resources.views.settings (model.with_live_target v.book.resources) ∙ k.counted;
         latency = (subst (λ (n : ℕ). 1 ≤ n) (sym latency) k.latency.0, subst (λ (n : ℕ). n ≤ 3) (sym latency) k.latency.1);
         few = omega (arith, latency, few);

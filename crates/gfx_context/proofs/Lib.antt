@@ -14,3 +14,5 @@ pub mod Uniforms
 pub mod Finish
 pub mod Frames
 pub mod Closings
+pub mod Targets
+pub mod ItemLaws

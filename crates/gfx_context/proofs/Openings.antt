@@ -16,6 +16,7 @@ use Rattle.resource_book.specs.Opened.{opened}
 use Rattle.gfx_context.specs.Kept.{KeepsNames, AreOut, IsContext}
 use Rattle.gfx_context.specs.States.{ContextView}
 use Rattle.gfx_context.proofs.Ends.{none_begun}
+use Rattle.gfx_context.proofs.Targets.{new_targets}
 
 all_free : (n p : ℕ) → place_at (replicate n free) p ≡ free
 all_free zero p = refl
@@ -51,6 +52,7 @@ kept_new admits views start given back link frame serial counted some few none =
         frame = refl;
         most = frame;
       };
+      targets = new_targets start.frame (first_view start.frame).places start.views;
       counted = length-replicate start.views plain_view ∙ counted;
       latency = (some, few);
       few = omega arith;

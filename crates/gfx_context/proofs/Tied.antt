@@ -45,7 +45,7 @@ pub none_from_count : (p : Thing → Bool) (ts : List Thing) → count_where p t
 none_from_count p [] z = refl
 none_from_count p (t ∷ ts) z = none_step p t ts (p t) refl (none_from_count p ts) z
 
-found_bare : (p : Thing → Bool) → ((t : Thing) → p (bare t) ≡ p t) → (ts : List Thing) → place_of (find p (map bare ts)) ≡ place_of (find p ts)
+pub found_bare : (p : Thing → Bool) → ((t : Thing) → p (bare t) ≡ p t) → (ts : List Thing) → place_of (find p (map bare ts)) ≡ place_of (find p ts)
 found_bare p same [] = refl
 found_bare p same (t ∷ ts) = ap (λ c. place_of (if c then Some (bare t) else find p (map bare ts))) (same t) ∙ bare_step p t ts (p t) (found_bare p same ts) where
   bare_step : (p : Thing → Bool) (t : Thing) (ts : List Thing) (b : Bool) → place_of (find p (map bare ts)) ≡ place_of (find p ts) → place_of (if b then Some (bare t) else find p (map bare ts)) ≡ place_of (if b then Some t else find p ts)

@@ -12,7 +12,7 @@ use Rattle.resource_laws.specs.Bare.{bare, bare_of}
 use Rattle.resource_laws.specs.Lawful.{IsLawful}
 use Rattle.resource_laws.proofs.CallLaws.{all_passed}
 use Rattle.resource_book.specs.Written.{BookView, after_in}
-use Rattle.gfx_context.specs.Kept.{IsTied, IsContext}
+use Rattle.gfx_context.specs.Kept.{IsTied, AreTargets, IsContext}
 use Rattle.gfx_context.specs.States.{ContextView}
 use Rattle.gfx_context.specs.Calls.{IsPlacedBy, Makes}
 use Rattle.gfx_context.proofs.Moves.{kept_same}
@@ -83,7 +83,8 @@ module _ {L : Type 0} {admits : ℕ → ℕ → List Item → ℕ → Type 0} {v
         let same = same_after v.book.resources (create_uniform name kind) in
         subst (λ (p : BookView × SeatView). IsContext admits views (record v { book = p.0; seat = p.1 })) (λ j. (sym book j, sym (same_seat m) j))
         (kept_same admits views v k (after_in (create_uniform name kind) (Some h) v.book)
-        (subst (λ (r : Resources). IsTied (bare_of r) v.seat) (sym m.after) (tied_referred (λ n. n + 1) m.serial v.book.resources v.seat l k.tied)) same.0 same.1)
+        (subst (λ (r : Resources). IsTied (bare_of r) v.seat) (sym m.after) (tied_referred (λ n. n + 1) m.serial v.book.resources v.seat l k.tied)) same.0 same.1
+        (subst (λ (r : Resources). AreTargets v.seat.frame v.seat.places r.views.settings) (sym m.after) k.targets))
 
     kept_by : IsMake v.book.resources e h ⊎ IsReferred v.book.resources e → IsContext admits views (record v { book = b; seat = s })
     kept_by (inl m) = kept_after k l (create_uniform name kind) m b s book (new_seat m)

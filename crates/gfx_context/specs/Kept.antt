@@ -1,15 +1,16 @@
 -- What every context keeps.
-use Rattle.std.specs.Prelude.{ℕ, ◌≡◌, ◌<◌, ◌≤◌, ◌+◌, ◌-◌, List, ◌++◌, map, length}
+use Rattle.std.specs.Prelude.{ℕ, ◌≡◌, ◌<◌, ◌≤◌, ◌+◌, ◌-◌, List, ◌++◌, map, length, Option, Some, None, IsTrue, ⊤}
 use Rattle.std.specs.List.{AllByRecursion, range_with_len}
 use Rattle.gfx_model.specs.World.{Item}
-use Rattle.gfx_model.specs.Views.{view_count}
+use Rattle.gfx_model.specs.Views.{View, view_count}
+use Rattle.gfx_model.specs.Words.{Handle, frame_buffer_kind, is_kind}
 use Rattle.gfx_model.specs.Resources.{Resources}
 use Rattle.schedule_model.specs.Machine.{Place}
 use Rattle.hold_table.specs.Views.{SeatView}
 use Rattle.frame_record.specs.declared.frame.Frame.{Frame}
 use Rattle.frame_record.specs.declared.frame.RenderedFrame.{RenderedFrame}
 use Rattle.frame_record.specs.Links.{frames_of, out_of}
-use Rattle.gfx_context.specs.Places.{IsPlaced}
+use Rattle.gfx_context.specs.Places.{IsPlaced, IsUsable}
 use Rattle.gfx_context.specs.Gathered.{AreCollected, AreGathered}
 use Rattle.gfx_context.specs.States.{ContextView}
 
@@ -33,9 +34,19 @@ pub record AreOut (admits : ℕ → ℕ → List Item → ℕ → Type 0) (views
   pub numbers : map (λ f. f.number) (out_of given back) ≡ range_with_len (frame - out) out
   pub names : AllByRecursion (KeepsNames admits views places) (out_of given back)
 
+-- a target is the back buffer, or a frame buffer that can be named in the frame
+abbrev pub IsTarget : ℕ → List Place → Option Handle → Type 0
+IsTarget frame places None = ⊤
+IsTarget frame places (Some h) = IsTrue (is_kind h.kind frame_buffer_kind) × IsUsable frame places h
+
+-- the targets of views
+abbrev pub AreTargets : ℕ → List Place → List View → Type 0
+AreTargets frame places vs = AllByRecursion (λ view. IsTarget frame places view.target) vs
+
 -- what a context keeps
 pub record IsContext {L : Type 0} (admits : ℕ → ℕ → List Item → ℕ → Type 0) (views : ℕ) (v : ContextView L) : Type 0 where
   pub tied : IsTied v.book.resources v.seat
+  pub targets : AreTargets v.seat.frame v.seat.places v.book.resources.views.settings
   pub counted : view_count v.book.resources.views ≡ views
   pub latency : (1 ≤ v.book.resources.latency) × (v.book.resources.latency ≤ 3)
   pub few : v.out ≤ v.book.resources.latency

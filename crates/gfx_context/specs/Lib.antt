@@ -5,3 +5,4 @@ pub mod Codes
 pub mod Kept
 pub mod Calls
 pub mod Ended
+pub mod Laws

@@ -127,6 +127,7 @@ impl<'t, C: Naming, L: FrameLink + Drop> Context<'t, C, L> {
         ensures gives { GivesWork work self.old self.new }
         ensures origin { L.origin self.new.link ≡ L.origin self.old.link }
     {
+        self.book.tell_facts();
         let Work {
             views,
             pre,

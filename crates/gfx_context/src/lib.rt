@@ -13,8 +13,20 @@ mod report;
 mod updates;
 mod views;
 
+ghost use Rattle.gfx_context.specs.Laws.{ItemsLaw, TargetsLaw};
+
 pub use context::Context;
 pub use draw_encoder::{Encoder, Naming, Room, Shared};
 pub use report::{BackNote, Closed, FrameReport};
 pub use resource_book::Start;
 pub use texture_store::TexSource;
+
+/// What encoders recorded in a frame names things that live or die in it, where its handles are ones that the context gave.
+pub fn items_law()
+    ensures { ItemsLaw }
+{}
+
+/// The targets of a frame's views are frame buffers that live or die in it, where their handles are ones that the context gave.
+pub fn targets_law()
+    ensures { TargetsLaw }
+{}

@@ -60,6 +60,7 @@ impl<'t, C: Naming, L: FrameLink + Drop> Context<'t, C, L> {
     pub fn set_view_target(&mut self, view: u16, target: Option<Handle>) -> Result<(), Refusal>
         ensures { Changes result (model.set_view_target view target) self.old self.new }
     {
+        self.book.tell_facts();
         self.book.set_view_target(view, target)
     }
 

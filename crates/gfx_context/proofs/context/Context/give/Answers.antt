@@ -27,7 +27,7 @@ invariant_of-self g c =
       search rules,
       kept_given g.C.Naming.admits g.C.Naming.views _ c.self.invariant.4 c.new-frame.result (g.L.FrameLink.given c.give.new.self) (g.L.FrameLink.back c.give.new.self) c.next_frame.new.book (api_view c.next_frame.new.api) c.replace-recordings.new.dest.items c.give.new.self
           c.give.ensures.given c.give.ensures.back (ap (λ x. x.items) c.replace-recordings.ensures.after ∙ c.requires.room.0) (f.number ∙ c.frame-number.ensures.frame) (ap (λ x. x.items) (f.recordings ∙ c.replace-recordings.ensures.value)) next.book next.seat
-          none few next.tied next.stays,
+          c.tell_facts.ensures none few next.tied next.stays,
     )
 
 pub returns-clause-gives : goal.returns-clause-gives
