@@ -17,6 +17,3 @@ mod uniforms;
 pub use entering::enter_view;
 pub use items::Recorded;
 pub use room::DrawingRoom;
-
-#[cfg(test)]
-mod tests;
