@@ -1,0 +1,184 @@
+// The frames of the scene.
+ghost use Rattle.std.specs.Prelude.{◌≡◌, ◌≤◌, ◌<◌, ◌++◌, ◌∷◌, [], IfOk, OnOk, codes, map};
+ghost use Rattle.scene_model.specs.Generated.{draw_lines, block_of, first_lines, lines_before, generated_frame, generated};
+ghost use Rattle.generated_scene.specs.Draws.{lines_of_draw};
+ghost use Rattle.scene_text.specs.Seen.{encoder_line_seen, resource_line_seen, block_seen, frame_seen, name_seen, scene_seen};
+
+use crate::squares::square;
+use gfx_words::ProgramKind;
+use scene_text::{
+    Clear, EncBlock, EncLine, LayoutPart, ResLine, Room, Scene, SceneFrame, SceneName, Sequence,
+};
+use std::alloc::{AllocError, Global};
+use vertex_layout::{Attr, AttrType};
+
+// Stores all channels, tests depth by less, and stores depth.
+const STATE: u64 = 274_877_906_975;
+
+// The three lines of a draw.
+fn push_draw(
+    alloc: Global,
+    lines: &mut Vec<EncLine>,
+    frame: u32,
+    draw: u32,
+) -> Result<(), AllocError>
+    requires { (frame < 512) × (draw < 1200) }
+    ensures { OnOk result (map encoder_line_seen lines.new.items ≡ map encoder_line_seen lines.old.items ++ draw_lines frame draw) }
+{
+    let bytes = square(alloc, frame, draw)?;
+    lines.push(EncLine::State { word: STATE })?;
+    lines.push(EncLine::TransientVertices { layout: 0, bytes })?;
+    lines.push(EncLine::Submit {
+        view: (draw % 6) as u16,
+        program: 1,
+        depth: draw,
+        flags: 255,
+    })?;
+    Ok(())
+}
+
+// The lines of a draw where it is the encoder's.
+fn push_own(
+    alloc: Global,
+    lines: &mut Vec<EncLine>,
+    frame: u32,
+    encoder: u8,
+    draw: u32,
+) -> Result<(), AllocError>
+    requires { (frame < 512) × (draw < 1200) }
+    ensures { OnOk result (map encoder_line_seen lines.new.items ≡ map encoder_line_seen lines.old.items ++ lines_of_draw frame encoder draw) }
+{
+    if draw % 4 != encoder as u32 {
+        return Ok(());
+    }
+    push_draw(alloc, lines, frame, draw)?;
+    Ok(())
+}
+
+// An encoder's draws in a frame.
+fn block(alloc: Global, frame: u32, encoder: u8) -> Result<EncBlock, AllocError>
+    requires { frame < 512 }
+    ensures { IfOk result (λ b. block_seen b ≡ block_of frame encoder) }
+{
+    let mut lines = Vec::with_capacity(alloc, 900)?;
+    for draw in 0..1200u32 {
+        push_own(alloc, &mut lines, frame, encoder, draw)?;
+    }
+    Ok(EncBlock {
+        encoder,
+        lines: Sequence::from_vec(lines),
+    })
+}
+
+// The layout, the program and the clear of view 0.
+fn first_lines(alloc: Global) -> Result<Vec<ResLine>, AllocError>
+    ensures { IfOk result (λ lines. map resource_line_seen lines.items ≡ first_lines) }
+{
+    let mut parts = Vec::with_capacity(alloc, 2)?;
+    parts.push(LayoutPart::Attribute {
+        attr: Attr::Position,
+        kind: AttrType::Fixed,
+        count: 3,
+    })?;
+    parts.push(LayoutPart::Attribute {
+        attr: Attr::Color0,
+        kind: AttrType::U8,
+        count: 4,
+    })?;
+    let mut lines = Vec::with_capacity(alloc, 3)?;
+    lines.push(ResLine::Layout {
+        name: 0,
+        parts: Sequence::from_vec(parts),
+    })?;
+    lines.push(ResLine::Program {
+        name: 1,
+        kind: ProgramKind::Color,
+    })?;
+    lines.push(ResLine::ViewClear {
+        view: 0,
+        clear: Clear {
+            flags: 7,
+            color: [0, 0, 0, 255],
+            depth: 16_777_215,
+            stencil: 0,
+        },
+    })?;
+    Ok(lines)
+}
+
+// The lines before a frame's blocks: the first frame makes what all use.
+fn lines_before(alloc: Global, frame: u32) -> Result<Sequence<ResLine>, AllocError>
+    ensures { IfOk result (λ lines. map resource_line_seen lines ≡ lines_before frame) }
+{
+    if frame > 0 {
+        return Ok(Sequence::new(alloc));
+    }
+    let lines = first_lines(alloc)?;
+    Ok(Sequence::from_vec(lines))
+}
+
+fn frame_of(alloc: Global, frame: u32) -> Result<SceneFrame, AllocError>
+    requires { frame < 512 }
+    ensures { IfOk result (λ f. frame_seen f ≡ generated_frame frame) }
+{
+    let before = lines_before(alloc, frame)?;
+    let mut blocks = Vec::with_capacity(alloc, 4)?;
+    for encoder in 0..4u8 {
+        let block = block(alloc, frame, encoder)?;
+        blocks.push(block)?;
+    }
+    Ok(SceneFrame {
+        before,
+        blocks: Sequence::from_vec(blocks),
+        beside: Sequence::new(alloc),
+    })
+}
+
+fn name(alloc: Global, text: &[u8]) -> Result<SceneName, AllocError>
+    ensures { IfOk result (λ n. name_seen n ≡ text.now) }
+{
+    let mut bytes = Vec::with_capacity(alloc, 1)?;
+    bytes.extend_from_slice(text)?;
+    Ok(SceneName {
+        text: Sequence::from_vec(bytes),
+    })
+}
+
+// The names of the layout and of the program.
+fn names(alloc: Global) -> Result<Vec<SceneName>, AllocError>
+    ensures { IfOk result (λ ns. map name_seen ns.items ≡ codes "q" ∷ codes "c" ∷ []) }
+{
+    let layout = name(alloc, b"q")?;
+    let program = name(alloc, b"c")?;
+    let mut names = Vec::with_capacity(alloc, 2)?;
+    names.push(layout)?;
+    names.push(program)?;
+    Ok(names)
+}
+
+/// The generated scene of 1 to 512 frames. `Err` only for want of memory.
+pub fn make_scene(alloc: Global, count: u32) -> Result<Scene, AllocError>
+    requires { (1 ≤ count) × (count ≤ 512) }
+    ensures { IfOk result (λ s. scene_seen s ≡ generated count) }
+{
+    let names = names(alloc)?;
+    let mut frames = Vec::with_capacity(alloc, count as usize)?;
+    for frame in 0..count {
+        let made = frame_of(alloc, frame)?;
+        frames.push(made)?;
+    }
+    Ok(Scene {
+        version: 1,
+        width: 640,
+        height: 480,
+        encoders: 4,
+        room: Room {
+            items: 8191,
+            bytes: 262_144,
+            uniforms: 4096,
+        },
+        latency: 1,
+        names: Sequence::from_vec(names),
+        frames: Sequence::from_vec(frames),
+    })
+}

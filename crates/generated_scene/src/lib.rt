@@ -1,0 +1,10 @@
+//! The generated scene: 640 by 480, four encoders, and in each frame 1,200 squares of 16 by 16 pixels.
+#![tactic(auto)]
+
+mod frames;
+mod squares;
+
+pub use frames::make_scene;
+
+#[cfg(test)]
+mod tests;
