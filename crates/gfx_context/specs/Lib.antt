@@ -1,7 +1,6 @@
 pub mod Places
 pub mod Gathered
 pub mod States
-pub mod Codes
 pub mod Kept
 pub mod Calls
 pub mod Ended

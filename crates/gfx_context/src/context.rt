@@ -39,14 +39,10 @@ pub struct Context<'t, C: Naming, L: FrameLink + Drop> {
 impl<'t, C: Naming, L: FrameLink + Drop> Model for Context<'t, C, L> {
     ghost use Rattle.std.specs.Prelude.{◌≡◌, ◌≤◌, vec_capacity};
     ghost use Rattle.hold_table.specs.Seats.{api_table, api_view};
-    ghost use Rattle.std.specs.Coded.{codes};
-    ghost use Rattle.gfx_context.specs.Codes.{kept_coded};
     ghost use Rattle.gfx_context.specs.States.{ContextView};
     ghost use Rattle.gfx_context.specs.Kept.{IsContext};
 
     ghost Value = { ContextView L };
-
-    ghost coded = { Prim.hlevel (kept_coded, codes) };
 
     ghost view = { λ c. record {
       book = c.book;
