@@ -1,5 +1,5 @@
 -- The entries of a recording with their numbers.
-use Rattle.std.proofs.Common.{◌≡◌, ℕ, zero, suc, ◌+◌, ◌<◌, ◌≤◌, List, [], ◌∷◌, ◌++◌, length, map, take, drop, slice_index_or, refl, ap, sym, ◌∙◌, arith}
+use Rattle.std.proofs.Common.{◌≡◌, ℕ, zero, suc, ◌+◌, ◌<◌, ◌≤◌, List, [], ◌∷◌, length, map, drop, slice_index_or, refl, ap, ◌∙◌, arith}
 use Rattle.gfx_model.specs.Frames as model
 use Rattle.gfx_model.specs.Frames.{numbered_from, numbered_entries}
 use Rattle.gfx_model.proofs.OrderedLaws as ordered

@@ -5,3 +5,6 @@ pub mod StepLaws
 pub mod CollectLaws
 pub mod KeyLaws
 pub mod Sorting
+pub mod KeptLaws
+pub mod Apart
+pub mod PlaceLaws

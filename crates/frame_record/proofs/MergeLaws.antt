@@ -1,8 +1,8 @@
 -- Two ascending lists merged: what is taken next is the first of what is left, sorted.
 use Rattle.std.proofs.Common.{◌≡◌, ℕ, zero, suc, ◌+◌, ◌<◌, ◌≤◌, ◌==◌, Bool, true, false, cond, nat_le, List, [], ◌∷◌, ◌++◌, length, drop, refl, ap, sym, subst, ◌∙◌, arith}
 use Rattle.std.specs.Prelude.{nat_lt}
-use Rattle.std.proofs.lemmas.Bool.{le-leb, lt-ltb, leb-false, ltb-true, leb-true}
-use Rattle.std.proofs.lemmas.List.{append-nil, append_assoc, drop_all, length-append, length-drop}
+use Rattle.std.proofs.lemmas.Bool.{le-leb, ltb-true}
+use Rattle.std.proofs.lemmas.List.{append-nil, append_assoc, drop_all, length-drop}
 use Rattle.gfx_model.specs.Frames as model
 use Rattle.gfx_model.specs.World.{insert_by_key, sorted_by_key}
 use Rattle.gfx_model.proofs.OrderedLaws.{Ascends, at_key, stable-is-sorted, sorted-ascends, sorted-at_key}

@@ -1,5 +1,7 @@
 -- A stable sort by the key is the order of the definitions.
-use Rattle.std.proofs.Common.{◌≡◌, ℕ, suc, ◌+◌, ◌<◌, ◌≤◌, ◌==◌, Bool, true, false, cond, not, List, [], ◌∷◌, map, length, filter, get_or, refl, ap, sym, ◌∙◌, inl, inr, arith}
+use mathlib.Core.Logic.{dite, ⊎_elim}
+use native.Mathlib.Decide.{ℕ_discrete}
+use Rattle.std.proofs.Common.{◌≡◌, ◌≢◌, ◌⊎◌, ℕ, suc, ◌<◌, ◌≤◌, ◌==◌, Bool, true, false, cond, not, List, [], ◌∷◌, map, length, filter, get_or, refl, ap, sym, ◌∙◌, inl, inr, arith}
 use Rattle.std.specs.Prelude.{◌&&◌, nat_lt}
 use Rattle.std.specs.Ordering.{is_lt, nat_cmp}
 use Rattle.std.specs.List.Sorted.{ties, IsStableByKey, IsNonDecreasingBy}
@@ -7,8 +9,6 @@ use Rattle.std.proofs.lemmas.Bool.{cases_order, ne_eqb, eq-eqb, lt-ltb}
 use Rattle.gfx_model.specs.Frames as model
 use Rattle.gfx_model.specs.World.{sorted_by_key}
 use Rattle.gfx_model.proofs.OrderedLaws.{Ascends, at_key, stable-is-sorted}
-use Rattle.frame_record.specs.declared.ordering.OrderedItem.{OrderedItem}
-use Rattle.frame_record.specs.Ordered.{keyed_of}
 
 tie : (m n : ℕ) → (not (is_lt (nat_cmp m n)) && not (is_lt (nat_cmp n m))) ≡ (n == m)
 tie m n = elim (cases_order m n) [
@@ -20,23 +20,46 @@ tie m n = elim (cases_order m n) [
     both : (n : ℕ) → (not (is_lt (nat_cmp n n)) && not (is_lt (nat_cmp n n))) ≡ (n == n)
     both n = let no : nat_lt n n ≡ false = grind arith in rw (no, eq-eqb n n refl) refl
 
-at-pairs : (k : ℕ) (x : OrderedItem) (xs : List OrderedItem) → x.key ≡ k → at_key k (map keyed_of xs) ≡ map keyed_of (filter (ties (λ a b. is_lt (nat_cmp a.key b.key)) x) xs)
-at-pairs k x [] e = refl
-at-pairs k x (y ∷ xs) e =
-    let same : (y.key == k) ≡ ties (λ (a b : OrderedItem). is_lt (nat_cmp a.key b.key)) x y = ap (λ m. y.key == m) (sym e) ∙ sym (tie x.key y.key) in
-    ap (λ b. cond b (keyed_of y ∷ at_key k (map keyed_of xs)) (at_key k (map keyed_of xs))) same
-    ∙ go (at-pairs k x xs e) (ties (λ (a b : OrderedItem). is_lt (nat_cmp a.key b.key)) x y)
-  where
-    go : at_key k (map keyed_of xs) ≡ map keyed_of (filter (ties (λ a b. is_lt (nat_cmp a.key b.key)) x) xs) → (b : Bool) → cond b (keyed_of y ∷ at_key k (map keyed_of xs)) (at_key k (map keyed_of xs)) ≡ map keyed_of (cond b (y ∷ filter (ties (λ a b. is_lt (nat_cmp a.key b.key)) x) xs) (filter (ties (λ a b. is_lt (nat_cmp a.key b.key)) x) xs))
-    go rest true = ap (λ (ps : List (ℕ × model.Entry)). keyed_of y ∷ ps) rest
-    go rest false = rest
+module _ {A : Type 0} (key : A → ℕ) (entry : A → model.Entry) where
+  -- something's entry with its key
+  abbrev keyed : A → ℕ × model.Entry
+  keyed x = (key x, entry x)
 
-ascends-by : (low : ℕ) (ys : List OrderedItem) → ((i : ℕ) (d : OrderedItem) → i < length ys → low ≤ (get_or ys i d).key) → ((i j : ℕ) (d : OrderedItem) → i ≤ j → j < length ys → (get_or ys i d).key ≤ (get_or ys j d).key) → Ascends low (map keyed_of ys)
-ascends-by low [] above up = tt
-ascends-by low (y ∷ ys) above up = (above 0 y (omega arith), ascends-by y.key ys (λ i d lt. up 0 (suc i) d (omega arith) (omega arith)) (λ i j d le lt. up (suc i) (suc j) d (omega arith) (omega arith)))
+  -- whether two have one key
+  abbrev tied : A → A → Bool
+  tied x y = ties (λ (a b : A). is_lt (nat_cmp (key a) (key b))) x y
 
-pub sorted-keys : (xs ys : List OrderedItem) → IsNonDecreasingBy (λ k. k.key) ys → IsStableByKey (λ k. k.key) nat_cmp xs ys → map keyed_of ys ≡ sorted_by_key (map keyed_of xs)
-sorted-keys xs ys up stable =
-    stable-is-sorted (map keyed_of xs) (map keyed_of ys) (ascends-by 0 ys (λ i d lt. omega arith) (λ i j d le lt. up i j d le lt))
-    (λ k. let probe : OrderedItem = record { key = k; entry = record { encoder = 0; ordinal = 0 } } in
-    at-pairs k probe ys refl ∙ ap (map keyed_of) (stable probe) ∙ sym (at-pairs k probe xs refl))
+  at-pairs : (k : ℕ) (x : A) (xs : List A) → key x ≡ k → at_key k (map keyed xs) ≡ map keyed (filter (tied x) xs)
+  at-pairs k x [] e = refl
+  at-pairs k x (y ∷ xs) e =
+      let same : (key y == k) ≡ tied x y = ap (λ m. key y == m) (sym e) ∙ sym (tie (key x) (key y)) in
+      ap (λ b. cond b (keyed y ∷ at_key k (map keyed xs)) (at_key k (map keyed xs))) same
+      ∙ go (at-pairs k x xs e) (tied x y)
+    where
+      go : at_key k (map keyed xs) ≡ map keyed (filter (tied x) xs) → (b : Bool) → cond b (keyed y ∷ at_key k (map keyed xs)) (at_key k (map keyed xs)) ≡ map keyed (cond b (y ∷ filter (tied x) xs) (filter (tied x) xs))
+      go rest true = ap (λ (ps : List (ℕ × model.Entry)). keyed y ∷ ps) rest
+      go rest false = rest
+
+  -- one of a key, or none of the list has it
+  find_key : (k : ℕ) (xs : List A) → ((x : A) × (key x ≡ k)) ⊎ (at_key k (map keyed xs) ≡ [])
+  find_key k [] = inr refl
+  find_key k (x ∷ xs) = dite (ℕ_discrete (key x) k)
+      (λ (e : key x ≡ k). inl (x, e))
+      (λ (ne : key x ≢ k). ⊎_elim
+      (λ (t : (x : A) × (key x ≡ k)). inl t)
+      (λ (none : at_key k (map keyed xs) ≡ []). inr (ap (λ b. cond b (keyed x ∷ at_key k (map keyed xs)) (at_key k (map keyed xs))) (ne_eqb (key x) k ne) ∙ none))
+      (find_key k xs))
+
+  ascends-by : (low : ℕ) (ys : List A) → ((i : ℕ) (d : A) → i < length ys → low ≤ key (get_or ys i d)) → ((i j : ℕ) (d : A) → i ≤ j → j < length ys → key (get_or ys i d) ≤ key (get_or ys j d)) → Ascends low (map keyed ys)
+  ascends-by low [] above up = tt
+  ascends-by low (y ∷ ys) above up = (above 0 y (omega arith), ascends-by (key y) ys (λ i d lt. up 0 (suc i) d (omega arith) (omega arith)) (λ i j d le lt. up (suc i) (suc j) d (omega arith) (omega arith)))
+
+  pub sorted-keys : (xs ys : List A) → IsNonDecreasingBy key ys → IsStableByKey key nat_cmp xs ys → map keyed ys ≡ sorted_by_key (map keyed xs)
+  sorted-keys xs ys up stable =
+      stable-is-sorted (map keyed xs) (map keyed ys) (ascends-by 0 ys (λ i d lt. omega arith) (λ i j d le lt. up i j d le lt)) same
+    where
+      by_item : (k : ℕ) → (x : A) × (key x ≡ k) → at_key k (map keyed ys) ≡ at_key k (map keyed xs)
+      by_item k t = at-pairs k t.0 ys t.1 ∙ ap (map keyed) (stable t.0) ∙ sym (at-pairs k t.0 xs t.1)
+
+      same : (k : ℕ) → at_key k (map keyed ys) ≡ at_key k (map keyed xs)
+      same k = ⊎_elim (λ t. by_item k t) (λ none. ⊎_elim (λ t. by_item k t) (λ none'. none ∙ sym none') (find_key k xs)) (find_key k ys)

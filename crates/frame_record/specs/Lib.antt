@@ -3,3 +3,4 @@ pub mod Kept
 pub mod Links
 pub mod Merged
 pub mod Ordered
+pub mod Placed

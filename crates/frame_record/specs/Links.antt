@@ -1,5 +1,5 @@
 -- What went to a link and came back.
-use Rattle.std.specs.Prelude.{ℕ, ◌≡◌, List, [], ◌∷◌, ◌++◌, map, length, drop}
+use Rattle.std.specs.Prelude.{◌≡◌, List, [], ◌∷◌, ◌++◌, map, length, drop}
 use Rattle.frame_record.specs.declared.frame.Frame.{Frame}
 use Rattle.frame_record.specs.declared.frame.RenderedFrame.{RenderedFrame}
 

@@ -1,6 +1,7 @@
 // The journal of a frame.
 ghost use Rattle.std.specs.Prelude.{◌≡◌, map, IfOk};
-ghost use Rattle.gfx_model.specs.Frames.{collected};
+ghost use Rattle.std.specs.List.{AllByRecursion};
+ghost use Rattle.gfx_model.specs.Frames.{collected, NumbersAscend};
 ghost use Rattle.frame_record.specs.Kept.{IsCollectable};
 ghost use Rattle.frame_record.specs.Seen.{entry_seen, recordings_seen};
 
@@ -20,13 +21,14 @@ fn entries_of(alloc: Global, all: &[NumberedEntry]) -> Result<Vec<JournalEntry>,
     Ok(journal)
 }
 
-/// The journal of several recordings: the entries of all their items, ascending by number. There are at most 65,528 items, and the
+/// The journal of several recordings: the entries of all their items, ascending by number. There are at most `MOST_ITEMS` items, and the
 /// numbers of each recording ascend, as a bundle tells.
 ///
 /// It merges one recording after the other, so it moves an entry at most once for each recording.
 pub fn collect(alloc: Global, recordings: &[Recording]) -> Result<Vec<JournalEntry>, AllocError>
     requires { IsCollectable recordings.now }
-    ensures { IfOk result (λ journal. map entry_seen journal.items ≡ collected (recordings_seen recordings.now)) }
+    ensures journal { IfOk result (λ journal. map entry_seen journal.items ≡ collected (recordings_seen recordings.now)) }
+    ensures ascend { IfOk result (λ _. AllByRecursion (λ r. NumbersAscend 0 r.items) (recordings_seen recordings.now)) }
 {
     let mut all = Vec::new(alloc);
     for recording in recordings {

@@ -1,6 +1,6 @@
 // Frames, and how their renders went.
-ghost use Rattle.std.specs.Prelude.{◌≡◌, length};
-ghost use Rattle.frame_record.specs.Kept.{IsKept};
+ghost use Rattle.std.specs.Prelude.{◌≡◌};
+ghost use Rattle.frame_record.specs.Kept.{IsKept, IsKept-prop};
 
 use crate::entry::JournalEntry;
 use cmd_buffer::CmdBytes;
@@ -11,8 +11,8 @@ use view_table::ViewTable;
 pub const MOST_ITEMS: usize = 65_528;
 
 /// What the renderer draws at one go: the commands before and after the drawing with their payloads, the views, what each encoder
-/// recorded, and a journal; that it is the one that `collect` makes is for its maker to keep. It has at most 65,528 items, of different numbers,
-/// at most as many entries, and each recording is of an encoder of its own.
+/// recorded, and the journal, which is the order of all items by their numbers. It has at most `MOST_ITEMS` items, of different
+/// numbers. Each recording is of an encoder of its own, its numbers ascend, and the journal is what `collect` makes of them.
 #[derive(Drop)]
 pub struct Frame {
     pub number: u32,
@@ -22,7 +22,7 @@ pub struct Frame {
     pub payloads: Vec<Vec<u8>>,
     pub recordings: Vec<Recording>,
     pub journal: Vec<JournalEntry>,
-    ghost kept: { IsKept recordings.items (length journal.items) },
+    ghost kept: { IsKept recordings.items journal.items } by { IsKept-prop recordings.items journal.items },
 }
 
 impl Frame {
@@ -36,7 +36,7 @@ impl Frame {
         recordings: Vec<Recording>,
         journal: Vec<JournalEntry>,
     ) -> Frame
-        requires { IsKept recordings.items (length journal.items) }
+        requires { IsKept recordings.items journal.items }
         ensures number { result.number ≡ number }
         ensures views { result.views ≡ views }
         ensures commands { (result.pre ≡ pre) × (result.post ≡ post) }
@@ -55,9 +55,10 @@ impl Frame {
         }
     }
 
-    /// What every frame keeps: at most 65,528 items, of different numbers, and each recording of an encoder of its own.
+    /// What every frame keeps: at most `MOST_ITEMS` items, of different numbers, each recording of an encoder of its own with
+    /// numbers that ascend, and the journal of all of them.
     pub fn tell_facts(&self)
-        ensures { IsKept self.now.recordings.items (length self.now.journal.items) }
+        ensures { IsKept self.now.recordings.items self.now.journal.items }
     {}
 }
 

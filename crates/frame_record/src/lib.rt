@@ -7,12 +7,14 @@ mod frame;
 mod link;
 mod merging;
 mod ordering;
+mod placing;
 
 pub use collecting::collect;
 pub use entry::JournalEntry;
 pub use frame::{Frame, MOST_ITEMS, Outcome, RenderedFrame};
 pub use link::FrameLink;
 pub use ordering::{OrderedItem, end_of_run};
+pub use placing::{PlacedBlit, end_of_blits};
 
 #[cfg(test)]
 mod tests;

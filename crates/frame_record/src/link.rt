@@ -4,6 +4,7 @@ ghost use Rattle.frame_record.specs.Links.{frames_of, out_of, CameBack};
 
 use crate::frame::{Frame, RenderedFrame};
 use std::sync::Wait;
+use std::thread::Threads;
 
 /// Where frames go, and come back from with the outcomes of their renders: in the order in which they were given, each once.
 ///
@@ -28,8 +29,8 @@ pub trait FrameLink {
     /// Where the link comes from. No call changes it.
     ghost origin: { Self → Origin };
 
-    /// Hands a frame over. Fewer frames than the latency are out.
-    fn give<R: Wait>(&mut self, rt: &R, frame: Frame)
+    /// Hands a frame over, or renders it at once. Fewer frames than the latency are out.
+    fn give<R: Threads + Wait + Sync>(&mut self, rt: &R, frame: Frame)
         requires { length (given self.old) < length (back self.old) + latency self.old }
         ensures given { given self.new ≡ given self.old ++ frame ∷ [] }
         ensures back { back self.new ≡ back self.old }
@@ -47,7 +48,7 @@ pub trait FrameLink {
         ensures origin { origin self.new ≡ origin self.old };
 
     /// Waits until the render of the oldest frame that is out has ended, and takes it back. A frame is out.
-    fn take_back<R: Wait>(&mut self, rt: &R) -> RenderedFrame
+    fn take_back<R: Threads + Wait + Sync>(&mut self, rt: &R) -> RenderedFrame
         requires { length (back self.old) < length (given self.old) }
         ensures given { given self.new ≡ given self.old }
         ensures back { CameBack (given self.old) (back self.old) (back self.new) result }

@@ -4,6 +4,7 @@ ghost use Rattle.gfx_model.specs.Frames.{numbered_entries};
 ghost use Rattle.gfx_model.specs.World.{sorted_by_key};
 ghost use Rattle.schedule_model.specs.Held.{Ascends};
 ghost use Rattle.draw_encoder.specs.Seen as seen;
+ghost use Rattle.frame_record.specs.Kept.{most_frame_items};
 ghost use Rattle.frame_record.specs.Merged.{pair_of, right_first};
 ghost use Rattle.frame_record.specs.Seen.{recorded_seen};
 
@@ -50,7 +51,7 @@ pub(crate) fn merged(
     left: &[NumberedEntry],
     recording: &Recording,
 ) -> Result<Vec<NumberedEntry>, AllocError>
-    requires few { length recording.now.items ≤ 65528 }
+    requires few { length recording.now.items ≤ most_frame_items }
     requires left { sorted_by_key (map pair_of left.now) ≡ map pair_of left.now }
     requires right { Ascends (seen.numbers_of recording.now.items) }
     ensures { IfOk result (λ all. map pair_of all.items ≡ sorted_by_key (map pair_of left.now ++ numbered_entries (recorded_seen recording.now))) }

@@ -1,12 +1,15 @@
 // The order in which a frame is drawn.
-ghost use Rattle.std.specs.Prelude.{ℕ, ◌≡◌, ◌≢◌, ◌≤◌, ◌<◌, ◌^◌, ◌++◌, List, length, map, slice_index_or, IfOk, OnOk, MatchOption, []};
+ghost use Rattle.std.specs.Prelude.{ℕ, ◌≡◌, ◌≢◌, ◌≤◌, ◌<◌, ◌^◌, ◌++◌, List, length, map, slice_index_or, IfOk, IfSome, OnOk, MatchOption, []};
+ghost use Rattle.std.specs.List.{AllByRecursion};
 ghost use Rattle.std.specs.Option.{option_map};
-ghost use Rattle.gfx_model.specs.Frames.{draw_order, keyed_entry, keyed_entries, items_by};
-ghost use Rattle.gfx_model.specs.World.{sorted_by_key};
+ghost use Rattle.gfx_model.specs.Frames.{draw_order, keyed_entry, keyed_entries, items_by, item_of_entry};
+ghost use Rattle.gfx_model.specs.Views.{key_bits};
+ghost use Rattle.gfx_model.specs.World.{sorted_by_key, view_of_item};
 ghost use Rattle.sort_key.specs.Fields.{number_bits};
 ghost use Rattle.draw_encoder.specs.declared.items.UniformSet.{UniformSet};
 ghost use Rattle.draw_encoder.specs.Seen.{item_seen};
-ghost use Rattle.frame_record.specs.Ordered.{keyed_of, position_of, key_or_none, one_or_none};
+ghost use Rattle.frame_record.specs.Kept.{most_frame_items};
+ghost use Rattle.frame_record.specs.Ordered.{keyed_of, position_of, key_or_none, one_or_none, AscendFrom, IsOfView, IsPlaced};
 ghost use Rattle.frame_record.specs.Seen.{entry_seen, recorded_seen, recordings_seen};
 
 use crate::entry::JournalEntry;
@@ -17,16 +20,10 @@ use sort_key::SortKey;
 use std::alloc::{AllocError, Global};
 use view_table::ViewTable;
 
-// how far the position of the view stands up in a key's number
-const POSITION: u32 = 55;
-
-// the program's number of a touch
-const NO_PROGRAM: u16 = 511;
-
-/// A draw or touch with the number of its sort key.
+/// A draw or touch with its sort key.
 #[derive(Clone, Copy, Drop, PartialEq, Eq, Debug)]
 pub struct OrderedItem {
-    pub key: u64,
+    pub key: SortKey,
     pub entry: JournalEntry,
 }
 
@@ -35,14 +32,16 @@ impl OrderedItem {
     pub fn position(&self) -> u16
         ensures { result ≡ position_of self.now }
     {
-        (self.key >> POSITION) as u16
+        self.key.tell_facts();
+        self.key.view_position()
     }
 }
 
 // the key of a draw, where its view is there and its program is one
-fn draw_key(views: &ViewTable, draw: &DrawItem, place: u32) -> Option<u64>
+fn draw_key(views: &ViewTable, draw: &DrawItem, place: u32) -> Option<SortKey>
     requires { place < 2 ^ number_bits }
-    ensures { (bytes : List ℕ) (sets : List UniformSet) → result ≡ key_or_none views.now place (item_seen bytes sets (Item.Draw draw.now)) }
+    ensures key { (bytes : List ℕ) (sets : List UniformSet) → option_map key_bits result ≡ key_or_none views.now place (item_seen bytes sets (Item.Draw draw.now)) }
+    ensures position { IfSome result (λ k. IsOfView views.now draw.now.view (key_bits k)) }
 {
     let view = views.get(draw.view)?;
     if !draw.program.kind().is(Kind::Program) {
@@ -52,32 +51,37 @@ fn draw_key(views: &ViewTable, draw: &DrawItem, place: u32) -> Option<u64>
     let mode = view.mode;
     let position = views.position(draw.view);
     let index = draw.program.index();
-    Some(SortKey::draw(
+    let key = SortKey::draw(
         mode,
         position,
         draw.state.blended(),
         index,
         draw.depth,
         place,
-    )
-    .bits())
+    );
+    key.tell_facts();
+    Some(key)
 }
 
 // the key of a touch, where its view is there
-fn touch_key(views: &ViewTable, touch: &TouchItem, place: u32) -> Option<u64>
+fn touch_key(views: &ViewTable, touch: &TouchItem, place: u32) -> Option<SortKey>
     requires { place < 2 ^ number_bits }
-    ensures { (bytes : List ℕ) (sets : List UniformSet) → result ≡ key_or_none views.now place (item_seen bytes sets (Item.Touch touch.now)) }
+    ensures key { (bytes : List ℕ) (sets : List UniformSet) → option_map key_bits result ≡ key_or_none views.now place (item_seen bytes sets (Item.Touch touch.now)) }
+    ensures position { IfSome result (λ k. IsOfView views.now touch.now.view (key_bits k)) }
 {
     let view = views.get(touch.view)?;
     views.tell_facts();
     let position = views.position(touch.view);
-    Some(SortKey::draw(view.mode, position, false, NO_PROGRAM, 0, place).bits())
+    let key = SortKey::touch(view.mode, position, place);
+    key.tell_facts();
+    Some(key)
 }
 
 // the key of an item at a place of the journal, where it is drawn in an order by key
-fn key_of(views: &ViewTable, item: &Item, place: u32) -> Option<u64>
+fn key_of(views: &ViewTable, item: &Item, place: u32) -> Option<SortKey>
     requires { place < 2 ^ number_bits }
-    ensures { (bytes : List ℕ) (sets : List UniformSet) → result ≡ key_or_none views.now place (item_seen bytes sets item.now) }
+    ensures key { (bytes : List ℕ) (sets : List UniformSet) → option_map key_bits result ≡ key_or_none views.now place (item_seen bytes sets item.now) }
+    ensures position { (bytes : List ℕ) (sets : List UniformSet) → IfSome result (λ k. IsOfView views.now (view_of_item (item_seen bytes sets item.now)) (key_bits k)) }
 {
     match item {
         Item::Draw(draw) => draw_key(views, draw, place),
@@ -100,29 +104,37 @@ fn recording_by<'a>(recordings: &'a [Recording], encoder: u8) -> Option<&'a Reco
     None
 }
 
+// the item of an entry, with the recording that has it
+pub(crate) fn item_at<'a>(
+    recordings: &'a [Recording],
+    entry: JournalEntry,
+) -> Option<(&'a Recording, &'a Item)>
+    ensures { option_map (λ p. item_seen p.0.now.bytes p.0.now.uniforms p.1.now) result ≡ item_of_entry (recordings_seen recordings.now) (entry_seen entry) }
+{
+    let recording = recording_by(recordings, entry.encoder)?;
+    let item = recording.items.as_slice().get(entry.ordinal as usize)?;
+    Some((recording, item))
+}
+
 // the key of an entry at a place of the journal, where its item is there and has one
 fn key_at(
     views: &ViewTable,
     recordings: &[Recording],
     entry: JournalEntry,
     place: u32,
-) -> Option<u64>
+) -> Option<SortKey>
     requires { place < 2 ^ number_bits }
-    ensures { option_map (λ k. (k, entry_seen entry)) result ≡ keyed_entry views.now (recordings_seen recordings.now) place (entry_seen entry) }
+    ensures key { option_map (λ k. (key_bits k, entry_seen entry)) result ≡ keyed_entry views.now (recordings_seen recordings.now) place (entry_seen entry) }
+    ensures placed { IfSome result (λ k. IsPlaced views.now (recordings_seen recordings.now) (key_bits k, entry_seen entry)) }
 {
-    let Some(recording) = recording_by(recordings, entry.encoder) else {
-        return None;
-    };
-    let Some(item) = recording.items.as_slice().get(entry.ordinal as usize) else {
-        return None;
-    };
-    key_of(views, item, place)
+    let found = item_at(recordings, entry)?;
+    key_of(views, found.1, place)
 }
 
 // puts an entry behind the others where it has a key
 fn put_keyed(
     all: &mut Vec<OrderedItem>,
-    key: Option<u64>,
+    key: Option<SortKey>,
     entry: JournalEntry,
 ) -> Result<(), AllocError>
     ensures { IfOk result (λ _. map keyed_of all.new.items ≡ map keyed_of all.old.items ++ one_or_none key (entry_seen entry)) }
@@ -140,8 +152,9 @@ fn with_keys(
     recordings: &[Recording],
     journal: &[JournalEntry],
 ) -> Result<Vec<OrderedItem>, AllocError>
-    requires { length journal.now ≤ 65528 }
-    ensures { IfOk result (λ all. map keyed_of all.items ≡ keyed_entries views.now (recordings_seen recordings.now) (map entry_seen journal.now)) }
+    requires { length journal.now ≤ most_frame_items }
+    ensures keyed { IfOk result (λ all. map keyed_of all.items ≡ keyed_entries views.now (recordings_seen recordings.now) (map entry_seen journal.now)) }
+    ensures placed { IfOk result (λ all. AllByRecursion (IsPlaced views.now (recordings_seen recordings.now)) (map keyed_of all.items)) }
 {
     let mut all = Vec::new(alloc);
     for place in 0..journal.len() {
@@ -156,35 +169,31 @@ fn with_keys(
 fn sort(all: &mut Vec<OrderedItem>) -> Result<(), AllocError>
     ensures { OnOk result (map keyed_of all.new.items ≡ sorted_by_key (map keyed_of all.old.items)) }
 {
-    all.sort_by_key(|o| o.key)
-}
-
-// the entries of the journal that have a key, in the order of the keys
-pub(crate) fn ordered(
-    alloc: Global,
-    views: &ViewTable,
-    recordings: &[Recording],
-    journal: &[JournalEntry],
-) -> Result<Vec<OrderedItem>, AllocError>
-    requires { length journal.now ≤ 65528 }
-    ensures { IfOk result (λ all. map keyed_of all.items ≡ sorted_by_key (keyed_entries views.now (recordings_seen recordings.now) (map entry_seen journal.now))) }
-{
-    let mut all = with_keys(alloc, views, recordings, journal)?;
-    sort(&mut all)?;
-    Ok(all)
+    all.sort_by_key(|o| o.key.bits())
 }
 
 impl Frame {
+    /// The item of an entry, with the recording that has it; None exactly where the recording of the entry's encoder is not there
+    /// or has no such item. The item's bytes and values are ranges of that recording's.
+    pub fn item(&self, entry: JournalEntry) -> Option<(&Recording, &Item)>
+        ensures { option_map (λ p. item_seen p.0.now.bytes p.0.now.uniforms p.1.now) result ≡ item_of_entry (recordings_seen self.now.recordings.items) (entry_seen entry) }
+    {
+        item_at(&self.recordings, entry)
+    }
+
     /// The draws and touches in the order in which they are drawn: by the position of the view, then by the sort key, and at equal
     /// keys as they stand in the journal. Entries without an item, items of views that are not there and draws whose program is no
-    /// program are left out.
+    /// program are left out. `Err` only for want of memory.
     ///
     /// The items of a view stand beside each other; `end_of_run` finds where they end.
     pub fn ordered(&self, alloc: Global) -> Result<Vec<OrderedItem>, AllocError>
         ensures keyed { IfOk result (λ all. map keyed_of all.items ≡ sorted_by_key (keyed_entries self.now.views (recordings_seen self.now.recordings.items) (map entry_seen self.now.journal.items))) }
         ensures order { IfOk result (λ all. map (λ o. entry_seen o.entry) all.items ≡ draw_order self.now.views (recordings_seen self.now.recordings.items) (map entry_seen self.now.journal.items)) }
+        ensures ascend { IfOk result (λ all. AscendFrom 0 (map position_of all.items)) }
+        ensures placed { IfOk result (λ all. AllByRecursion (IsPlaced self.now.views (recordings_seen self.now.recordings.items)) (map keyed_of all.items)) }
     {
-        let all = ordered(alloc, &self.views, &self.recordings, &self.journal)?;
+        let mut all = with_keys(alloc, &self.views, &self.recordings, &self.journal)?;
+        sort(&mut all)?;
         Ok(all)
     }
 }

@@ -1,9 +1,13 @@
 // Journals and draw orders from outside.
-ghost use Rattle.std.specs.Prelude.{◌≡◌, ◌<◌, ◌∷◌, ◌++◌, [], IfOk};
+ghost use Rattle.std.specs.Prelude.{◌≡◌, ◌<◌, ◌≤◌, ◌∷◌, ◌++◌, [], ℕ, IfOk};
+ghost use Rattle.gfx_model.specs.Frames.{AreOfOwnEncoders};
+ghost use Rattle.schedule_model.specs.Held.{count_of};
 ghost use Rattle.draw_encoder.specs.Seen.{number_of, numbers_of};
+ghost use Rattle.frame_record.specs.Kept.{IsCollectable, numbers_in};
+ghost use Rattle.frame_record.specs.Seen.{recordings_seen};
 
-use crate::ordering::ordered;
-use crate::{JournalEntry, OrderedItem, collect, end_of_run};
+use crate::{Frame, JournalEntry, OrderedItem, PlacedBlit, collect, end_of_run};
+use cmd_buffer::CmdBuffer;
 use draw_encoder::{
     BlitCall, BlitItem, Bytes, DrawItem, IndexSet, Item, Items, Recording, TouchItem, UniformSets,
     VertexSet,
@@ -45,8 +49,35 @@ fn touch(view: u16, number: u64) -> Item
     })
 }
 
+fn blit(view: u16, number: u64) -> Item
+    ensures { number_of result ≡ number }
+{
+    let texture = Handle::of(Kind::Texture, 3, 1, Info::Plain);
+    Item::Blit(BlitItem {
+        view,
+        number,
+        copy: BlitCall {
+            dst: texture,
+            dx: 0,
+            dy: 0,
+            src: texture,
+            sx: 0,
+            sy: 0,
+            w: 1,
+            h: 1,
+        },
+    })
+}
+
+fn placed(position: u16, encoder: u8, ordinal: u32) -> PlacedBlit {
+    PlacedBlit {
+        position,
+        entry: entry(encoder, ordinal),
+    }
+}
+
 fn recorded(alloc: Global, encoder: u8, items: Vec<Item>) -> Recording
-    ensures { result.items ≡ items.items }
+    ensures { (result.items ≡ items.items) × (result.encoder ≡ encoder) }
 {
     Recording {
         encoder,
@@ -58,21 +89,37 @@ fn recorded(alloc: Global, encoder: u8, items: Vec<Item>) -> Recording
     }
 }
 
-fn draw(view: u16, program: Handle, depth: u32) -> Option<Item> {
+// The words of each draw.
+#[derive(Clone, Copy, Drop)]
+struct Words {
+    state: StateWord,
+    stencil: StencilWord,
+}
+
+fn words() -> Option<Words> {
+    Some(Words {
+        state: StateWord::read(15).ok()?,
+        stencil: StencilWord::read(0).ok()?,
+    })
+}
+
+fn draw(words: Words, number: u64, view: u16, program: Handle, depth: u32) -> Item
+    ensures { number_of result ≡ number }
+{
     let empty = Rect {
         x: 0,
         y: 0,
         w: 0,
         h: 0,
     };
-    Some(Item::Draw(DrawItem {
+    Item::Draw(DrawItem {
         view,
-        number: 0,
+        number,
         program,
         depth,
-        state: StateWord::read(15).ok()?,
-        front: StencilWord::read(0).ok()?,
-        back: StencilWord::read(0).ok()?,
+        state: words.state,
+        front: words.stencil,
+        back: words.stencil,
         scissor: empty,
         model: Affine::identity(),
         vertices: VertexSet::Unset,
@@ -80,18 +127,7 @@ fn draw(view: u16, program: Handle, depth: u32) -> Option<Item> {
         textures: [None, None],
         values_at: 0,
         values: 0,
-    }))
-}
-
-// Draws by their views, programs and depths.
-fn draws(alloc: Global, settings: &[(u16, Handle, u32)]) -> Result<Vec<Item>, AllocError> {
-    let mut items = Vec::new(alloc);
-    for (view, program, depth) in settings {
-        if let Some(item) = draw(*view, *program, *depth) {
-            put(&mut items, item)?;
-        }
-    }
-    Ok(items)
+    })
 }
 
 fn entry(encoder: u8, ordinal: u32) -> JournalEntry {
@@ -106,52 +142,121 @@ fn entries(ordered: &[OrderedItem], alloc: Global) -> Result<Vec<JournalEntry>, 
     Ok(all)
 }
 
+// A recording of two items.
+fn two(alloc: Global, encoder: u8, first: Item, second: Item) -> Result<Recording, AllocError>
+    ensures numbers { IfOk result (λ r. numbers_of r.items ≡ number_of first ∷ number_of second ∷ []) }
+    ensures encoder { IfOk result (λ r. r.encoder ≡ encoder) }
+{
+    let mut items = Vec::new(alloc);
+    put(&mut items, first)?;
+    put(&mut items, second)?;
+    Ok(recorded(alloc, encoder, items))
+}
+
+// Four recordings.
+fn four(
+    alloc: Global,
+    first: Recording,
+    second: Recording,
+    third: Recording,
+    fourth: Recording,
+) -> Result<Vec<Recording>, AllocError>
+    ensures { IfOk result (λ v. v.items ≡ first ∷ second ∷ third ∷ fourth ∷ []) }
+{
+    let mut all = Vec::new(alloc);
+    all.push(first)?;
+    all.push(second)?;
+    all.push(third)?;
+    all.push(fourth)?;
+    Ok(all)
+}
+
+// A frame of recordings that were made beside each other.
+fn framed(alloc: Global, views: ViewTable, recordings: Vec<Recording>) -> Result<Frame, Fail>
+    requires collectable { IsCollectable recordings.items }
+    requires apart { (n : ℕ) → count_of n (numbers_in recordings.items) ≤ 1 }
+    requires own { AreOfOwnEncoders (recordings_seen recordings.items) }
+{
+    let journal = collect(alloc, &recordings)?;
+    let pre = CmdBuffer::new(alloc).finish()?;
+    let post = CmdBuffer::new(alloc).finish()?;
+    Ok(Frame::new(0, views, pre, post, Vec::new(alloc), recordings, journal))
+}
+
+// The views of the test of the draw order: 5 and 1 first, and one of each mode.
+fn some_views(alloc: Global) -> Result<ViewTable, Fail> {
+    let mut views = ViewTable::new(alloc, 256)?;
+    views.set_order(&[5, 1]).map_err(|_| "order")?;
+    views
+        .set_mode(1, ViewMode::DepthDescending)
+        .map_err(|_| "mode")?;
+    views.set_mode(5, ViewMode::Sequential).map_err(|_| "mode")?;
+    views
+        .set_mode(7, ViewMode::DepthAscending)
+        .map_err(|_| "mode")?;
+    Ok(views)
+}
+
 #[test]
 fn items_by_view_depth_and_journal(rt: HostRuntime) -> Result<(), Fail> {
-    let mut views = ViewTable::new(rt.alloc(), 256)?;
-    assert_eq!(rt; views.set_order(&[5, 1]), Ok(()));
-    assert_eq!(rt; views.set_mode(1, ViewMode::DepthDescending), Ok(()));
-    assert_eq!(rt; views.set_mode(5, ViewMode::Sequential), Ok(()));
+    let alloc = rt.alloc();
+    let words = words().ok_or("words")?;
     let program = Handle::of(Kind::Program, 3, 1, Info::Plain);
     let stray = Handle::of(Kind::Uniform, 3, 2, Info::Plain);
-    let first = draws(
-        rt.alloc(),
-        &[
-            (1, program, 1),
-            (5, program, 9),
-            (0, program, 7),
-            (5, stray, 1),
-        ],
+    let first = two(
+        alloc,
+        4,
+        draw(words, 0, 1, program, 1),
+        draw(words, 4, 5, program, 9),
     )?;
-    let second = draws(
-        rt.alloc(),
-        &[
-            (1, program, 2),
-            (5, program, 3),
-            (0, program, 7),
-            (256, program, 1),
-        ],
+    let second = two(
+        alloc,
+        2,
+        draw(words, 1, 1, program, 2),
+        draw(words, 3, 5, program, 3),
     )?;
-    let mut recordings = Vec::new(rt.alloc());
-    recordings.push(recorded(rt.alloc(), 4, first))?;
-    recordings.push(recorded(rt.alloc(), 2, second))?;
-    let mut journal = Vec::new(rt.alloc());
-    for at in 0..4u32 {
-        journal.push(entry(4, at))?;
-        journal.push(entry(2, at))?;
-    }
-    journal.push(entry(7, 0))?;
-    assert!(rt; journal.len() < 10);
-    let all = ordered(rt.alloc(), &views, &recordings, &journal)?;
+    let third = two(
+        alloc,
+        6,
+        draw(words, 2, 7, program, 9),
+        draw(words, 7, 7, program, 4),
+    )?;
+    let fourth = two(
+        alloc,
+        0,
+        draw(words, 5, 5, stray, 1),
+        draw(words, 6, 256, program, 1),
+    )?;
+    let recordings = four(alloc, first, second, third, fourth)?;
+    let frame = framed(alloc, some_views(alloc)?, recordings)?;
+    frame.tell_facts();
     assert_eq!(rt;
-        entries(&all, rt.alloc())?.as_slice(),
+        frame.journal.as_slice(),
         [
-            entry(4, 1),
+            entry(4, 0),
+            entry(2, 0),
+            entry(6, 0),
             entry(2, 1),
+            entry(4, 1),
+            entry(0, 0),
+            entry(0, 1),
+            entry(6, 1)
+        ]
+        .as_slice()
+    );
+    assert!(rt; frame.item(entry(6, 1)).is_some());
+    assert!(rt; frame.item(entry(6, 2)).is_none());
+    assert!(rt; frame.item(entry(3, 0)).is_none());
+    let all = frame.ordered(alloc)?;
+    assert_eq!(rt;
+        entries(&all, alloc)?.as_slice(),
+        [
+            entry(2, 1),
+            entry(4, 1),
             entry(2, 0),
             entry(4, 0),
-            entry(4, 2),
-            entry(2, 2)
+            entry(6, 1),
+            entry(6, 0)
         ]
         .as_slice()
     );
@@ -162,25 +267,64 @@ fn items_by_view_depth_and_journal(rt: HostRuntime) -> Result<(), Fail> {
     Ok(())
 }
 
-// Two touches with their numbers.
-fn two(alloc: Global, encoder: u8, first: u64, second: u64) -> Result<Recording, AllocError>
-    requires { first < second }
-    ensures { IfOk result (λ r. numbers_of r.items ≡ first ∷ second ∷ []) }
+// A frame of two recordings: encoder 3 has the numbers 2 and 5, encoder 1 has 3 and 4.
+fn interleaved(
+    alloc: Global,
+    views: ViewTable,
+    first: Item,
+    second: Item,
+    third: Item,
+    fourth: Item,
+) -> Result<Frame, Fail>
+    requires outer { (number_of first ≡ 2) × (number_of fourth ≡ 5) }
+    requires inner { (number_of second ≡ 3) × (number_of third ≡ 4) }
 {
-    let mut items = Vec::new(alloc);
-    put(&mut items, touch(0, first))?;
-    put(&mut items, touch(0, second))?;
-    Ok(recorded(alloc, encoder, items))
+    let mut recordings = Vec::new(alloc);
+    recordings.push(two(alloc, 3, first, fourth)?)?;
+    recordings.push(two(alloc, 1, second, third)?)?;
+    framed(alloc, views, recordings)
 }
 
 #[test]
-fn journal_by_numbers(rt: HostRuntime) -> Result<(), AllocError> {
-    let first = two(rt.alloc(), 3, 2, 5)?;
-    let second = two(rt.alloc(), 1, 3, 4)?;
-    let journal = collect(rt.alloc(), &[first, second])?;
+fn equal_keys_by_number(rt: HostRuntime) -> Result<(), Fail> {
+    let alloc = rt.alloc();
+    let views = ViewTable::new(alloc, 256)?;
+    let frame = interleaved(
+        alloc,
+        views,
+        touch(0, 2),
+        touch(0, 3),
+        touch(0, 4),
+        touch(0, 5),
+    )?;
+    let by_number = [entry(3, 0), entry(1, 0), entry(1, 1), entry(3, 1)];
+    assert_eq!(rt; frame.journal.as_slice(), by_number.as_slice());
+    let all = frame.ordered(alloc)?;
+    assert_eq!(rt; entries(&all, alloc)?.as_slice(), by_number.as_slice());
+    Ok(())
+}
+
+#[test]
+fn blits_by_view_and_number(rt: HostRuntime) -> Result<(), Fail> {
+    let alloc = rt.alloc();
+    let views = ViewTable::new(alloc, 256)?;
+    let frame = interleaved(
+        alloc,
+        views,
+        blit(7, 2),
+        blit(5, 3),
+        blit(300, 4),
+        blit(5, 5),
+    )?;
+    let all = frame.blits(alloc)?;
     assert_eq!(rt;
-        journal.as_slice(),
-        [entry(3, 0), entry(1, 0), entry(1, 1), entry(3, 1)].as_slice()
+        all.as_slice(),
+        [placed(5, 1, 0), placed(5, 3, 1), placed(7, 3, 0)].as_slice()
     );
+    let entered = frame.entered(alloc)?;
+    assert_eq!(rt; entered.len(), 256);
+    assert!(rt; entered.as_slice().get(5).copied() == Some(true));
+    assert!(rt; entered.as_slice().get(6).copied() == Some(false));
+    assert!(rt; entered.as_slice().get(7).copied() == Some(true));
     Ok(())
 }

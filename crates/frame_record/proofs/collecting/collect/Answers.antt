@@ -1,4 +1,4 @@
-use Rattle.std.proofs.Common.{◌≡◌, ◌≤◌, ◌++◌, length, map, take, ap, sym, ◌∙◌, arith}
+use Rattle.std.proofs.Common.{◌≡◌, ◌++◌, length, map, take, ap, ◌∙◌, arith}
 use Rattle.std.specs.List.{flat_map}
 use Rattle.std.proofs.lemmas.Result.{IfOk-weaker}
 use Rattle.gfx_model.specs.Frames.{numbered_entries}
@@ -7,6 +7,7 @@ use Rattle.draw_encoder.specs.declared.items.Recording.{Recording}
 use Rattle.frame_record.specs.Merged.{pair_of}
 use Rattle.frame_record.specs.Seen.{entry_seen, recorded_seen, recordings_seen}
 use Rattle.frame_record.proofs.CollectLaws.{few_each, sorted_when, collect_more, collected_all}
+use Rattle.frame_record.proofs.KeptLaws.{all_ascend}
 use Rattle.frame_record.proofs.collecting.collect.Goals as goal
 
 pub merged-requires-clause-few : goal.merged-requires-clause-few
@@ -25,7 +26,10 @@ loop-recording-preserved c =
     c.loop-recording-test.true c.recording-item.is c.loop-recording.invariant
     (c.in_ok-all.ensures ∙ ap (λ xs. sorted_by_key (map pair_of xs ++ numbered_entries (recorded_seen c.recording-item.result))) c.deref.ensures.value)
 
-pub returns : goal.returns
-returns c =
+pub returns-clause-ascend : goal.returns-clause-ascend
+returns-clause-ascend c = IfOk-weaker c.entries_of.result _ _ (λ journal told. all_ascend c.args.recordings.now c.requires.ascends) c.entries_of.ensures
+
+pub returns-clause-journal : goal.returns-clause-journal
+returns-clause-journal c =
     let all = collected_all c.args.recordings.now c.loop-recording.recording-index c.loop-recording.all.items (omega (arith, c.loop-recording-test.false)) c.loop-recording.invariant in
     IfOk-weaker c.entries_of.result _ _ (λ journal told. told ∙ ap (map (λ n. entry_seen n.entry)) c.deref-2.ensures.value ∙ all) c.entries_of.ensures

@@ -1,4 +1,4 @@
-use Rattle.std.proofs.Common.{◌≡◌, ◌<◌, true, false, map, length, drop, slice_index_or, ap, sym, ◌∙◌, arith}
+use Rattle.std.proofs.Common.{map, length, slice_index_or, ap, sym, ◌∙◌, arith}
 use Rattle.std.proofs.lemmas.List.{length-map}
 use Rattle.gfx_model.specs.Frames.{numbered_entries}
 use Rattle.draw_encoder.specs.Seen.{number_of}

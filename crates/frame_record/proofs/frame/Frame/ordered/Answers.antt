@@ -1,14 +1,43 @@
-use Rattle.std.proofs.Common.{ap, sym, ◌∙◌, map}
+use Rattle.std.proofs.Common.{List, length, ap, sym, subst, ◌∙◌, map, arith}
+use Rattle.std.specs.List.{AllByRecursion}
 use Rattle.gfx_model.specs.Frames.{keyed_entries}
 use Rattle.gfx_model.specs.World.{sorted_by_key}
+use Rattle.draw_encoder.specs.declared.items.Recording.{Recording}
+use Rattle.frame_record.specs.Ordered.{keyed_of, IsPlaced}
 use Rattle.frame_record.specs.Seen.{entry_seen, recordings_seen}
-use Rattle.frame_record.proofs.KeyLaws.{entries_seen}
+use Rattle.frame_record.proofs.KeptLaws.{few_entries}
+use Rattle.frame_record.proofs.KeyLaws.{entries_seen, placed_sorted, positions_ascend}
 use Rattle.frame_record.proofs.frame.Frame.ordered.Goals as goal
+
+pub with_keys-requires : goal.with_keys-requires
+with_keys-requires c =
+    let f = c.args.self.now in
+    let same = ap length c.deref-2.ensures.value in
+    let few = few_entries f.recordings.items f.journal.items f.kept in
+    omega (arith, same, few)
+
+pub returns-clause-keyed : goal.returns-clause-keyed
+returns-clause-keyed c =
+    let views = c.args.self.now.views in
+    c.in_ok-sort.ensures
+    ∙ ap sorted_by_key (c.in_ok-all.ensures.keyed
+    ∙ ap (λ rs. keyed_entries views (recordings_seen rs) (map entry_seen c.deref-2.result.now)) c.deref.ensures.value
+    ∙ ap (λ es. keyed_entries views (recordings_seen c.args.self.now.recordings.items) (map entry_seen es)) c.deref-2.ensures.value)
 
 pub returns-clause-order : goal.returns-clause-order
 returns-clause-order c =
     let views = c.args.self.now.views in
-    sym (entries_seen c.in_ok-all.all.items)
-    ∙ ap (map (λ x. x.1)) (c.in_ok-all.ensures ∙ ap sorted_by_key (
-    ap (λ rs. keyed_entries views (recordings_seen rs) (map entry_seen c.deref-2.result.now)) c.deref.ensures.value
+    sym (entries_seen c.sort.new.all.items)
+    ∙ ap (map (λ x. x.1)) (c.in_ok-sort.ensures
+    ∙ ap sorted_by_key (c.in_ok-all.ensures.keyed
+    ∙ ap (λ rs. keyed_entries views (recordings_seen rs) (map entry_seen c.deref-2.result.now)) c.deref.ensures.value
     ∙ ap (λ es. keyed_entries views (recordings_seen c.args.self.now.recordings.items) (map entry_seen es)) c.deref-2.ensures.value))
+
+pub returns-clause-ascend : goal.returns-clause-ascend
+returns-clause-ascend c = positions_ascend (map keyed_of c.in_ok-all.all.items) c.sort.new.all.items c.in_ok-sort.ensures
+
+pub returns-clause-placed : goal.returns-clause-placed
+returns-clause-placed c =
+    let views = c.args.self.now.views in
+    let all = subst (λ (rs : List Recording). AllByRecursion (IsPlaced views (recordings_seen rs)) (map keyed_of c.in_ok-all.all.items)) c.deref.ensures.value c.in_ok-all.ensures.placed in
+    placed_sorted (IsPlaced views (recordings_seen c.args.self.now.recordings.items)) _ _ c.in_ok-sort.ensures all
