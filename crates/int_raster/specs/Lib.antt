@@ -5,3 +5,4 @@ pub mod Painted
 pub mod Rules
 pub mod Bands
 pub mod Listing
+pub mod Cuts

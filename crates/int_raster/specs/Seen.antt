@@ -2,6 +2,7 @@
 use Rattle.std.specs.Prelude.{ℕ, List, [], Some, None, map, option_map}
 use Rattle.gfx_model.specs.World as world
 use Rattle.fix_math.specs.Seen.{rect_seen, texels_seen}
+use Rattle.fix_math.specs.declared.picture.Texels.{Texels}
 use Rattle.gfx_model.specs.Vertex.{Color}
 use Rattle.gfx_model.specs.Raster.{fragment_at}
 use Rattle.gfx_model.specs.Pixel.{Pixel, stored_color}
@@ -16,6 +17,10 @@ use Rattle.int_raster.specs.declared.lists.Prepared.{Prepared}
 
 abbrev pub surface_seen : Surface → world.Surface
 surface_seen s = record { color = texels_seen s.color; depth = option_map texels_seen s.depth }
+
+-- the sides of texels
+abbrev pub sides_seen : Texels → ℕ × ℕ
+sides_seen t = (t.width, t.height)
 
 abbrev pub paint_seen : Paint → world.Paint
 paint_seen (paints.Solid color) = world.paint_solid color

@@ -1,7 +1,7 @@
 // Lists of draws on a surface.
-ghost use Rattle.std.specs.Prelude.{◌≡◌, ◌≤◌, fold};
+ghost use Rattle.std.specs.Prelude.{◌≡◌, ◌≤◌, fold, length, option_map};
 ghost use Rattle.int_raster.specs.Drawing.{drawn_prepared};
-ghost use Rattle.int_raster.specs.Seen.{surface_seen};
+ghost use Rattle.int_raster.specs.Seen.{surface_seen, sides_seen};
 
 use crate::bands::{deep_bands, draw_deep_list, draw_flat_list, flat_bands};
 use crate::lists::DrawList;
@@ -9,9 +9,12 @@ use crate::rows::Rows;
 use crate::surfaces::Surface;
 use std::thread::Threads;
 
-/// Makes the draws of a list in their order.
+/// Makes the draws of a list in their order. The sides of the surface's textures stay, and how many texels they have.
 pub fn draw_view(surface: &mut Surface, list: &DrawList<'_>)
-    ensures { surface_seen surface.new ≡ fold drawn_prepared (surface_seen surface.old) list.now }
+    ensures drawn { surface_seen surface.new ≡ fold drawn_prepared (surface_seen surface.old) list.now }
+    ensures color { sides_seen surface.new.color ≡ sides_seen surface.old.color }
+    ensures depth { option_map sides_seen surface.new.depth ≡ option_map sides_seen surface.old.depth }
+    ensures counts { (length surface.new.color.texels ≡ length surface.old.color.texels) × (option_map (λ d. length d.texels) surface.new.depth ≡ option_map (λ d. length d.texels) surface.old.depth) }
 {
     let rows = Rows {
         width: surface.color.width,
@@ -29,7 +32,10 @@ pub fn draw_view(surface: &mut Surface, list: &DrawList<'_>)
 /// each row.
 pub fn draw_bands<R: Threads + Sync>(rt: &R, surface: &mut Surface, list: &DrawList<'_>, bands: u32)
     requires { 1 ≤ bands }
-    ensures { surface_seen surface.new ≡ fold drawn_prepared (surface_seen surface.old) list.now }
+    ensures drawn { surface_seen surface.new ≡ fold drawn_prepared (surface_seen surface.old) list.now }
+    ensures color { sides_seen surface.new.color ≡ sides_seen surface.old.color }
+    ensures depth { option_map sides_seen surface.new.depth ≡ option_map sides_seen surface.old.depth }
+    ensures counts { (length surface.new.color.texels ≡ length surface.old.color.texels) × (option_map (λ d. length d.texels) surface.new.depth ≡ option_map (λ d. length d.texels) surface.old.depth) }
 {
     let rows = Rows {
         width: surface.color.width,

@@ -4,6 +4,7 @@
 mod bands;
 mod colors;
 mod columns;
+mod cuts;
 mod deep;
 mod deep_spans;
 mod drawing;
@@ -19,8 +20,9 @@ mod sampling;
 mod spans;
 mod surfaces;
 
+pub use cuts::{draw_cut, view_rect};
 pub use drawing::{draw_bands, draw_view};
-pub use lists::{DrawList, Paint, Prepared};
+pub use lists::{DrawList, DrawRoom, Paint, Prepared};
 pub use surfaces::Surface;
 
 #[cfg(test)]

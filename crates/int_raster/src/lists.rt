@@ -42,6 +42,21 @@ pub struct DrawList<'x> {
     ghost within: { AreWithin draws.items (length triangles.items) },
 }
 
+/// Room for the triangles of a list, without the list. It lends nothing, so it outlives what the list's draws lend.
+#[derive(Drop)]
+pub struct DrawRoom {
+    triangles: Vec<Setup>,
+}
+
+impl DrawRoom {
+    /// No room yet. It takes no memory.
+    pub fn new(alloc: Global) -> DrawRoom {
+        DrawRoom {
+            triangles: Vec::new(alloc),
+        }
+    }
+}
+
 impl<'x> Model for DrawList<'x> {
     ghost use Rattle.std.specs.Prelude.{List, map};
     ghost use Rattle.int_raster.specs.Drawing.{PreparedDraw};
@@ -64,6 +79,23 @@ impl<'x> DrawList<'x> {
             draws: Vec::new(alloc),
             triangles: Vec::new(alloc),
         }
+    }
+
+    /// A list without draws, over the room of an earlier list. It takes no memory.
+    pub fn with_room(alloc: Global, room: DrawRoom) -> DrawList<'x>
+        ensures { result ≡ [] }
+    {
+        DrawList {
+            draws: Vec::new(alloc),
+            triangles: room.triangles,
+        }
+    }
+
+    /// The room of the list, without its draws. It takes no memory.
+    pub fn into_room(self) -> DrawRoom {
+        let mut triangles = self.triangles;
+        triangles.clear();
+        DrawRoom { triangles }
     }
 
     /// How many draws the list has.

@@ -7,8 +7,8 @@ use Rattle.int_raster.proofs.Wholes.{refill}
 use Rattle.int_raster.proofs.Stacks.{flat_surface, deep_surface}
 use Rattle.int_raster.proofs.drawing.draw_view.Goals as goal
 
-pub returns-in-None : goal.returns-in-None
-returns-in-None c =
+pub returns-in-None-clause-drawn : goal.returns-in-None-clause-drawn
+returns-in-None-clause-drawn c =
     let s = c.args.surface.now in
     let w = s.color.width in
     let h = s.color.height in
@@ -23,8 +23,8 @@ returns-in-None c =
     ∙ sym (flat_surface w h old ds)
     ∙ sym (λ i. fold drawn_prepared (record { color = record { width = w; height = h; texels = old }; depth = option_map texels_seen (none i) }) ds)
 
-pub returns-in-Some : goal.returns-in-Some
-returns-in-Some c =
+pub returns-in-Some-clause-drawn : goal.returns-in-Some-clause-drawn
+returns-in-Some-clause-drawn c =
     let s = c.args.surface.now in
     let d = c.in-Some.depth in
     let w = s.color.width in

@@ -16,6 +16,6 @@ returns c =
     let back = surface_seen c.clear_whole.new.surface in
     let width : back.color.width ≡ c.args.back.now.color.width = ap (λ (s : Surface). s.color.width) c.clear_whole.ensures in
     let height : back.color.height ≡ c.args.back.now.color.height = ap (λ (s : Surface). s.color.height) c.clear_whole.ensures in
-    ap (λ (s : Surface). record { back = s; things = things_seen c.do_view.new.things }) c.draw_view.ensures
+    ap (λ (s : Surface). record { back = s; things = things_seen c.do_view.new.things }) c.draw_view.ensures.drawn
     ∙ sym (c.in_ok-list.ensures back k width height)
     ∙ ap (λ (s : Surface). fold (do_item (cleared_view k)) (record { back = s; things = things_seen c.args.things.now }) (filter (is_of_view c.args.view) items)) c.clear_whole.ensures

@@ -1,0 +1,137 @@
+-- The draws of a view on its target, taken out once.
+use Rattle.std.proofs.Common.{◌≡◌, ◌≢◌, ℕ, ◌+◌, ◌<◌, true, List, [], ◌∷◌, length, get_or, take, Option, Some, None, refl, sym, ap, ◌∙◌, arith}
+use Rattle.std.proofs.lemmas.List.{take-map, take_all}
+use Rattle.std.proofs.lemmas.Option.{none-some, same_Some}
+use Rattle.std.specs.Prelude.{fold, map, ◌++◌, IfSome}
+use Rattle.std.proofs.lemmas.List.Sums.{fold-append}
+use Rattle.gfx_model.specs.Words.{Handle, ProgramKind}
+use Rattle.gfx_model.specs.Raster.{Texels}
+use Rattle.gfx_model.specs.Views.{View}
+use Rattle.gfx_model.specs.World.{Surface, Item, draw_item, touch_item, blit_item, Blit, clear_surface}
+use Rattle.store_model.specs.Laws.{PutBackLaw}
+use Rattle.store_model.specs.Slots.{at}
+use Rattle.store_model.specs.Buffers.{Buffers}
+use Rattle.store_model.specs.Textures.{Textures, TargetSlot, IsTextures, target_texels, target_out, target_back, can_attach_at, TextureSlot}
+use Rattle.store_model.proofs.AttachLaws.{apart_of}
+use Rattle.store_laws.specs.ByIndex.{Stores, with_buffers, with_textures, on_target, textures_out, do_by_index}
+use Rattle.store_laws.specs.Listed.{Drawing, drawn_in, values_after, listed, IsApartTarget}
+use Rattle.int_raster.specs.Drawing.{PreparedDraw, drawn_prepared}
+use Rattle.view_drawing.specs.Entered.{blit_in, AreSomeBlits, AreSomeGiven, HaveGiven, IsBegun}
+use Rattle.view_drawing.specs.Prepared.{DoAllTo}
+use Rattle.view_drawing.proofs.Folds.{fold_more}
+use Rattle.view_drawing.proofs.TargetLaws.{surface_with, put_changed, not_taken}
+
+-- ---- the buffers of a list
+
+one_value : (out : Textures) (programs : List (Option ProgramKind)) (view : View) (x : Drawing) (i : Item) → (drawn_in out programs view x i).buffers ≡ values_after x.buffers i
+one_value out programs view x (draw_item d) = refl
+one_value out programs view x (touch_item t) = refl
+one_value out programs view x (blit_item b) = refl
+
+values_drawn : (out : Textures) (programs : List (Option ProgramKind)) (view : View) (x : Drawing) (items : List Item) → (fold (drawn_in out programs view) x items).buffers ≡ fold values_after x.buffers items
+values_drawn out programs view x [] = refl
+values_drawn out programs view x (i ∷ items) =
+    values_drawn out programs view (drawn_in out programs view x i) items ∙ ap (λ b. fold values_after b items) (one_value out programs view x i)
+
+-- ---- the list on what a target may be
+
+abbrev surface_after : Option Handle → View → Stores → List Item → Surface → Surface
+surface_after target view h items s = (fold (drawn_in (textures_out target h.textures) h.programs view) (record { buffers = h.buffers; surface = s }) items).surface
+
+abbrev listed_on : Option Handle → View → Stores → List Item → Stores
+listed_on target view h items = with_buffers (on_target h target (surface_after target view h items)) (fold values_after h.buffers items)
+
+-- on the back buffer
+pub listed_back : (view : View) (h : Stores) (items : List Item) (b : Buffers) (s : Surface) → view.target ≡ None
+    → fold (drawn_in h.textures h.programs view) (record { buffers = h.buffers; surface = h.back }) items ≡ record { buffers = b; surface = s }
+    → record { back = s; buffers = b; textures = h.textures; programs = h.programs } ≡ listed view h items
+listed_back view h items b s none e =
+    (λ j. record { back = (sym e j).surface; buffers = (ap (λ (x : Drawing). x.buffers) (sym e) ∙ values_drawn h.textures h.programs view (record { buffers = h.buffers; surface = h.back }) items) j; textures = h.textures; programs = h.programs })
+    ∙ sym (λ j. listed_on (none j) view h items)
+
+-- on textures that are taken out
+pub listed_taken : (view : View) (h : Stores) (items : List Item) (b : Buffers) (s : Surface) (t : Handle) (p : Texels × Option Texels) (textures : Textures) → view.target ≡ Some t
+    → target_texels h.textures t.index ≡ Some p
+    → fold (drawn_in (target_out t.index h.textures) h.programs view) (record { buffers = h.buffers; surface = surface_with p }) items ≡ record { buffers = b; surface = s }
+    → textures ≡ target_back t.index s.color s.depth (target_out t.index h.textures)
+    → record { back = h.back; buffers = b; textures = textures; programs = h.programs } ≡ listed view h items
+listed_taken view h items b s t p textures some there e is =
+    (λ j. record {
+      back = h.back;
+      buffers = (ap (λ (x : Drawing). x.buffers) (sym e) ∙ values_drawn (target_out t.index h.textures) h.programs view (record { buffers = h.buffers; surface = surface_with p }) items) j;
+      textures = put_changed h.textures textures t.index p (surface_after (Some t) view h items) s there (ap (λ (x : Drawing). x.surface) (sym e)) is j;
+      programs = h.programs;
+    })
+    ∙ sym (λ j. listed_on (some j) view h items)
+
+-- where they cannot be taken out
+pub listed_not_taken : (view : View) (h : Stores) (items : List Item) (b : Buffers) (t : Handle) (textures : Textures) → view.target ≡ Some t
+    → target_texels h.textures t.index ≡ None → textures ≡ target_out t.index h.textures → b ≡ fold values_after h.buffers items
+    → record { back = h.back; buffers = b; textures = textures; programs = h.programs } ≡ listed view h items
+listed_not_taken view h items b t textures some none is values =
+    (λ j. record { back = h.back; buffers = values j; textures = not_taken h.textures textures t.index (surface_after (Some t) view h items) none is j; programs = h.programs })
+    ∙ sym (λ j. listed_on (some j) view h items)
+
+-- ---- a frame buffer's textures are two
+
+two_apart : (textures : List (Option TextureSlot)) (color : ℕ) (depth : Option ℕ) → can_attach_at textures color depth ≡ true → depth ≢ Some color
+two_apart textures color None e f = none-some color f
+two_apart textures color (Some d) e f = apart_of textures color d e (same_Some d color f)
+
+pub apart_target : (h : Stores) (target : Option Handle) → IsTextures h.textures → IsApartTarget h target
+apart_target h None is = tt
+apart_target h (Some t) is = step (at h.textures.targets t.index) refl
+  where
+    step : (o : Option TargetSlot) → at h.textures.targets t.index ≡ o → IfSome o (λ s. s.depth ≢ Some s.color)
+    step None e = tt
+    step (Some s) e = two_apart h.textures.textures s.color s.depth (is.attached t.index s e)
+
+-- ---- blits
+
+blits_in : (view : View) (h : Stores) (blits : List Blit) → fold (do_by_index view) h (map blit_item blits) ≡ with_textures h (fold blit_in h.textures blits)
+blits_in view h [] = refl
+blits_in view h (b ∷ blits) = blits_in view (with_textures h (blit_in h.textures b)) blits
+
+-- what is done after the blits is done after them
+pub after_blits : (view : View) (h : Stores) (blits : List Blit) (items : List Item) (textures : Textures) → textures ≡ fold blit_in h.textures blits
+    → fold (do_by_index view) (with_textures h textures) items ≡ fold (do_by_index view) h (map blit_item blits ++ items)
+after_blits view h blits items textures e =
+    ap (λ t. fold (do_by_index view) (with_textures h t) items) e
+    ∙ sym (fold-append (do_by_index view) h (map blit_item blits) items ∙ ap (λ x. fold (do_by_index view) x items) (blits_in view h blits))
+
+-- ---- where memory was wanting
+
+-- the values of one item more, where it wants memory
+pub some_given : {X : Type 0} (width height : ℕ) (out : Textures) (programs : List (Option ProgramKind)) (view : View) (g : X → Item) (xs : List X) (i : ℕ) (d : X) (b c e : Buffers) (l m : List PreparedDraw) → i < length xs
+    → d ≡ get_or xs i d → DoAllTo width height out programs view (map g (take i xs)) b l c m → e ≡ values_after c (g d) → AreSomeGiven (map g xs) b e
+some_given width height out programs view g xs i d b c e l m lt same all is =
+    (i + 1, is ∙ ap (λ x. values_after c (g x)) same ∙ ap (λ x. values_after x (g (get_or xs i d))) before ∙ sym (fold_more values_after g b xs i d lt) ∙ ap (fold values_after b) (sym (take-map g (i + 1) xs)))
+  where
+    s : Surface
+    s = record { color = record { width = width; height = height; texels = [] }; depth = None }
+
+    before : c ≡ fold values_after b (map g (take i xs))
+    before = sym (ap (λ (x : Drawing). x.buffers) (all s refl refl)) ∙ values_drawn out programs view (record { buffers = b; surface = fold drawn_prepared s l }) (map g (take i xs))
+
+pub begun_by_blits : (view : View) (blits : List Blit) (items : List Item) (old c : Stores) (textures : Textures) → c ≡ on_target old view.target (clear_surface view) → AreSomeBlits blits c.textures textures
+    → IsBegun view blits items old (with_textures c textures)
+begun_by_blits view blits items old c textures e some =
+    (some.0, (0, ap (with_textures c) some.1 ∙ sym (blits_in view c (take some.0 blits)) ∙ ap (λ x. fold (do_by_index view) x (map blit_item (take some.0 blits))) e))
+
+pub begun_by_items : (view : View) (blits : List Blit) (items : List Item) (old c new : Stores) (textures : Textures) → c ≡ on_target old view.target (clear_surface view) → textures ≡ fold blit_in c.textures blits
+    → HaveGiven items (with_textures c textures) new → IsBegun view blits items old new
+begun_by_items view blits items old c new textures e f given =
+    (length blits, (given.0, given.1 ∙ (λ j. with_buffers (step j) (fold values_after (step j).buffers (take given.0 items)))))
+  where
+    step : with_textures c textures ≡ fold (do_by_index view) (on_target old view.target (clear_surface view)) (map blit_item (take (length blits) blits))
+    step =
+        ap (with_textures c) f ∙ sym (blits_in view c blits)
+        ∙ ap (λ x. fold (do_by_index view) x (map blit_item blits)) e
+        ∙ ap (λ bs. fold (do_by_index view) (on_target old view.target (clear_surface view)) (map blit_item bs)) (sym (take_all (length blits) blits (omega arith)))
+
+-- a target that is put back as it was
+pub given_on_target : (h : Stores) (items : List Item) (i : ℕ) (p : Texels × Option Texels) (s : Surface) (b : Buffers) (textures : Textures) → IsTextures h.textures → PutBackLaw → target_texels h.textures i ≡ Some p
+    → s ≡ surface_with p → textures ≡ target_back i s.color s.depth (target_out i h.textures) → AreSomeGiven items h.buffers b
+    → HaveGiven items h (record { back = h.back; buffers = b; textures = textures; programs = h.programs })
+given_on_target h items i p s b textures facts law there same is given =
+    (given.0, (λ j. record { back = h.back; buffers = given.1 j; textures = (is ∙ (λ k. target_back i (same k).color (same k).depth (target_out i h.textures)) ∙ law h.textures i p.0 p.1 facts there) j; programs = h.programs }))

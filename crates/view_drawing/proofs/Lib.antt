@@ -1,0 +1,10 @@
+mod Blocks
+mod Clears
+mod CutLaws
+mod DrawnLaws
+mod Facings
+mod Fetches
+mod Folds
+mod Parts
+mod Places
+mod TargetLaws

@@ -1,0 +1,20 @@
+use Rattle.std.proofs.Common.{map, ap}
+use Rattle.std.proofs.lemmas.Result.{on_ok_weaker, on_err_weaker}
+use Rattle.int_raster.specs.Seen.{surface_seen}
+use Rattle.view_table.specs.Seen.{view_seen}
+use Rattle.render_stores.specs.Seen.{stores_seen}
+use Rattle.view_drawing.specs.Recorded.{recorded_seen}
+use Rattle.view_drawing.proofs.DrawnLaws.{listed_back}
+use Rattle.view_drawing.proofs.drawing.draw_back.Goals as goal
+
+pub returns-clause-drawn : goal.returns-clause-drawn
+returns-clause-drawn g c =
+    on_ok_weaker c.draw_surface-done.result
+    (λ e. listed_back (view_seen c.args.view.now) (stores_seen c.args.stores.now) (map recorded_seen c.args.items.now) c.draw_surface-done.new.buffers (surface_seen c.draw_surface-done.new.surface) c.requires e)
+    c.draw_surface-done.ensures.drawn
+
+pub returns-clause-begun : goal.returns-clause-begun
+returns-clause-begun g c =
+    on_err_weaker c.draw_surface-done.result
+    (λ e. (e.1.0, (λ j. record { back = surface_seen (e.0 j); buffers = e.1.1 j; textures = c.args.stores.now.textures; programs = c.args.stores.now.programs })))
+    c.draw_surface-done.ensures.begun

@@ -1,0 +1,33 @@
+use Rattle.std.proofs.Common.{◌≡◌, sym, ap, ◌∙◌, Some, None}
+use Rattle.std.specs.Prelude.{fold}
+use Rattle.int_raster.specs.Drawing.{drawn_prepared}
+use Rattle.int_raster.specs.Seen.{paint_seen}
+use Rattle.view_table.specs.Seen.{view_seen}
+use Rattle.store_model.specs.Slots.{at}
+use Rattle.store_laws.specs.ByIndex.{paint_at}
+use Rattle.store_laws.specs.Listed.{painted_in}
+use Rattle.draw_encoder.specs.Seen.{draw_seen}
+use Rattle.view_drawing.proofs.preparing.add_draw.Goals as goal
+
+pub returns-in_ok-add_painted-in-Some : goal.returns-in_ok-add_painted-in-Some
+returns-in_ok-add_painted-in-Some c sets s ew eh =
+    let d = draw_seen c.args.recorded.now sets c.args.draw.now in
+    let view = view_seen c.args.stage.now.view.now in
+    let b = c.args.buffers.now in
+    let textures = c.args.stage.now.textures.now in
+    let programs = c.args.stage.now.programs.now in
+    let paint : Some (paint_seen c.in-Some.paint) ≡ paint_at b textures d (at programs d.program.index) =
+    c.in-Some.ensures c.args.recorded.now sets ∙ ap (paint_at b textures d) (c.get-program.ensures ∙ ap (at programs) c.index.ensures.same) in
+    sym (λ j. painted_in view d b (paint j) (fold drawn_prepared s c.args.list.now))
+    ∙ c.in_ok-add_painted-in-Some.ensures sets s ew eh
+
+pub returns-in-None : goal.returns-in-None
+returns-in-None c sets s ew eh =
+    let d = draw_seen c.args.recorded.now sets c.args.draw.now in
+    let view = view_seen c.args.stage.now.view.now in
+    let b = c.args.buffers.now in
+    let textures = c.args.stage.now.textures.now in
+    let programs = c.args.stage.now.programs.now in
+    let paint : None ≡ paint_at b textures d (at programs d.program.index) =
+    c.in-None.ensures c.args.recorded.now sets ∙ ap (paint_at b textures d) (c.get-program.ensures ∙ ap (at programs) c.index.ensures.same) in
+    sym (λ j. painted_in view d b (paint j) (fold drawn_prepared s c.args.list.now))

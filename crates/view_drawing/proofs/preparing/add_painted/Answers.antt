@@ -1,0 +1,40 @@
+use Rattle.std.proofs.Common.{◌≡◌, ℕ, List, map, ap, sym, ◌∙◌}
+use Rattle.std.specs.Prelude.{◌&&◌, fold, option_and_then}
+use Rattle.gfx_model.specs.Words.{cull_of, primitive_of}
+use Rattle.gfx_model.specs.Vertex.{triangles_of}
+use Rattle.gfx_model.specs.Raster.{contains, passes_scissor, view_rect, place}
+use Rattle.gfx_model.specs.World.{draw_vertices}
+use Rattle.fix_math.specs.Seen.{rect_seen, affine_seen}
+use Rattle.tri_cover.specs.Shown.{setup_seen}
+use Rattle.int_raster.specs.Drawing.{facing_shown, drawn_prepared}
+use Rattle.int_raster.specs.Seen.{paint_seen, prepared_seen}
+use Rattle.view_table.specs.Seen.{view_seen}
+use Rattle.draw_encoder.specs.Seen.{draw_seen}
+use Rattle.store_laws.specs.ByIndex.{vertices_at, indices_at}
+use Rattle.view_drawing.specs.Shapes.{kept_of}
+use Rattle.view_drawing.proofs.Facings.{facings_kept}
+use Rattle.view_drawing.proofs.CutLaws.{prepared_drawn, list_width, list_height, draw_added}
+use Rattle.view_drawing.proofs.preparing.add_painted.Goals as goal
+
+pub returns : goal.returns
+returns c sets s ew eh =
+    let view = view_seen c.args.stage.now.view.now in
+    let width = c.args.stage.now.width in
+    let height = c.args.stage.now.height in
+    let d = draw_seen c.args.recorded.now sets c.args.draw.now in
+    let old = c.args.list.now in
+    let new = c.push.new.self in
+    let vertices = vertices_at c.args.buffers.now d.vertices in
+    let indices = indices_at c.args.buffers.now d.indices in
+    let vs = draw_vertices vertices indices in
+    let rect = view_rect view.rect width height in
+    let cut = rect_seen c.cut_by_both.result in
+    let triangles = map setup_seen c.shape_draw.new.room.triangles.items in
+    let facings = map (facing_shown d.front d.back) triangles in
+    let paint = paint_seen c.args.paint in
+    prepared_drawn view cut d vertices indices paint facings width height (fold drawn_prepared s old) (list_width s old ∙ ew) (list_height s old ∙ eh)
+    (λ x y. c.cut_by_both.ensures x y ∙ (λ i. contains (c.view_rect-rect.ensures i) x y && passes_scissor view.scissor x y && passes_scissor d.scissor x y))
+    (ap (map (facing_shown d.front d.back)) c.in_ok-shape_draw.ensures
+    ∙ (λ i. map (facing_shown d.front d.back) (kept_of (cull_of d.state) (triangles_of (primitive_of d.state) (map (option_and_then (place d.model view.transform (c.view_rect-rect.ensures i))) vs))))
+    ∙ facings_kept view rect d vs)
+    ∙ draw_added s old new (record { cut = cut; state = d.state; paint = paint; facings = facings }) (rw c.deref.ensures.value at c.in_ok-push.ensures.ok)

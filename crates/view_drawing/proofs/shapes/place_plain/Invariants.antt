@@ -1,0 +1,10 @@
+use Rattle.std.proofs.Common.{◌≡◌, map}
+use Rattle.std.specs.Prelude.{option_map}
+use Rattle.std.specs.List.{range_with_len}
+use Rattle.gfx_model.specs.Vertex.{fetch}
+use Rattle.tri_cover.specs.Seen.{screen_seen}
+use Rattle.view_drawing.specs.Shapes.{placed_by}
+use Rattle.view_drawing.proofs.shapes.place_plain.Given as goal
+
+abbrev pub invariant-loop-number : goal.invariant-loop-number
+invariant-loop-number l = map (option_map screen_seen) l.placed.items ≡ map (placed_by l.placement) (map (λ i. fetch l.vertices.layout.now l.vertices.bytes.now i) (range_with_len l.vertices.first l.number))

@@ -1,0 +1,139 @@
+// The draws and touches of a view on its target, in one list.
+ghost use Rattle.std.specs.Prelude.{◌≡◌, Some, None, map, fold, option_map, OnOk, OnErr};
+ghost use Rattle.view_table.specs.Seen.{view_seen};
+ghost use Rattle.int_raster.specs.Seen.{surface_seen};
+ghost use Rattle.texture_store.specs.Seen.{sides_seen};
+ghost use Rattle.store_laws.specs.Listed.{drawn_in, listed, values_after};
+ghost use Rattle.render_stores.specs.Seen.{stores_seen};
+ghost use Rattle.view_drawing.specs.Recorded.{recorded_seen};
+ghost use Rattle.view_drawing.specs.Entered.{AreSomeGiven, HaveGiven};
+
+use crate::items::{Recorded, do_items, give_values};
+use crate::preparing::Stage;
+use crate::room::DrawingRoom;
+use buffer_store::BufferStore;
+use gfx_words::Handle;
+use int_raster::{DrawList, Surface, draw_view};
+use render_stores::RenderStores;
+use std::alloc::AllocError;
+use std::thread::Threads;
+use store_model::put_back_law;
+use view_table::View;
+
+/// Makes the draws of items on a surface of the stage's sides, and gives their values. Where memory is wanting, nothing
+/// is drawn.
+fn draw_surface<R: Threads + Sync>(
+    rt: &R,
+    surface: &mut Surface,
+    stage: &Stage<'_>,
+    buffers: &mut BufferStore,
+    items: &[Recorded<'_>],
+    room: &mut DrawingRoom,
+) -> Result<(), AllocError>
+    requires wide { stage.now.width ≡ surface.old.color.width }
+    requires high { stage.now.height ≡ surface.old.color.height }
+    ensures drawn { OnOk result (fold (drawn_in stage.now.textures.now stage.now.programs.now (view_seen stage.now.view.now)) (record { buffers = buffers.old; surface = surface_seen surface.old }) (map recorded_seen items.now) ≡ record { buffers = buffers.new; surface = surface_seen surface.new }) }
+    ensures begun { OnErr result ((surface.new ≡ surface.old) × AreSomeGiven (map recorded_seen items.now) buffers.old buffers.new) }
+    ensures color { sides_seen surface.new.color ≡ sides_seen surface.old.color }
+    ensures depth { option_map sides_seen surface.new.depth ≡ option_map sides_seen surface.old.depth }
+{
+    let _ = rt;
+    let mut list = DrawList::new(room.alloc);
+    do_items(stage, buffers, items, &mut list, room)?;
+    draw_view(surface, &list);
+    Ok(())
+}
+
+/// Gives the values of items in order, where nothing can be drawn.
+fn give_all(buffers: &mut BufferStore, items: &[Recorded<'_>])
+    ensures { buffers.new ≡ fold values_after buffers.old (map recorded_seen items.now) }
+{
+    for recorded in items {
+        give_values(buffers, recorded.recording, recorded.item);
+    }
+}
+
+/// Makes the draws of a view on a frame buffer's textures, where they can be taken out.
+fn draw_target<R: Threads + Sync>(
+    rt: &R,
+    stores: &mut RenderStores,
+    target: Handle,
+    view: &View,
+    items: &[Recorded<'_>],
+    room: &mut DrawingRoom,
+) -> Result<(), AllocError>
+    requires { view.now.target ≡ Some target }
+    ensures drawn { OnOk result (stores_seen stores.new ≡ listed (view_seen view.now) (stores_seen stores.old) (map recorded_seen items.now)) }
+    ensures begun { OnErr result (HaveGiven (map recorded_seen items.now) (stores_seen stores.old) (stores_seen stores.new)) }
+{
+    stores.textures.tell_facts();
+    put_back_law();
+    match stores.textures.take_target(target.index()) {
+        None => {
+            give_all(&mut stores.buffers, items);
+            Ok(())
+        }
+        Some((color, depth)) => {
+            let mut surface = Surface::new(color, depth);
+            let stage = Stage {
+                textures: &stores.textures,
+                programs: &stores.programs,
+                view,
+                width: surface.color.width,
+                height: surface.color.height,
+            };
+            let done = draw_surface(rt, &mut surface, &stage, &mut stores.buffers, items, room);
+            stores
+                .textures
+                .put_target(target.index(), surface.color, surface.depth);
+            done
+        }
+    }
+}
+
+/// Makes the draws of a view on the back buffer.
+fn draw_back<R: Threads + Sync>(
+    rt: &R,
+    stores: &mut RenderStores,
+    view: &View,
+    items: &[Recorded<'_>],
+    room: &mut DrawingRoom,
+) -> Result<(), AllocError>
+    requires { view.now.target ≡ None }
+    ensures drawn { OnOk result (stores_seen stores.new ≡ listed (view_seen view.now) (stores_seen stores.old) (map recorded_seen items.now)) }
+    ensures begun { OnErr result (HaveGiven (map recorded_seen items.now) (stores_seen stores.old) (stores_seen stores.new)) }
+{
+    let stage = Stage {
+        textures: &stores.textures,
+        programs: &stores.programs,
+        view,
+        width: stores.back.color.width,
+        height: stores.back.color.height,
+    };
+    let done = draw_surface(
+        rt,
+        &mut stores.back,
+        &stage,
+        &mut stores.buffers,
+        items,
+        room,
+    );
+    done
+}
+
+/// Makes the draws and touches of a view on its target.
+pub(crate) fn draw_listed<R: Threads + Sync>(
+    rt: &R,
+    stores: &mut RenderStores,
+    view: &View,
+    items: &[Recorded<'_>],
+    room: &mut DrawingRoom,
+) -> Result<(), AllocError>
+    ensures drawn { OnOk result (stores_seen stores.new ≡ listed (view_seen view.now) (stores_seen stores.old) (map recorded_seen items.now)) }
+    ensures begun { OnErr result (HaveGiven (map recorded_seen items.now) (stores_seen stores.old) (stores_seen stores.new)) }
+{
+    match view.target {
+        Some(target) => draw_target(rt, stores, target, view, items, room),
+        None => draw_back(rt, stores, view, items, room),
+    }
+}

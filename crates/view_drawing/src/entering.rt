@@ -1,0 +1,60 @@
+// A view that is entered.
+ghost use Rattle.std.specs.Prelude.{◌≡◌, false, map, fold, OnOk, OnErr};
+ghost use Rattle.std.specs.List.{AllByRecursion};
+ghost use Rattle.gfx_model.specs.World.{is_blit};
+ghost use Rattle.view_table.specs.Seen.{view_seen};
+ghost use Rattle.draw_encoder.specs.Seen.{blit_seen};
+ghost use Rattle.store_laws.specs.ByIndex.{do_by_index};
+ghost use Rattle.render_stores.specs.Seen.{stores_seen};
+ghost use Rattle.view_drawing.specs.Recorded.{recorded_seen};
+ghost use Rattle.view_drawing.specs.Entered.{entered, HaveGiven, IsBegun};
+
+use crate::blits::blit_all;
+use crate::drawing::draw_listed;
+use crate::items::Recorded;
+use crate::room::DrawingRoom;
+use crate::targets::clear_target;
+use draw_encoder::BlitItem;
+use render_stores::RenderStores;
+use std::alloc::AllocError;
+use std::thread::Threads;
+use store_laws::list_law;
+use view_table::View;
+
+/// Does draws and touches in order; their target is taken out once.
+fn draw_items<R: Threads + Sync>(
+    rt: &R,
+    stores: &mut RenderStores,
+    view: &View,
+    items: &[Recorded<'_>],
+    room: &mut DrawingRoom,
+) -> Result<(), AllocError>
+    requires { AllByRecursion (λ i. is_blit i ≡ false) (map recorded_seen items.now) }
+    ensures done { OnOk result (stores_seen stores.new ≡ fold (do_by_index (view_seen view.now)) (stores_seen stores.old) (map recorded_seen items.now)) }
+    ensures begun { OnErr result (HaveGiven (map recorded_seen items.now) (stores_seen stores.old) (stores_seen stores.new)) }
+{
+    stores.textures.tell_facts();
+    list_law();
+    draw_listed(rt, stores, view, items, room)
+}
+
+/// Enters a view: clears its rectangle of its target, then copies its blits, then does its draws and touches, each in
+/// the order of its list. No item of the second list is a blit. Only want of memory refuses; then the clear is done, some
+/// of the first blits, and the values of some of the first items, and nothing is drawn. The target is in its place in
+/// either case.
+pub fn enter_view<R: Threads + Sync>(
+    rt: &R,
+    stores: &mut RenderStores,
+    view: &View,
+    blits: &[BlitItem],
+    items: &[Recorded<'_>],
+    room: &mut DrawingRoom,
+) -> Result<(), AllocError>
+    requires { AllByRecursion (λ i. is_blit i ≡ false) (map recorded_seen items.now) }
+    ensures entered { OnOk result (stores_seen stores.new ≡ entered (view_seen view.now) (map blit_seen blits.now) (map recorded_seen items.now) (stores_seen stores.old)) }
+    ensures begun { OnErr result (IsBegun (view_seen view.now) (map blit_seen blits.now) (map recorded_seen items.now) (stores_seen stores.old) (stores_seen stores.new)) }
+{
+    clear_target(stores, view);
+    blit_all(&mut stores.textures, blits)?;
+    draw_items(rt, stores, view, items, room)
+}

@@ -1,0 +1,20 @@
+//! What entering a view does: its clear, its blits, and its draws and touches, each made on the stores of a renderer.
+#![tactic(auto)]
+
+mod blits;
+mod clearing;
+mod cuts;
+mod drawing;
+mod entering;
+mod items;
+mod paints;
+mod preparing;
+mod ranges;
+mod room;
+mod shapes;
+mod targets;
+mod uniforms;
+
+pub use entering::enter_view;
+pub use items::Recorded;
+pub use room::DrawingRoom;

@@ -1,0 +1,184 @@
+// The triangles of a draw on its target.
+ghost use Rattle.std.specs.Prelude.{◌≡◌, ◌++◌, [], Some, None, false, map, option_map, OnOk};
+ghost use Rattle.std.specs.List.{cons_option};
+ghost use Rattle.gfx_model.specs.Vertex.{vertices_of, triangles_of as triangles_of_vertices, listed_triangles, strip_triangles as strip_triangles_of};
+ghost use Rattle.vertex_layout.specs.Seen.{vertex_seen};
+ghost use Rattle.tri_cover.specs.Seen.{screen_seen};
+ghost use Rattle.tri_cover.specs.Shown.{setup_seen};
+ghost use Rattle.view_drawing.specs.Ranges.{vertex_range_seen, index_range_seen};
+ghost use Rattle.view_drawing.specs.Shapes.{placed_by, kept, kept_of, turned};
+
+use crate::ranges::{IndexRange, VertexRange, indexed_vertex, vertex_of};
+use fix_math::{Affine, Rect};
+use std::alloc::AllocError;
+use tri_cover::{ScreenVertex, Setup, place};
+use vertex_layout::Vertex;
+
+/// How the vertices of a draw come to the target: by its transform, its view's transform and the view's rectangle.
+#[derive(Clone, Copy)]
+pub(crate) struct Placement {
+    pub(crate) model: Affine,
+    pub(crate) view: Affine,
+    pub(crate) rect: Rect,
+}
+
+/// A vertex on the target, if it is there and within the guard range.
+fn placed_vertex(placement: &Placement, vertex: Option<Vertex>) -> Option<ScreenVertex>
+    ensures { option_map screen_seen result ≡ placed_by placement.now (option_map vertex_seen vertex) }
+{
+    match vertex {
+        Some(vertex) => place(&vertex, &placement.model, &placement.view, placement.rect),
+        None => None,
+    }
+}
+
+fn place_plain(
+    placed: &mut Vec<Option<ScreenVertex>>,
+    placement: &Placement,
+    vertices: &VertexRange<'_>,
+) -> Result<(), AllocError>
+    requires { placed.old.items ≡ [] }
+    ensures { OnOk result (map (option_map screen_seen) placed.new.items ≡ map (placed_by placement.now) (vertices_of (vertex_range_seen vertices.now) None)) }
+{
+    for number in 0..vertices.count {
+        placed.push(placed_vertex(placement, vertex_of(vertices, number)))?;
+    }
+    Ok(())
+}
+
+fn place_indexed(
+    placed: &mut Vec<Option<ScreenVertex>>,
+    placement: &Placement,
+    vertices: &VertexRange<'_>,
+    indices: &IndexRange<'_>,
+) -> Result<(), AllocError>
+    requires { placed.old.items ≡ [] }
+    ensures { OnOk result (map (option_map screen_seen) placed.new.items ≡ map (placed_by placement.now) (vertices_of (vertex_range_seen vertices.now) (Some (index_range_seen indices.now)))) }
+{
+    for number in 0..indices.count {
+        let vertex = indexed_vertex(vertices, indices, number);
+        placed.push(placed_vertex(placement, vertex))?;
+    }
+    Ok(())
+}
+
+/// Puts the vertices of a draw on the target, one after another.
+pub(crate) fn place_vertices(
+    placed: &mut Vec<Option<ScreenVertex>>,
+    placement: &Placement,
+    vertices: &VertexRange<'_>,
+    indices: Option<IndexRange<'_>>,
+) -> Result<(), AllocError>
+    ensures { OnOk result (map (option_map screen_seen) placed.new.items ≡ map (placed_by placement.now) (vertices_of (vertex_range_seen vertices.now) (option_map index_range_seen indices.entry))) }
+{
+    placed.clear();
+    match indices {
+        Some(indices) => {
+            place_indexed(placed, placement, vertices, &indices)?;
+            Ok(())
+        }
+        None => {
+            place_plain(placed, placement, vertices)?;
+            Ok(())
+        }
+    }
+}
+
+/// A triangle, if its corners are placed and it is kept.
+fn triangle(
+    a: Option<ScreenVertex>,
+    b: Option<ScreenVertex>,
+    c: Option<ScreenVertex>,
+    cull: u8,
+) -> Option<Setup>
+    ensures { option_map setup_seen result ≡ kept cull (record { a = option_map screen_seen a; b = option_map screen_seen b; c = option_map screen_seen c }) }
+{
+    match (a, b, c) {
+        (Some(a), Some(b), Some(c)) => Setup::new(a, b, c, cull),
+        _ => None,
+    }
+}
+
+/// One triangle more, if there is one.
+fn push_some(triangles: &mut Vec<Setup>, triangle: Option<Setup>) -> Result<(), AllocError>
+    ensures { OnOk result (map setup_seen triangles.new.items ≡ map setup_seen triangles.old.items ++ cons_option (option_map setup_seen triangle) []) }
+{
+    match triangle {
+        Some(triangle) => {
+            triangles.push(triangle)?;
+            Ok(())
+        }
+        None => Ok(()),
+    }
+}
+
+/// The triangles of a list of vertices, three at a time.
+fn list_triangles(
+    triangles: &mut Vec<Setup>,
+    vertices: &[Option<ScreenVertex>],
+    cull: u8,
+) -> Result<(), AllocError>
+    requires { triangles.old.items ≡ [] }
+    ensures { OnOk result (map setup_seen triangles.new.items ≡ kept_of cull (listed_triangles (map (option_map screen_seen) vertices.now))) }
+{
+    let mut rest = vertices;
+    while let [a, b, c, after @ ..] = rest {
+        push_some(triangles, triangle(*a, *b, *c, cull))?;
+        rest = after;
+    }
+    Ok(())
+}
+
+/// A triangle of a strip; in every second one the first two corners change places.
+fn strip_triangle(
+    odd: bool,
+    a: Option<ScreenVertex>,
+    b: Option<ScreenVertex>,
+    c: Option<ScreenVertex>,
+    cull: u8,
+) -> Option<Setup>
+    ensures { option_map setup_seen result ≡ kept cull (turned odd (option_map screen_seen a) (option_map screen_seen b) (option_map screen_seen c)) }
+{
+    if odd {
+        triangle(b, a, c, cull)
+    } else {
+        triangle(a, b, c, cull)
+    }
+}
+
+/// The triangles of a strip of vertices: each vertex with the next two.
+fn strip_triangles(
+    triangles: &mut Vec<Setup>,
+    vertices: &[Option<ScreenVertex>],
+    cull: u8,
+) -> Result<(), AllocError>
+    requires { triangles.old.items ≡ [] }
+    ensures { OnOk result (map setup_seen triangles.new.items ≡ kept_of cull (strip_triangles_of false (map (option_map screen_seen) vertices.now))) }
+{
+    let mut odd = false;
+    let mut rest = vertices;
+    while let [a, b, c, ..] = rest {
+        push_some(triangles, strip_triangle(odd, *a, *b, *c, cull))?;
+        odd = !odd;
+        rest = &rest[1..];
+    }
+    Ok(())
+}
+
+/// The triangles of vertices by the primitive of the state word: 0 a list, 1 a strip.
+pub(crate) fn triangles_of(
+    triangles: &mut Vec<Setup>,
+    vertices: &[Option<ScreenVertex>],
+    primitive: u8,
+    cull: u8,
+) -> Result<(), AllocError>
+    ensures { OnOk result (map setup_seen triangles.new.items ≡ kept_of cull (triangles_of_vertices primitive (map (option_map screen_seen) vertices.now))) }
+{
+    triangles.clear();
+    if primitive == 0 {
+        list_triangles(triangles, vertices, cull)?;
+    } else {
+        strip_triangles(triangles, vertices, cull)?;
+    }
+    Ok(())
+}
