@@ -1,10 +1,13 @@
 -- What frames keep.
-use Rattle.std.proofs.Common.{◌≡◌, ℕ, suc, ◌≤◌, Bool, true, false, cond, nat_le, List, [], ◌∷◌, length, map, refl, ap, ◌∙◌, arith}
+use mathlib.Core.HLevel.{¬_prop}
+use Rattle.std.proofs.Math.Logic.{∥∥₁_elim}
+use Rattle.std.specs.Coded.{Coded, Coded-set, coded_ℕ, coded×, coded_list, code_by, le_prop, Unit-prop, Π_prop, ×_prop}
+use Rattle.std.proofs.Common.{◌≡◌, ◌≢◌, ℕ, suc, ◌≤◌, Bool, true, false, cond, nat_le, List, [], ◌∷◌, length, map, refl, ap, ◌∙◌, arith}
 use Rattle.std.specs.List.{flat_map, AllByRecursion}
 use Rattle.std.proofs.lemmas.List.{length-append, length-map}
 use Rattle.gfx_model.specs.Frames as model
-use Rattle.gfx_model.specs.Frames.{numbered_entries, NumbersAscend}
-use Rattle.gfx_model.specs.World.{insert_by_key, sorted_by_key}
+use Rattle.gfx_model.specs.Frames.{numbered_entries, collected, AreOfOwnEncoders, NumbersAscend}
+use Rattle.gfx_model.specs.World.{Numbered, insert_by_key, sorted_by_key}
 use Rattle.schedule_model.specs.Held.{Ascends}
 use Rattle.draw_encoder.specs.declared.items.Item.{Item}
 use Rattle.draw_encoder.specs.declared.items.Recording.{Recording}
@@ -64,3 +67,33 @@ ascend_items r (x ∷ items) a = ascend_from r 0 x items (omega arith) a
 pub all_ascend : (rs : List Recording) → AllByRecursion (λ r. Ascends (numbers_of r.items)) rs → AllByRecursion (λ r. NumbersAscend 0 r.items) (recordings_seen rs)
 all_ascend [] a = tt
 all_ascend (r ∷ rs) a = (ascend_items r r.items a.0, all_ascend rs a.1)
+
+-- ---- in one way
+
+all_prop : {A : Type 0} (P : A → Type 0) → ((x : A) → IsProp (P x)) → (xs : List A) → IsProp (AllByRecursion P xs)
+all_prop P one [] = Unit-prop
+all_prop P one (x ∷ xs) = ×_prop (one x) (all_prop P one xs)
+
+ascend_prop : (low : ℕ) (items : List Numbered) → IsProp (NumbersAscend low items)
+ascend_prop low [] = Unit-prop
+ascend_prop low (i ∷ items) = ×_prop le_prop (ascend_prop i.number items)
+
+own_prop : (rs : List model.Recorded) → IsProp (AreOfOwnEncoders rs)
+own_prop [] = Unit-prop
+own_prop (r ∷ rs) = ×_prop (all_prop (λ x. x.encoder ≢ r.encoder) (λ x. ¬_prop) rs) (own_prop rs)
+
+entry_coded : Coded model.Entry
+entry_coded = code_by (ℕ × ℕ) (coded× coded_ℕ coded_ℕ) (λ e. (e.encoder, e.ordinal)) (λ p. record { encoder = p.0; ordinal = p.1 }) (λ e. refl)
+
+IsKept-prop : (rs : List Recording) (entries : List JournalEntry) → IsProp (IsKept rs entries)
+IsKept-prop rs entries a b = λ i. record {
+  few = le_prop a.few b.few i;
+  apart = Π_prop (λ n. le_prop) a.apart b.apart i;
+  own = own_prop (recordings_seen rs) a.own b.own i;
+  ascend = all_prop (λ r. NumbersAscend 0 r.items) (λ r. ascend_prop 0 r.items) (recordings_seen rs) a.ascend b.ascend i;
+  journal = Coded-set (coded_list entry_coded) (map entry_seen entries) (collected (recordings_seen rs)) a.journal b.journal i;
+}
+
+-- a frame keeps it in one way, so what its type keeps of it is it
+pub kept_of : (rs : List Recording) (es : List JournalEntry) → ∥ IsKept rs es ∥₁ → IsKept rs es
+kept_of rs es k = ∥∥₁_elim k (IsKept-prop rs es) (λ x. x)

@@ -1,6 +1,6 @@
 // Frames, and how their renders went.
 ghost use Rattle.std.specs.Prelude.{◌≡◌};
-ghost use Rattle.frame_record.specs.Kept.{IsKept, IsKept-prop};
+ghost use Rattle.frame_record.specs.Kept.{IsKept};
 
 use crate::entry::JournalEntry;
 use cmd_buffer::CmdBytes;
@@ -22,7 +22,7 @@ pub struct Frame {
     pub payloads: Vec<Vec<u8>>,
     pub recordings: Vec<Recording>,
     pub journal: Vec<JournalEntry>,
-    ghost kept: { IsKept recordings.items journal.items } by { IsKept-prop recordings.items journal.items },
+    ghost kept: { ∥ IsKept recordings.items journal.items ∥₁ },
 }
 
 impl Frame {

@@ -1,24 +1,25 @@
 -- Each kind of step is its event.
-use Rattle.std.proofs.Common.{◌≡◌, ◌≢◌, ℕ, zero, suc, ◌+◌, ◌<◌, ◌≤◌, Bool, true, false, true≢false, not, ◌&&◌, nat_lt, List, [], ◌∷◌, ◌++◌, map, length, take, drop, set, slice_get, Option, Some, option_map, sym, refl, ap, ◌∙◌, subst, arith, length-append}
+use Rattle.std.proofs.Common.{◌≡◌, ◌≢◌, ℕ, zero, suc, ◌+◌, ◌<◌, ◌≤◌, Bool, true, false, true≢false, not, ◌&&◌, nat_lt, List, [], ◌∷◌, ◌++◌, map, length, take, drop, set, slice_get, Some, option_map, sym, refl, ap, ◌∙◌, subst, arith, length-append}
 use Rattle.std.specs.List.{list_all}
 use Rattle.std.proofs.lemmas.Bool.{lt-ltb}
 use Rattle.std.proofs.lemmas.List.{length-map, map-append, take-append-le}
 use mathlib.Core.Option.{some, some-injective}
 use lib.ListN.{get_elem?}
-use Rattle.atomic_table.proofs.Lists.{set_here, set_else}
+use Rattle.atomic_table.proofs.Lists.{set_here, set_else, at_longer}
 use Rattle.schedule_model.specs.Machine as machine
 use Rattle.schedule_model.specs.Machine.{State, Thing, give, take_frame, return_frame, take_back, step, when, out, has_no_work, is_usable, given_after, with_taken, with_returned, with_back}
 use Rattle.frame_record.specs.declared.frame.Frame.{Frame}
 use Rattle.frame_record.specs.declared.frame.RenderedFrame.{RenderedFrame}
 use Rattle.frame_record.specs.Links.{frames_of}
-use Rattle.frame_swap.specs.Views.{Side, api, render, SwapView, gave, took, gave_back, came}
-use Rattle.frame_swap.specs.Rule.{Phase, IsRing, Kept, history}
+use Rattle.frame_swap.specs.Views.{api, render, SwapView, spent_view, gave, took, gave_back, came, parted, render_view, united}
+use Rattle.frame_swap.specs.Rule.{Phase, IsRing}
 use Rattle.frame_swap.specs.Events.{outcome_seen, IsOther, is_same, is_render, Ends, Stands}
+use Rattle.frame_swap.proofs.Ring.{at_next}
 use Rattle.frame_swap.proofs.Steps.{in_range, api_at, render_at, counts}
 
 -- ---- lists
 
-length_take : {A : Type 0} (n : ℕ) (xs : List A) → n ≤ length xs → length (take n xs) ≡ n
+pub length_take : {A : Type 0} (n : ℕ) (xs : List A) → n ≤ length xs → length (take n xs) ≡ n
 length_take zero xs le = refl
 length_take (suc n) [] le = absurd (omega (arith, le))
 length_take (suc n) (x ∷ xs) le = ap suc (length_take n xs (omega (arith, le)))
@@ -40,7 +41,7 @@ got_taken i (suc n) [] lt = refl
 got_taken zero (suc n) (x ∷ xs) lt = refl
 got_taken (suc i) (suc n) (x ∷ xs) lt = got_taken i n xs (omega (arith, lt))
 
-length_drop : {A : Type 0} (n : ℕ) (xs : List A) → n ≤ length xs → length (drop n xs) + n ≡ length xs
+pub length_drop : {A : Type 0} (n : ℕ) (xs : List A) → n ≤ length xs → length (drop n xs) + n ≡ length xs
 length_drop zero xs le = omega arith
 length_drop (suc n) [] le = absurd (omega (arith, le))
 length_drop (suc n) (x ∷ xs) le = let h = length_drop n xs (omega (arith, le)) in omega (arith, h)
@@ -130,12 +131,49 @@ render_next {n} {phases} {views} r me other v w id e at is side = by e.second
         let k = render_at r.kept j other there side' in
         (some-injective v other (sym at ∙ subst (λ (i : ℕ). get_elem? views i ≡ some other) (k.0 ∙ sym fits.0) there), after)
 
+-- where the API's view is the whole, it says itself what the render end knows
+pub whole_other : {n : ℕ} {phases : List Phase} {views : List SwapView} (r : IsRing n phases views) (me other : SwapView) → Ends views me other → me.is_whole ≡ true → other ≡ me
+whole_other {n} {phases} {views} r me other e whole = by e.second
+  where
+    by : IsOther views me other → other ≡ me
+    by (is_same w same) = same
+    by (is_render j at side) = absurd (true≢false (sym whole ∙ ap (λ (u : SwapView). u.is_whole) (api_at r.kept 0 me e.first e.is_api).1 ∙ (render_at r.kept j other at side).1))
+
+pub whole_next : (views : List SwapView) (me w : SwapView) → get_elem? views 0 ≡ some me → w.side ≡ api → w.is_whole ≡ true → Ends (set views 0 w) w w
+whole_next views me w at side whole = record { first = set_here views 0 w (in_range views 0 me at); is_api = side; second = is_same whole refl }
+
+-- the numbers of frames, of views with the same lists
+pub same_lengths : {n : ℕ} (me me' other : SwapView) → me'.given ≡ me.given → me'.back ≡ me.back → Lengths n me' other → Lengths n me other
+same_lengths me me' other given back l =
+    let g = ap (λ (fs : List Frame). length fs) given in
+    let b = ap (λ (rs : List RenderedFrame). length rs) back in
+    let backs = l.backs in
+    let takes = l.takes in
+    let gives = l.gives in
+    record { backs = omega (arith, b, backs); returns = l.returns; takes = omega (arith, g, takes); gives = omega (arith, g, b, gives) }
+
+-- ---- the render end is made, and joined
+
+pub split_ends : (views : List SwapView) (me : SwapView) → get_elem? views 0 ≡ some me → me.side ≡ api → Ends (set views 0 (parted me) ++ render_view me ∷ []) (parted me) (render_view me)
+split_ends views me at side = record {
+  first = at_longer (set views 0 (parted me)) (render_view me ∷ []) 0 (parted me) (set_here views 0 (parted me) (in_range views 0 me at));
+  is_api = side;
+  second = is_render (length (set views 0 (parted me))) (at_next (set views 0 (parted me)) (render_view me) []) refl;
+}
+
+pub join_ends : (views : List SwapView) (me w : SwapView) (id : ℕ) → get_elem? views 0 ≡ some me → me.side ≡ api → id ≢ 0 → Ends (set (set views 0 (united me w)) id spent_view) (united me w) (united me w)
+join_ends views me w id at side apart = record {
+  first = set_else (set views 0 (united me w)) id 0 spent_view (λ (z : 0 ≡ id). apart (sym z)) ∙ set_here views 0 (united me w) (in_range views 0 me at);
+  is_api = side;
+  second = is_same refl refl;
+}
+
 -- ---- the lists of the schedule
 
-given_count : (me other : SwapView) (m : State) → Stands me other m → length m.given ≡ length me.given
+pub given_count : (me other : SwapView) (m : State) → Stands me other m → length m.given ≡ length me.given
 given_count me other m x = sym (length-map m.given (λ (f : machine.Frame). f.number)) ∙ ap length x.given ∙ length-map me.given (λ (f : Frame). f.number)
 
-returned_count : (me other : SwapView) (m : State) → Stands me other m → length m.returned ≡ length other.returned
+pub returned_count : (me other : SwapView) (m : State) → Stands me other m → length m.returned ≡ length other.returned
 returned_count me other m x = sym (length-map m.returned (λ (y : machine.Frame × machine.Outcome). y.1)) ∙ ap length x.outcomes ∙ length-map other.returned (λ (r : RenderedFrame). outcome_seen r.outcome)
 
 when_true : (b : Bool) (s : State) → b ≡ true → when b s ≡ Some s

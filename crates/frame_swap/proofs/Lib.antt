@@ -3,3 +3,4 @@ pub mod Steps
 pub mod Slots
 pub mod WholeSeat
 pub mod Events
+pub mod Parts

@@ -6,7 +6,7 @@ use Rattle.std.proofs.lemmas.List.{length-map}
 use Rattle.frame_record.specs.declared.frame.Frame.{Frame}
 use Rattle.frame_record.specs.declared.frame.RenderedFrame.{RenderedFrame}
 use Rattle.frame_record.specs.Links.{frames_of, CameBack}
-use Rattle.frame_swap.specs.Views.{Slot, Slots, Mine, first_view, claimed_one, empty_slots}
+use Rattle.frame_swap.specs.Views.{SwapView, Slot, Slots, Mine, first_view, claimed_one, empty_slots, missed, with_misses}
 
 -- one slot more at the end
 pub slots_snoc : (n p k : ℕ) → empty_slots n p k ++ ((p + k) % n, None) ∷ [] ≡ empty_slots n p (suc k)
@@ -111,3 +111,15 @@ came_back given old new r e back =
       oldest = out ∙ ap (λ (l : List Frame). r.frame ∷ l) (sym left);
       prefix = e ∙ sym (frames_more old r rest) ∙ (λ j. frames_of (sym back j) ++ sym left j);
     }
+
+-- ---- tries
+
+-- one try more that found nothing
+pub missed_again : (old now first : SwapView) → old ≡ with_misses old.misses first → now ≡ missed old → now ≡ with_misses now.misses first
+missed_again old now first e more = more ∙ ap missed e ∙ ap (λ (n : ℕ). with_misses n first) (sym (ap (λ (v : SwapView). v.misses) more))
+
+-- what a try did that found something, after some that found nothing
+pub did_then : (f : SwapView → SwapView) → ((n : ℕ) (v : SwapView) → f (with_misses n v) ≡ with_misses n (f v)) → ((v : SwapView) → (f v).misses ≡ v.misses)
+    → (old now first : SwapView) → old ≡ with_misses old.misses first → now ≡ f old → now ≡ with_misses now.misses (f first)
+did_then f past same old now first e did =
+    did ∙ ap f e ∙ past old.misses first ∙ ap (λ (n : ℕ). with_misses n (f first)) (sym (ap (λ (v : SwapView). v.misses) did ∙ same old))

@@ -13,8 +13,8 @@ use Rattle.frame_record.specs.declared.frame.Frame.{Frame}
 use Rattle.frame_record.specs.declared.frame.RenderedFrame.{RenderedFrame}
 use Rattle.frame_swap.specs.declared.content.Content.TheVariants.{Given, Back}
 use Rattle.frame_record.specs.Links.{frames_of}
-use Rattle.frame_swap.specs.Views.{Side, api, render, spent, SwapView, first_view, spent_view, Slot, Slots, Mine, claimed_one, Claims, gave, Gives, took, saw, Takes, gave_back, Returns, came, TakesBack, stopped, Stops, parted, render_view, united, Learns}
-use Rattle.frame_swap.specs.Rule.{Phase, unclaimed, idle, given_at, taken_at, returned_at, stopped_at, code, home, history, IsFree, Fits, Ring, FitsAs, Kept, IsRing, IsHeld}
+use Rattle.frame_swap.specs.Views.{Side, api, render, spent, SwapView, first_view, spent_view, Slot, Slots, Mine, claimed_one, Claims, gave, Gives, took, saw, Takes, gave_back, Returns, came, TakesBack, stopped, Stops, parted, render_view, united, Learns, missed}
+use Rattle.frame_swap.specs.Rule.{Phase, unclaimed, idle, given_at, taken_at, returned_at, stopped_at, code, home, history, IsFree, Fits, Ring, FitsAs, IsRenderAt, StopStands, SeenIfStopped, Kept, IsRing, IsHeld}
 use Rattle.frame_swap.proofs.Ring.{at_past, at_next, nil_of, ring_swap, ring_grow, ring_back, ring_stop, ring_claim, history_length, history_grows, history_returns, oldest_back, oldest_other, some_returned}
 
 -- ---- a step by the phase that it finds
@@ -85,6 +85,31 @@ refit j j' is_whole' taken taken' returned returned' i v api f = f
 refit j j' is_whole' taken taken' returned returned' i v render f = absurd (true≢false f.1)
 refit j j' is_whole' taken taken' returned returned' i v spent f = f
 
+-- ---- the stop
+
+-- a word that a step changes is not that of the stop
+pub stop_else : {n : ℕ} {b : Bool} {a g : ℕ} {phases : List Phase} → StopStands n b a g phases → (i : ℕ) (found next : Phase) → get_elem? phases i ≡ some found → found ≢ stopped_at → StopStands n b a g (set phases i next)
+stop_else {n} {b} {a} {g} {phases} s i found next at ne = record {
+  early = s.early;
+  stands = λ is same.
+      let there : get_elem? phases (g % n) ≡ some stopped_at = s.stands is same in
+      set_else phases i (g % n) next (λ (e : g % n ≡ i). ne (some-injective found stopped_at (sym at ∙ ap (λ (x : ℕ). get_elem? phases x) (sym e) ∙ there))) ∙ there;
+}
+
+-- one more was given after it
+stop_more : {n : ℕ} {b : Bool} {a g : ℕ} {phases : List Phase} → StopStands n b a g phases → (g' : ℕ) (phases' : List Phase) → g < g' → StopStands n b a g' phases'
+stop_more s g' phases' more = let few = s.early in record {
+  early = omega (arith, few, more);
+  stands = λ is same. absurd (omega (arith, few, more, same));
+}
+
+-- one view changes
+pub seen_set : (b b' : Bool) (views : List SwapView) (id : ℕ) (w : SwapView) → SeenIfStopped b views → (b ≡ true → b' ≡ true) → (1 ≤ w.stops → b' ≡ true) → SeenIfStopped b' (set views id w)
+seen_set b b' views id w old up new i v e one = ⊎_elim
+    (λ (t : (i ≡ id) × (w ≡ v)). new (subst (λ (u : SwapView). 1 ≤ u.stops) (sym t.1) one))
+    (λ (t : (i ≢ id) × (get_elem? views i ≡ some v)). up (old i v t.1 one))
+    (at_set views id i w v e)
+
 module _ {n : ℕ} {me : SwapView} {returned : List RenderedFrame} {in_hand waiting : List Frame} {coming : List RenderedFrame} {seat : ℕ} {phases : List Phase} {views : List SwapView} (k : Kept n me returned in_hand waiting coming seat phases views) where
   pub api_at : (id : ℕ) (v : SwapView) → get_elem? views id ≡ some v → v.side ≡ api → (id ≡ 0) × (v ≡ me)
   api_at id v at is =
@@ -118,6 +143,12 @@ module _ {n : ℕ} {me : SwapView} {returned : List RenderedFrame} {in_hand wait
   pub api_here : (w : SwapView) → get_elem? (set views 0 w) 0 ≡ some w
   api_here w = set_here views 0 w (in_range views 0 me k.at_api)
 
+  pub api_beside : (w : SwapView) → me.is_whole ≡ false → IsRenderAt seat (set views 0 w)
+  api_beside w apart = let t = k.beside apart in (t.0, set_else views 0 seat w (not_zero seat t.0 t.1 t.2) ∙ t.1, t.2)
+
+  pub api_seen : (w : SwapView) → w.stops ≡ me.stops → SeenIfStopped me.is_stopped (set views 0 w)
+  api_seen w same = seen_set me.is_stopped me.is_stopped views 0 w k.seen (λ h. h) (λ one. k.seen 0 me k.at_api (subst (λ (x : ℕ). 1 ≤ x) same one))
+
   -- the API end's view changes, which has the whole
   pub whole_each : (w : SwapView) (taken' : List Frame) (returned' : List RenderedFrame) → w.side ≡ api → me.is_whole ≡ true → Each seat me.is_whole taken' returned' (set views 0 w)
   whole_each w taken' returned' is whole = each_set seat me.is_whole taken' returned' views 0 w
@@ -134,6 +165,9 @@ module _ {n : ℕ} {me : SwapView} {returned : List RenderedFrame} {in_hand wait
 
   render_else : (id : ℕ) (v w : SwapView) → get_elem? views id ≡ some v → v.side ≡ render → get_elem? (set views id w) 0 ≡ some me
   render_else id v w at is = set_else views id 0 w (λ (z : 0 ≡ id). not_zero id v at is (sym z)) ∙ k.at_api
+
+  render_beside : (id : ℕ) (v w : SwapView) → get_elem? views id ≡ some v → v.side ≡ render → w.side ≡ v.side → IsRenderAt seat (set views id w)
+  render_beside id v w at is same = (w, subst (λ (x : ℕ). get_elem? (set views id w) x ≡ some w) (render_at id v at is).0 (set_here views id w (in_range views id v at)), same ∙ is)
 
 -- the API end's own view stands in the rule
 pub api_kept : {n : ℕ} {phases : List Phase} {views : List SwapView} (r : IsRing n phases views) (id : ℕ) (v : SwapView) → get_elem? views id ≡ some v → v.side ≡ api → (id ≡ 0) × Kept n v r.returned r.in_hand r.waiting r.coming r.seat phases views
@@ -191,6 +225,9 @@ gives_keep n slots id me i f others is all room place full = allows_from n slots
           one_hand = k.one_hand;
           early = λ (h : me.0.claimed < n). absurd (omega arith);
           ring = subst (λ (x : ℕ × List Phase). Ring n (length me.0.back) me.0.claimed me.0.is_stopped x.1 (set phases x.0 (given_at f))) (λ j. (index j, sym (history_grows r.returned r.in_hand r.waiting f) j)) (ring_grow (given_at f) k.ring lo hi);
+          beside = api_beside k w;
+          stop = stop_more k.stop (length (me.0.given ++ f ∷ [])) (set phases i (given_at f)) (let l = length-append me.0.given (f ∷ []) in omega (arith, l));
+          seen = api_seen k w refl;
         } in
         record {
           found = there.0;
@@ -211,23 +248,23 @@ abbrev Tries : ℕ → ℕ → List Phase → List SwapView → ℕ → Mine →
 Tries n slots phases views id me i = Done n phases views id me i (λ x. either (eqb x 1) 2 x) (Takes (step slots i 1 2 none) me)
 
 module _ {n : ℕ} {phases : List Phase} {views : List SwapView} (slots id : ℕ) (me : Mine) (i : ℕ) (is : me.0.side ≡ render) (at : get_elem? views id ≡ some me.0) where
-  finds_none : (r : IsRing n phases views) (q : Phase) → get_elem? phases i ≡ some q → either (eqb (code q) 1) 2 (code q) ≡ code q → code q ≢ 1 → code q ≢ 4 → Tries n slots phases views id me i
-  finds_none r q there same one four = stays r id me i (λ x. either (eqb x 1) 2 x) (Takes (step slots i 1 2 none) me) q at there same ((λ h. absurd (one h)), (λ h. absurd (four h)), (λ _ _. refl))
-
-  finds_stop : (r : IsRing n phases views) → get_elem? phases i ≡ some stopped_at → Tries n slots phases views id me i
-  finds_stop r there =
+  -- the words stay, and the frames that the render end knows
+  notes : (r : IsRing n phases views) (q : Phase) → get_elem? phases i ≡ some q → either (eqb (code q) 1) 2 (code q) ≡ code q
+      → (w : SwapView) → w.side ≡ me.0.side → w.taken ≡ me.0.taken → w.returned ≡ me.0.returned → (1 ≤ w.stops → r.me.is_stopped ≡ true)
+      → Takes (step slots i 1 2 none) me (code q) (w, me.1) → Tries n slots phases views id me i
+  notes r q there same w side taken returned seen told =
       let k = r.kept in
       let fits = render_at k id me.0 at is in
-      let w : SwapView = saw me.0 in
+      let stays : phases ≡ set phases i q = sym (set_again phases i q there) in
       record {
-        found = stopped_at;
-        next = stopped_at;
+        found = q;
+        next = q;
         at = there;
-        turns = refl;
+        turns = same;
         view = w;
         act = keeps;
         valid = tt;
-        homes = ap (map home) (sym (set_again phases i stopped_at there));
+        homes = ap (map home) stays;
         ring = record {
           me = r.me;
           returned = r.returned;
@@ -238,26 +275,35 @@ module _ {n : ℕ} {phases : List Phase} {views : List SwapView} (slots id : ℕ
           kept = record {
             at_api = render_else k id me.0 w at is;
             is_api = k.is_api;
-            each = render_each k id me.0 w (frames_of r.returned ++ r.in_hand) r.returned at is refl fits.2 fits.3;
+            each = render_each k id me.0 w (frames_of r.returned ++ r.in_hand) r.returned at is side (taken ∙ fits.2) (returned ∙ fits.3);
             alone = k.alone;
             back_is = k.back_is;
             given_is = k.given_is;
             one_hand = k.one_hand;
             early = k.early;
-            ring = subst (λ (ps : List Phase). Ring n (length r.me.back) r.me.claimed r.me.is_stopped (history r.returned r.in_hand r.waiting) ps) (sym (set_again phases i stopped_at there)) k.ring;
+            ring = subst (λ (ps : List Phase). Ring n (length r.me.back) r.me.claimed r.me.is_stopped (history r.returned r.in_hand r.waiting) ps) stays k.ring;
+            beside = λ _. render_beside k id me.0 w at is side;
+            stop = subst (λ (ps : List Phase). StopStands n r.me.is_stopped r.me.stopped_after (length r.me.given) ps) stays k.stop;
+            seen = seen_set r.me.is_stopped r.me.is_stopped views id w k.seen (λ h. h) seen;
           };
         };
-        told = ((λ h. absurd (omega arith)), (λ _. refl), (λ _ h. absurd (h refl)));
+        told = told;
       }
 
+  finds_none : (r : IsRing n phases views) (q : Phase) → get_elem? phases i ≡ some q → either (eqb (code q) 1) 2 (code q) ≡ code q → code q ≢ 1 → code q ≢ 4 → Tries n slots phases views id me i
+  finds_none r q there same one four = notes r q there same (missed me.0) refl refl refl (λ h. r.kept.seen id me.0 at h) ((λ h. absurd (one h)), (λ h. absurd (four h)), (λ _ _. refl))
+
+  finds_stop : (r : IsRing n phases views) → r.me.is_stopped ≡ true → get_elem? phases i ≡ some stopped_at → Tries n slots phases views id me i
+  finds_stop r stop there = notes r stopped_at there refl (saw me.0) refl refl refl (λ _. stop) ((λ h. absurd (omega arith)), (λ _. refl), (λ _ h. absurd (h refl)))
+
   -- at a word where no frame is out
-  finds_free : (r : IsRing n phases views) (c : ℕ) (s : Bool) (q : Phase) → get_elem? phases i ≡ some q → IsFree c s i q → Tries n slots phases views id me i
-  finds_free r c s unclaimed there f = finds_none r unclaimed there refl (λ h. omega arith) (λ h. omega arith)
-  finds_free r c s idle there f = finds_none r idle there refl (λ h. omega arith) (λ h. omega arith)
-  finds_free r c s (given_at g) there f = absurd f
-  finds_free r c s (taken_at g) there f = absurd f
-  finds_free r c s (returned_at x) there f = absurd f
-  finds_free r c s stopped_at there f = finds_stop r there
+  finds_free : (r : IsRing n phases views) (c : ℕ) (s : Bool) (q : Phase) → (s ≡ true → r.me.is_stopped ≡ true) → get_elem? phases i ≡ some q → IsFree c s i q → Tries n slots phases views id me i
+  finds_free r c s unclaimed up there f = finds_none r unclaimed there refl (λ h. omega arith) (λ h. omega arith)
+  finds_free r c s idle up there f = finds_none r idle there refl (λ h. omega arith) (λ h. omega arith)
+  finds_free r c s (given_at g) up there f = absurd f
+  finds_free r c s (taken_at g) up there f = absurd f
+  finds_free r c s (returned_at x) up there f = absurd f
+  finds_free r c s stopped_at up there f = finds_stop r (up f.1) there
 
   -- with nothing in hand
   takes_at : (v : SwapView) (returned : List RenderedFrame) (waiting : List Frame) (coming : List RenderedFrame) (seat : ℕ) → Kept n v returned [] waiting coming seat phases views → i ≡ length returned % n → Tries n slots phases views id me i
@@ -300,6 +346,9 @@ module _ {n : ℕ} {phases : List Phase} {views : List SwapView} (slots id : ℕ
             one_hand = omega arith;
             early = k.early;
             ring = subst (λ (x : ℕ). Ring n (length v.back) v.claimed v.is_stopped (xs ++ taken_at f ∷ map given_at ws) (set phases x (taken_at f))) index (ring_swap xs (given_at f) (taken_at f) (map given_at ws) k.ring lo);
+            beside = λ _. render_beside k id me.0 w at is refl;
+            stop = stop_else k.stop i (given_at f) (taken_at f) there (λ (h : given_at f ≡ stopped_at). cc h);
+            seen = seen_set v.is_stopped v.is_stopped views id w k.seen (λ h. h) (λ one. k.seen id me.0 at one);
           };
         };
         told = ((λ _. (f, refl)), (λ h. absurd (omega arith)), (λ h _. absurd (h refl)));
@@ -309,16 +358,16 @@ module _ {n : ℕ} {phases : List Phase} {views : List SwapView} (slots id : ℕ
       let few = k.ring.few in
       let some_word = k.ring.some_word in
       let r : IsRing n phases views = record { me = v; returned = returned; in_hand = []; waiting = []; coming = coming; seat = seat; kept = k } in
-      by_room r c few some_word (dec_le (length v.back + n) (length returned))
+      by_room r (λ h. h) c few some_word (dec_le (length v.back + n) (length returned))
     where
-      by_room : IsRing n phases views → (length v.given ≡ length (history returned [] [])) × (length returned ≡ length v.back + length coming) × (length (history returned [] []) ≡ length returned + (length {A = Frame} [] + length {A = Frame} [])) → length (history returned [] []) ≤ length v.back + n → 0 < n
+      by_room : (r : IsRing n phases views) → (v.is_stopped ≡ true → r.me.is_stopped ≡ true) → (length v.given ≡ length (history returned [] [])) × (length returned ≡ length v.back + length coming) × (length (history returned [] []) ≡ length returned + (length {A = Frame} [] + length {A = Frame} [])) → length (history returned [] []) ≤ length v.back + n → 0 < n
           → Dec (length v.back + n ≤ length returned) → Tries n slots phases views id me i
-      by_room r c few some_word (no room) =
+      by_room r up c few some_word (no room) =
           let hi : length returned < length v.back + n = lt_of_not-le room in
           let here = k.ring.fits (length returned) (omega arith) hi in
           let free = subst (λ (o : maybe.Option Phase). Fits v.claimed v.is_stopped (length returned % n) o here.0) (at_past (history returned [] []) (length returned) (omega arith)) here.2 in
-          finds_free r v.claimed v.is_stopped here.0 (ap (λ (x : ℕ). get_elem? phases x) place ∙ here.1) (subst (λ (x : ℕ). IsFree v.claimed v.is_stopped x here.0) (sym place) free)
-      by_room r c few some_word (yes full) =
+          finds_free r v.claimed v.is_stopped here.0 up (ap (λ (x : ℕ). get_elem? phases x) place ∙ here.1) (subst (λ (x : ℕ). IsFree v.claimed v.is_stopped x here.0) (sym place) free)
+      by_room r up c few some_word (yes full) =
           let all : length returned ≡ length v.back + n = omega arith in
           let index : length v.back % n ≡ i = sym (add-mod_right (length v.back) n) ∙ ap (λ (x : ℕ). x % n) (sym all) ∙ sym place in
           let here = k.ring.fits (length v.back) (omega arith) (omega arith) in
@@ -367,6 +416,8 @@ returns_keep n slots id me i b others is last place full = allows_from n slots i
         let w : SwapView = gave_back b me.0 in
         let now = returned ++ b ∷ [] in
         let taken_is : frames_of returned ++ b.frame ∷ [] ≡ frames_of now ++ [] = sym (frames_snoc returned b []) in
+        let is_taken : taken_at b.frame ≡ here.0 = subst (λ (o : maybe.Option Phase). Fits v.claimed v.is_stopped (length xs % n) o here.0) (at_next xs (taken_at b.frame) (map given_at waiting)) here.2 in
+        let there : get_elem? phases i ≡ some (taken_at b.frame) = ap (λ (x : ℕ). get_elem? phases x) (sym index) ∙ here.1 ∙ ap some (sym is_taken) in
         record {
           found = here.0;
           next = returned_at b;
@@ -393,6 +444,9 @@ returns_keep n slots id me i b others is last place full = allows_from n slots i
               one_hand = omega arith;
               early = k.early;
               ring = subst (λ (x : ℕ × List Phase). Ring n (length v.back) v.claimed v.is_stopped x.1 (set phases x.0 (returned_at b))) (λ j. (index j, sym (history_returns returned b waiting) j)) (ring_swap xs (taken_at b.frame) (returned_at b) (map given_at waiting) k.ring lo);
+              beside = λ _. render_beside k id me.0 w at is refl;
+              stop = stop_else k.stop i (taken_at b.frame) (returned_at b) there (λ (h : taken_at b.frame ≡ stopped_at). cc h);
+              seen = seen_set v.is_stopped v.is_stopped views id w k.seen (λ h. h) (λ one. k.seen id me.0 at one);
             };
           };
           told = λ r' k' e. let same : b ≡ r' = rendered_same i b r' others k' (sym full ∙ e) in λ j. (gave_back (same j) me.0, rest (e j));
@@ -436,7 +490,35 @@ comes_keep n slots id me i is all place = allows_from n slots id me i (λ x. eit
         let oldest : get_elem? (history returned in_hand waiting) (length me.0.back) ≡ get_elem? (map taken_at in_hand ++ map given_at waiting) 0 =
         subst (λ (l : List RenderedFrame). get_elem? (map returned_at l ++ (map taken_at in_hand ++ map given_at waiting)) (length me.0.back) ≡ get_elem? (map taken_at in_hand ++ map given_at waiting) 0) (sym back_is) (oldest_other me.0.back (map taken_at in_hand ++ map given_at waiting)) in
         let other = not_back me.0.claimed me.0.is_stopped (length me.0.back % n) in_hand waiting here.0 (subst (λ (o : maybe.Option Phase). Fits me.0.claimed me.0.is_stopped (length me.0.back % n) o here.0) oldest here.2) in
-        stays r id me i (λ x. either (eqb x 3) 0 x) (TakesBack (step slots i 3 0 none) me) here.0 at (ap (λ (x : ℕ). get_elem? phases x) place ∙ here.1) other.0 ((λ h. absurd (other.1 h)), (λ _. refl))
+        let there : get_elem? phases i ≡ some here.0 = ap (λ (x : ℕ). get_elem? phases x) place ∙ here.1 in
+        let same : phases ≡ set phases i here.0 = sym (set_again phases i here.0 there) in
+        let w : SwapView = missed me.0 in
+        let fits : Kept n w returned in_hand waiting [] seat phases (set views 0 w) = record {
+          at_api = api_here k w;
+          is_api = k.is_api;
+          each = api_each k w is;
+          alone = k.alone;
+          back_is = k.back_is;
+          given_is = k.given_is;
+          one_hand = k.one_hand;
+          early = k.early;
+          ring = k.ring;
+          beside = api_beside k w;
+          stop = k.stop;
+          seen = api_seen k w refl;
+        } in
+        record {
+          found = here.0;
+          next = here.0;
+          at = there;
+          turns = other.0;
+          view = w;
+          act = keeps;
+          valid = tt;
+          homes = ap (map home) same;
+          ring = record { me = w; returned = returned; in_hand = in_hand; waiting = waiting; coming = []; seat = seat; kept = subst (λ (x : ℕ × List Phase). Kept n w returned in_hand waiting [] seat x.1 (set views x.0 w)) (λ j. (sym first j, same j)) fits };
+          told = ((λ h. absurd (other.1 h)), (λ _. refl));
+        }
     by_coming phases views r at first returned in_hand waiting (b ∷ bs) seat back_is k =
         let some_word = k.ring.some_word in
         let here = k.ring.fits (length me.0.back) (omega arith) (omega arith) in
@@ -457,6 +539,9 @@ comes_keep n slots id me i is all place = allows_from n slots id me i (λ x. eit
           one_hand = k.one_hand;
           early = k.early;
           ring = subst (λ (x : ℕ × ℕ). Ring n x.0 me.0.claimed me.0.is_stopped (history returned in_hand waiting) (set phases x.1 idle)) (λ j. (one_more j, sym place j)) (ring_back k.ring all);
+          beside = api_beside k w;
+          stop = stop_else k.stop i (returned_at b) idle there (λ (h : returned_at b ≡ stopped_at). cc h);
+          seen = api_seen k w refl;
         } in
         let given_is : me.0.given ≡ frames_of (me.0.back ++ b ∷ bs) ++ (in_hand ++ waiting) = k.given_is ∙ ap (λ (l : List RenderedFrame). frames_of l ++ (in_hand ++ waiting)) back_is in
         record {
@@ -505,6 +590,7 @@ stops_keep n slots id me i is all none_out place = allows_from n slots id me i (
         let free = subst (λ (o : maybe.Option Phase). Fits me.0.claimed me.0.is_stopped (length past % n) o there.0) (at_past past (length past) (omega arith)) there.2 in
         let out = out_home me.0.claimed me.0.is_stopped (length past % n) there.0 (subst (λ (x : ℕ). length past % n < x) (sym all) (mod-lt (length past) some_word)) free in
         let at_i : get_elem? phases i ≡ some there.0 = ap (λ (x : ℕ). get_elem? phases x) (sym index) ∙ there.1 in
+        let within : i < length phases = subst (λ (x : ℕ). x < length phases) (sym place) (subst (λ (m : ℕ). length me.0.given % n < m) (sym k.ring.long) (mod-lt (length me.0.given) some_word)) in
         let w : SwapView = stopped me.0 in
         let fits : Kept n w r.returned r.in_hand r.waiting r.coming r.seat (set phases i stopped_at) (set views 0 w) = record {
           at_api = api_here k w;
@@ -516,6 +602,9 @@ stops_keep n slots id me i is all none_out place = allows_from n slots id me i (
           one_hand = k.one_hand;
           early = k.early;
           ring = subst (λ (x : ℕ). Ring n (length me.0.back) me.0.claimed true past (set phases x stopped_at)) index (ring_stop k.ring all lo hi);
+          beside = api_beside k w;
+          stop = record { early = omega arith; stands = λ _ _. subst (λ (x : ℕ). get_elem? (set phases i stopped_at) x ≡ some stopped_at) place (set_here phases i stopped_at within) };
+          seen = seen_set me.0.is_stopped true views 0 w k.seen (λ _. refl) (λ _. refl);
         } in
         record {
           found = there.0;
@@ -568,6 +657,9 @@ claims_keep n slots id me i early lt = allows_from n slots id me i (λ _. 0) (λ
           one_hand = k.one_hand;
           early = λ _. refl;
           ring = ring_claim k.ring lt;
+          beside = λ h. absurd (true≢false h);
+          stop = record { early = omega arith; stands = λ h _. absurd (true≢false (sym h)) };
+          seen = api_seen k w refl;
         } in
         record {
           found = unclaimed;
@@ -617,6 +709,9 @@ opens n some_word = record {
         claimed_most = omega arith;
         fits = λ p _ _. (unclaimed, all_unclaimed n (p % n) (mod-lt p some_word), omega arith);
       };
+      beside = λ h. absurd (true≢false h);
+      stop = record { early = omega arith; stands = λ h _. absurd (true≢false (sym h)) };
+      seen = none_seen;
     };
   };
 }
@@ -637,6 +732,10 @@ opens n some_word = record {
     one_view : (i : ℕ) (v : SwapView) → get_elem? (first_view ∷ []) i ≡ some v → FitsAs 1 true [] [] i v v.side
     one_view zero v e = subst (λ (u : SwapView). FitsAs 1 true [] [] 0 u u.side) (some-injective first_view v e) refl
     one_view (suc i) v e = absurd (some-ne-none v (sym e))
+
+    none_seen : SeenIfStopped false (first_view ∷ [])
+    none_seen zero v e one = let none : 0 ≡ v.stops = ap (λ (u : SwapView). u.stops) (some-injective first_view v e) in absurd (omega (arith, none, one))
+    none_seen (suc i) v e one = absurd (some-ne-none v (sym e))
 
 -- ---- the render end is made, and joined
 
@@ -675,6 +774,12 @@ parts_keep n id v is whole s h at =
       one_hand = k.one_hand;
       early = k.early;
       ring = k.ring;
+      beside = λ _. (u, at_next (set s.views 0 w) u [], refl);
+      stop = k.stop;
+      seen = λ i x e one. ⊎_elim
+          (λ (t : get_elem? (set s.views 0 w) i ≡ some x). api_seen k w refl i x t one)
+          (λ (t : (i ≡ j) × (u ≡ x)). k.seen 0 v k.at_api (subst (λ (y : SwapView). 1 ≤ y.stops) (sym t.1) one))
+          (at_end (set s.views 0 w) u x i e);
     } in
     record {
       phases = h.phases;
@@ -704,6 +809,9 @@ joins_keep n id v other w is was s h at apart there =
       one_hand = k.one_hand;
       early = k.early;
       ring = k.ring;
+      beside = λ e. absurd (true≢false e);
+      stop = k.stop;
+      seen = seen_set v.is_stopped v.is_stopped (set s.views 0 both) other spent_view (seen_set v.is_stopped v.is_stopped s.views 0 both k.seen (λ h. h) (λ one. k.seen other w at' one)) (λ h. h) (λ one. absurd (omega (arith, one)));
     } in
     record {
       phases = h.phases;
@@ -744,7 +852,7 @@ learns_keep n slots id me is none_out whole = allows_from n slots id me 0 (λ x.
         let some_word = k.ring.some_word in
         let first = there_at phases 0 (subst (λ (x : ℕ). 0 < x) (sym k.ring.long) some_word) in
         let t = all_known me.0 r.returned r.in_hand r.waiting r.coming n r.seat phases views none_out whole k in
-        stays r id me 0 (λ x. x) (Learns (step slots 0 0 0 none) me) first.0 at first.1 refl (refl, t.0, t.1, t.2)
+        stays r id me 0 (λ x. x) (Learns (step slots 0 0 0 none) me) first.0 at first.1 refl (refl, t.0, t.1, t.2, λ one. k.seen 0 me.0 k.at_api one)
       where
         there_at : (l : List Phase) (i : ℕ) → i < length l → (q : Phase) × (get_elem? l i ≡ some q)
         there_at [] i h = absurd (omega arith)

@@ -1,5 +1,5 @@
 -- The steps of one seat that has the whole keep the rule.
-use Rattle.std.proofs.Common.{◌≡◌, ℕ, suc, ◌+◌, ◌%◌, ◌<◌, ◌≤◌, true, List, [], ◌∷◌, ◌++◌, map, length, set, sym, refl, ap, ◌∙◌, subst, arith, Some, length-append}
+use Rattle.std.proofs.Common.{◌≡◌, ℕ, suc, ◌+◌, ◌%◌, ◌<◌, ◌≤◌, true, true≢false, List, [], ◌∷◌, ◌++◌, map, length, set, sym, refl, ap, ◌∙◌, subst, arith, Some, length-append}
 use Rattle.std.proofs.lemmas.List.{append-nil, append_assoc, length-map, map-set, append_cancel_left, drop-append-le}
 use lib.ListN.{drop, get_elem?, drop_of_length-le}
 use mathlib.Core.Option.{none, some}
@@ -11,9 +11,9 @@ use Rattle.frame_record.specs.declared.frame.RenderedFrame.{RenderedFrame}
 use Rattle.frame_swap.specs.declared.content.Content.TheVariants.{Given, Back}
 use Rattle.frame_record.specs.Links.{frames_of}
 use Rattle.frame_swap.specs.Views.{api, SwapView, Slots, Mine, gave, took, TakesHere, gave_back, Returns, came, ComesHere, later_of}
-use Rattle.frame_swap.specs.Rule.{Phase, idle, given_at, taken_at, returned_at, home, history, Fits, Ring, Kept, IsRing, IsHeld}
+use Rattle.frame_swap.specs.Rule.{Phase, idle, given_at, taken_at, returned_at, stopped_at, home, history, Fits, Ring, Kept, IsRing, IsHeld}
 use Rattle.frame_swap.proofs.Ring.{at_next, ring_swap, ring_back, history_returns, oldest_back}
-use Rattle.frame_swap.proofs.Steps.{Done, allows_from, counts, api_kept, api_here, api_each, whole_each, rendered_same, frames_snoc, oldest_frame}
+use Rattle.frame_swap.proofs.Steps.{Done, allows_from, counts, stop_else, api_kept, api_here, api_each, api_beside, api_seen, whole_each, rendered_same, frames_snoc, oldest_frame}
 
 -- a frame is taken
 pub takes_here : (n slots id : ℕ) (me : Mine) (i : ℕ) (f : Frame) → me.0.side ≡ api → me.0.is_whole ≡ true → me.0.given ≡ me.0.taken ++ f ∷ [] → me.0.taken ≡ frames_of me.0.returned → i ≡ length me.0.returned % n
@@ -46,6 +46,9 @@ takes_here n slots id me i f is whole last none_held place = allows_from n slots
           one_hand = omega arith;
           early = k.early;
           ring = subst (λ (x : ℕ). Ring n (length me.0.back) me.0.claimed me.0.is_stopped (xs ++ taken_at f ∷ []) (set phases x (taken_at f))) index (ring_swap xs (given_at f) (taken_at f) [] k.ring lo);
+          beside = λ h. absurd (true≢false (sym whole ∙ h));
+          stop = stop_else k.stop i (given_at f) (taken_at f) there (λ (h : given_at f ≡ stopped_at). cc h);
+          seen = api_seen k w refl;
         } in
         record {
           found = given_at f;
@@ -88,6 +91,8 @@ returns_here n slots id me i b others is whole last place full = allows_from n s
         let here = k.ring.fits (length xs) lo hi in
         let w : SwapView = gave_back b me.0 in
         let now = returned ++ b ∷ [] in
+        let is_taken : taken_at b.frame ≡ here.0 = subst (λ (o : maybe.Option Phase). Fits me.0.claimed me.0.is_stopped (length xs % n) o here.0) (at_next xs (taken_at b.frame) (map given_at waiting)) here.2 in
+        let there : get_elem? phases i ≡ some (taken_at b.frame) = ap (λ (x : ℕ). get_elem? phases x) (sym index) ∙ here.1 ∙ ap some (sym is_taken) in
         let alone = k.alone whole in
         let fits : Kept n w now [] waiting (coming ++ b ∷ []) seat (set phases i (returned_at b)) (set views 0 w) = record {
           at_api = api_here k w;
@@ -99,6 +104,9 @@ returns_here n slots id me i b others is whole last place full = allows_from n s
           one_hand = omega arith;
           early = k.early;
           ring = subst (λ (x : ℕ × List Phase). Ring n (length me.0.back) me.0.claimed me.0.is_stopped x.1 (set phases x.0 (returned_at b))) (λ j. (index j, sym (history_returns returned b waiting) j)) (ring_swap xs (taken_at b.frame) (returned_at b) (map given_at waiting) k.ring lo);
+          beside = λ h. absurd (true≢false (sym whole ∙ h));
+          stop = stop_else k.stop i (taken_at b.frame) (returned_at b) there (λ (h : taken_at b.frame ≡ stopped_at). cc h);
+          seen = api_seen k w refl;
         } in
         record {
           found = here.0;
@@ -153,6 +161,9 @@ comes_here n slots id me i is whole all some_out place = allows_from n slots id 
           one_hand = k.one_hand;
           early = k.early;
           ring = subst (λ (x : ℕ × ℕ). Ring n x.0 me.0.claimed me.0.is_stopped (history returned in_hand waiting) (set phases x.1 idle)) (λ j. (one_more j, sym place j)) (ring_back k.ring all);
+          beside = api_beside k w;
+          stop = stop_else k.stop i (returned_at b) idle there (λ (h : returned_at b ≡ stopped_at). cc h);
+          seen = api_seen k w refl;
         } in
         let given_is : me.0.given ≡ frames_of (me.0.back ++ b ∷ bs) ++ (in_hand ++ waiting) = k.given_is ∙ ap (λ (l : List RenderedFrame). frames_of l ++ (in_hand ++ waiting)) back_is in
         let returned_is : me.0.returned ≡ me.0.back ++ b ∷ bs = (k.alone whole).1 ∙ back_is in

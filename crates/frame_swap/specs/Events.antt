@@ -1,17 +1,18 @@
 -- Which event of the schedule each kind of step is.
-use Rattle.std.specs.Prelude.{◌≡◌, ◌≢◌, ℕ, true, false, List, [], ◌∷◌, ◌++◌, map, length, take, slice_set, Some}
+use Rattle.std.specs.Prelude.{◌≡◌, ◌≢◌, ℕ, true, false, List, [], ◌∷◌, ◌++◌, map, length, take, slice_set, slice_index, ◌≤◌, ◌<◌, ◌⊎◌, Some}
 use Rattle.std.specs.List.{list_all}
 use mathlib.Core.Option.{some}
 use lib.ListN.{get_elem?}
-use Rattle.atomic_table.specs.Table.{State as TableState, Step, Act, stepped, carried_after}
+use Rattle.atomic_table.specs.Table.{State as TableState, Step, Act, Allows, Splits, Joins, stepped, carried_after}
 use Rattle.schedule_model.specs.Machine as machine
-use Rattle.schedule_model.specs.Machine.{State, Event, Thing, give, take_frame, return_frame, take_back, step, has_no_work, is_usable, opening}
+use Rattle.schedule_model.specs.Machine.{State, Event, Thing, give, take_frame, return_frame, take_back, step, out, has_no_work, is_usable, opening}
+use Rattle.schedule_model.specs.Held.{IsPrefix}
 use Rattle.frame_record.specs.declared.frame.Frame.{Frame}
 use Rattle.frame_record.specs.declared.frame.Outcome.{Outcome}
 use Rattle.frame_record.specs.declared.frame.Outcome.TheVariants as outcomes
 use Rattle.frame_record.specs.declared.frame.RenderedFrame.{RenderedFrame}
 use Rattle.frame_swap.specs.declared.content.Content.TheVariants.{Given, Back}
-use Rattle.frame_swap.specs.Views.{Side, api, render, SwapView, Slot, Slots, Mine}
+use Rattle.frame_swap.specs.Views.{api, render, SwapView, Slot, Slots, Mine}
 use Rattle.frame_swap.specs.Rule.{IsHeld}
 use Rattle.frame_swap.specs.contracts.view.LawTableRuleOptionContentViewU8.TheImpl.{ghosts as table_rule}
 use Rattle.frame_swap.specs.contracts.view.ClaimPlayOptionContentView.TheImpl.{ghosts as claim_kind}
@@ -20,6 +21,11 @@ use Rattle.frame_swap.specs.contracts.view.TakePlayOptionContentView.TheImpl.{gh
 use Rattle.frame_swap.specs.contracts.view.ReturnPlayOptionContentView.TheImpl.{ghosts as return_kind}
 use Rattle.frame_swap.specs.contracts.view.TakeBackPlayOptionContentView.TheImpl.{ghosts as back_kind}
 use Rattle.frame_swap.specs.contracts.view.StopPlayOptionContentView.TheImpl.{ghosts as stop_kind}
+use Rattle.frame_swap.specs.contracts.view.LearnPlayOptionContentView.TheImpl.{ghosts as learn_kind}
+use Rattle.frame_swap.specs.contracts.view.TakeHerePlayOptionContentView.TheImpl.{ghosts as take_here_kind}
+use Rattle.frame_swap.specs.contracts.view.BackHerePlayOptionContentView.TheImpl.{ghosts as back_here_kind}
+use Rattle.frame_swap.specs.contracts.view.PartSplitView.TheImpl.{ghosts as part_kind}
+use Rattle.frame_swap.specs.contracts.view.PartJoinView.TheImpl.{ghosts as unite_kind}
 
 -- ---- what a table stands for
 
@@ -72,6 +78,18 @@ pub record Plays (then : Step Slot → Mine → ℕ → Mine → Type 0) (id : �
   pub after : t ≡ stepped s at.word written id hand w act
   pub told : then at (v, hand) r (w, carried_after hand act)
 
+-- the seat id, whose view is v, is cut in two, and the second is the seat behind all others
+pub record Cuts (left right : SwapView → SwapView) (id : ℕ) (v : SwapView) (s t : Table) : Type 0 where
+  pub was : get_elem? s.views id ≡ some v
+  pub after : t ≡ record { words = s.words; homes = s.homes; views = slice_set s.views id (left v) ++ right v ∷ [] }
+
+-- the seat id, whose view is v, takes in the seat other, whose view is w
+pub record TakesIn (both : SwapView → SwapView → SwapView) (spent : SwapView) (id : ℕ) (v : SwapView) (other : ℕ) (w : SwapView) (s t : Table) : Type 0 where
+  pub was : get_elem? s.views id ≡ some v
+  pub apart : ¬ (other ≡ id)
+  pub there : get_elem? s.views other ≡ some w
+  pub after : t ≡ record { words = s.words; homes = s.homes; views = slice_set (slice_set s.views id (both v w)) other spent }
+
 -- ---- each kind of step, between two tables of which the rule holds
 
 module _ (latency : ℕ) (s t : Table) (m : State) where
@@ -86,15 +104,34 @@ module _ (latency : ℕ) (s t : Table) (m : State) where
   TakeIs = (id : ℕ) (v : SwapView) (hand : Slots) (at : Step Slot) (r : ℕ) → v.side ≡ render → Plays take_kind.then id v hand at r s t
       → (r ≡ 1 → IsEvent latency t m take_frame) × (r ≢ 1 → StandsFor t m)
 
-  -- the render end gives a frame back: Return, with the frame's outcome
+  -- the render end, or the API end where it has the whole, gives a frame back: Return, with the frame's outcome
   abbrev pub ReturnIs : Type 0
-  ReturnIs = (id : ℕ) (v : SwapView) (at : Step Slot) (r : ℕ) (b : RenderedFrame) (others : Slots) → v.side ≡ render
+  ReturnIs = (id : ℕ) (v : SwapView) (at : Step Slot) (r : ℕ) (b : RenderedFrame) (others : Slots) → (v.side ≡ render) ⊎ ((v.side ≡ api) × (v.is_whole ≡ true))
       → Plays return_kind.then id v ((at.word, Some (Back b)) ∷ others) at r s t → IsEvent latency t m (return_frame (outcome_seen b.outcome))
 
   -- the API end takes a frame back where it found one: Back; else no event
   abbrev pub BackIs : Type 0
   BackIs = (id : ℕ) (v : SwapView) (hand : Slots) (at : Step Slot) (r : ℕ) → v.side ≡ api → Plays back_kind.then id v hand at r s t
       → (r ≡ 3 → IsEvent latency t m take_back) × (r ≢ 3 → StandsFor t m)
+
+  -- the API end, which has the whole, takes the frame that was given last: Take
+  abbrev pub TakeHereIs : Type 0
+  TakeHereIs = (id : ℕ) (v : SwapView) (hand : Slots) (at : Step Slot) (r : ℕ) (f : Frame) → v.side ≡ api → v.is_whole ≡ true → v.given ≡ v.taken ++ f ∷ []
+      → Plays take_here_kind.then id v hand at r s t → IsEvent latency t m take_frame
+
+  -- the API end, which has the whole, takes a frame back: Back
+  abbrev pub BackHereIs : Type 0
+  BackHereIs = (id : ℕ) (v : SwapView) (hand : Slots) (at : Step Slot) (r : ℕ) → v.side ≡ api → Plays back_here_kind.then id v hand at r s t → IsEvent latency t m take_back
+
+  -- that the render end is made and joined is no event, nor is what follows the join
+  abbrev pub SplitIs : Type 0
+  SplitIs = (id : ℕ) (v : SwapView) → v.side ≡ api → v.is_whole ≡ true → Cuts part_kind.left part_kind.right id v s t → StandsFor t m
+
+  abbrev pub JoinIs : Type 0
+  JoinIs = (id other : ℕ) (v w : SwapView) → v.side ≡ api → w.side ≡ render → TakesIn unite_kind.both unite_kind.spent id v other w s t → StandsFor t m
+
+  abbrev pub LearnIs : Type 0
+  LearnIs = (id : ℕ) (v : SwapView) (hand : Slots) (at : Step Slot) (r : ℕ) → v.side ≡ api → Plays learn_kind.then id v hand at r s t → StandsFor t m
 
   -- claims and stops are no events
   abbrev pub ClaimIs : Type 0
@@ -110,3 +147,42 @@ OfSteps L = (latency : ℕ) (s t : Table) (m : State) → IsHeld latency s → I
 -- a new table stands for the opening state
 abbrev pub NewIsOpening : Type 0
 NewIsOpening = (latency first : ℕ) (s : Table) → s.views ≡ table_rule.first latency ∷ [] → StandsFor s (opening first)
+
+-- each table of which the rule holds stands for some state
+abbrev pub EachStands : Type 0
+EachStands = (latency : ℕ) (s : Table) → IsHeld latency s → (m : State) × StandsFor s m
+
+-- ---- what the rule says of the schedule
+
+-- the parts of the hand-over that the table's rule keeps: what is back is a prefix of what was returned, that of what was taken, that of what was
+-- given, and at most latency frames are out
+pub record PartsHold (latency : ℕ) (m : State) : Type 0 where
+  pub back : IsPrefix m.back m.returned
+  pub returned : IsPrefix (map (λ x. x.0) m.returned) m.taken
+  pub taken : IsPrefix m.taken m.given
+  pub few : length (out m) ≤ latency
+
+abbrev pub RuleKeepsParts : Type 0
+RuleKeepsParts = (latency : ℕ) (s : Table) (m : State) → IsHeld latency s → StandsFor s m → PartsHold latency m
+
+-- ---- what a call's proof gives the base is such a step
+
+-- where the base allows a step of a kind, which tells of the number found or of the number stored, the table can go on by it
+abbrev pub IsPlayed : (Step Slot → Mine → ℕ → Mine → Type 0) → Type 0
+IsPlayed then = (latency slots id : ℕ) (v : SwapView) (hand : Slots) (at : Step Slot) (f tells : ℕ → ℕ)
+    → Allows (IsHeld latency) slots id (v, hand) at.word f (λ n. then at (v, hand) (tells n))
+    → (s : Table) → IsHeld latency s → length s.homes ≡ slots → get_elem? s.views id ≡ some v → slice_index s.words at.word < 18446744073709551616
+    → (t : Table) × IsHeld latency t × Plays then id v hand at (tells (slice_index s.words at.word)) s t
+
+abbrev pub IsCut : (SwapView → SwapView) → (SwapView → SwapView) → Type 0
+IsCut left right = (latency id : ℕ) (v : SwapView) → Splits (IsHeld latency) id v (left v) (right v)
+    → (s : Table) → IsHeld latency s → get_elem? s.views id ≡ some v → (t : Table) × IsHeld latency t × Cuts left right id v s t
+
+abbrev pub IsTakenIn : (SwapView → SwapView → SwapView) → SwapView → Type 0
+IsTakenIn both spent = (latency id : ℕ) (v : SwapView) (other : ℕ) (w : SwapView) → Joins (IsHeld latency) id v other w (both v w) spent
+    → (s : Table) → IsHeld latency s → get_elem? s.views id ≡ some v → ¬ (other ≡ id) → get_elem? s.views other ≡ some w → (t : Table) × IsHeld latency t × TakesIn both spent id v other w s t
+
+abbrev pub AllArePlayed : Type 0
+AllArePlayed = IsPlayed claim_kind.then × IsPlayed give_kind.then × IsPlayed take_kind.then × IsPlayed return_kind.then × IsPlayed back_kind.then
+    × IsPlayed stop_kind.then × IsPlayed learn_kind.then × IsPlayed take_here_kind.then × IsPlayed back_here_kind.then
+    × IsCut part_kind.left part_kind.right × IsTakenIn unite_kind.both unite_kind.spent

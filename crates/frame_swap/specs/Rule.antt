@@ -76,6 +76,19 @@ FitsAs j is_whole taken returned i v api = i ≡ 0
 FitsAs j is_whole taken returned i v render = (i ≡ j) × (is_whole ≡ false) × (v.taken ≡ taken) × (v.returned ≡ returned)
 FitsAs j is_whole taken returned i v spent = Unit {0}
 
+-- the render end has the seat
+abbrev pub IsRenderAt : ℕ → List SwapView → Type 0
+IsRenderAt seat views = (v : SwapView) × (get_elem? views seat ≡ some v) × (v.side ≡ render)
+
+-- where no frame was given after the last stop, the word of the frame that would come next is stopped
+pub record StopStands (latency : ℕ) (is_stopped : Bool) (stopped_after given : ℕ) (phases : List Phase) : Type 0 where
+  pub early : stopped_after ≤ given
+  pub stands : is_stopped ≡ true → stopped_after ≡ given → get_elem? phases (given % latency) ≡ some stopped_at
+
+-- a stop was seen only where there was one
+abbrev pub SeenIfStopped : Bool → List SwapView → Type 0
+SeenIfStopped is_stopped views = (i : ℕ) (v : SwapView) → get_elem? views i ≡ some v → 1 ≤ v.stops → is_stopped ≡ true
+
 -- what was returned, what the render end has in hand, what waits to be taken, what waits to come back, and the number of the render end's seat
 pub record Kept (latency : ℕ) (me : SwapView) (returned : List RenderedFrame) (in_hand waiting : List Frame) (coming : List RenderedFrame) (seat : ℕ) (phases : List Phase) (views : List SwapView) : Type 0 where
   pub at_api : get_elem? views 0 ≡ some me
@@ -88,6 +101,9 @@ pub record Kept (latency : ℕ) (me : SwapView) (returned : List RenderedFrame) 
   pub one_hand : length in_hand ≤ 1
   pub early : me.claimed < latency → me.given ≡ []
   pub ring : Ring latency (length me.back) me.claimed me.is_stopped (history returned in_hand waiting) phases
+  pub beside : me.is_whole ≡ false → IsRenderAt seat views
+  pub stop : StopStands latency me.is_stopped me.stopped_after (length me.given) phases
+  pub seen : SeenIfStopped me.is_stopped views
 
 -- the same, of some lists
 pub record IsRing (latency : ℕ) (phases : List Phase) (views : List SwapView) : Type 0 where

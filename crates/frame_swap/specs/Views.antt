@@ -1,5 +1,5 @@
 -- What a seat knows, and what each kind of step changes and tells.
-use Rattle.std.specs.Prelude.{◌≡◌, ◌≢◌, ℕ, zero, suc, ◌%◌, Bool, true, false, List, [], ◌∷◌, ◌++◌, map, length, drop, Option, Some, None}
+use Rattle.std.specs.Prelude.{◌≡◌, ◌≢◌, ◌≤◌, ℕ, zero, suc, ◌%◌, Bool, true, false, List, [], ◌∷◌, ◌++◌, length, drop, Option, Some, None}
 use Rattle.atomic_table.specs.Table.{Me, Step}
 use Rattle.frame_record.specs.declared.frame.Frame.{Frame}
 use Rattle.frame_record.specs.declared.frame.RenderedFrame.{RenderedFrame}
@@ -14,8 +14,9 @@ pub data Side : Type 0 where
   render : Side
   spent : Side
 
--- The API end knows how many slots it claimed, whether it stopped, and what it gave and what came back; where it is the whole, as before the render end
--- is made and after it is joined, also what the render end knows: what that took and returned, and how many stops it saw
+-- The API end knows how many slots it claimed, whether it stopped and how many frames it had given when it did so last, and what it gave and what came back; where it is the whole, as before the render end
+-- is made and after it is joined, also what the render end knows: what that took and returned, and how many stops it saw. Each end counts its tries that
+-- found nothing
 pub record SwapView : Type 0 where
   pub side : Side
   pub is_whole : Bool
@@ -26,12 +27,14 @@ pub record SwapView : Type 0 where
   pub taken : List Frame
   pub returned : List RenderedFrame
   pub stops : ℕ
+  pub stopped_after : ℕ
+  pub misses : ℕ
 
 abbrev pub first_view : SwapView
-first_view = record { side = api; is_whole = true; is_stopped = false; claimed = 0; given = []; back = []; taken = []; returned = []; stops = 0 }
+first_view = record { side = api; is_whole = true; is_stopped = false; claimed = 0; given = []; back = []; taken = []; returned = []; stops = 0; stopped_after = 0; misses = 0 }
 
 abbrev pub spent_view : SwapView
-spent_view = record { side = spent; is_whole = false; is_stopped = false; claimed = 0; given = []; back = []; taken = []; returned = []; stops = 0 }
+spent_view = record { side = spent; is_whole = false; is_stopped = false; claimed = 0; given = []; back = []; taken = []; returned = []; stops = 0; stopped_after = 0; misses = 0 }
 
 -- ---- what a seat holds
 
@@ -70,12 +73,20 @@ took f v = record v { taken = v.taken ++ f ∷ [] }
 abbrev pub saw : SwapView → SwapView
 saw v = record v { stops = suc v.stops }
 
--- a frame was there and was taken, or the stop was seen, or nothing happened
+-- one try more that found nothing
+abbrev pub missed : SwapView → SwapView
+missed v = record v { misses = suc v.misses }
+
+-- the view but for the tries that found nothing
+abbrev pub with_misses : ℕ → SwapView → SwapView
+with_misses n v = record v { misses = n }
+
+-- a frame was there and was taken, or the stop was seen, or there was nothing to take
 abbrev pub Takes : Step Slot → Mine → ℕ → Mine → Type 0
 Takes st m n m' =
     (n ≡ 1 → (f : Frame) × (m' ≡ (took f m.0, (st.word, Some (Given f)) ∷ m.1)))
     × (n ≡ 4 → m' ≡ (saw m.0, m.1))
-    × (n ≢ 1 → n ≢ 4 → m' ≡ m)
+    × (n ≢ 1 → n ≢ 4 → m' ≡ (missed m.0, m.1))
 
 abbrev pub gave_back : RenderedFrame → SwapView → SwapView
 gave_back r v = record v { returned = v.returned ++ r ∷ [] }
@@ -86,14 +97,15 @@ Returns st m n m' = (r : RenderedFrame) (k : Slots) → m.1 ≡ (st.word, Some (
 abbrev pub came : RenderedFrame → SwapView → SwapView
 came r v = record v { back = v.back ++ r ∷ [] }
 
--- a frame came back, the oldest that was out, and what came back is a prefix of what was given; or nothing happened
+-- a frame came back, the oldest that was out, and what came back is a prefix of what was given; or its render has not ended
 abbrev pub TakesBack : Step Slot → Mine → ℕ → Mine → Type 0
 TakesBack st m n m' =
     (n ≡ 3 → (r : RenderedFrame) × (m' ≡ (came r m.0, (st.word, Some (Back r)) ∷ m.1)) × (m.0.given ≡ frames_of m.0.back ++ r.frame ∷ drop (suc (length m.0.back)) m.0.given))
-    × (n ≢ 3 → m' ≡ m)
+    × (n ≢ 3 → m' ≡ (missed m.0, m.1))
 
+-- no frame is given any more
 abbrev pub stopped : SwapView → SwapView
-stopped v = record v { is_stopped = true }
+stopped v = record v { is_stopped = true; stopped_after = length v.given }
 
 abbrev pub Stops : Step Slot → Mine → ℕ → Mine → Type 0
 Stops st m n m' = m' ≡ (stopped m.0, m.1)
@@ -102,14 +114,14 @@ abbrev pub parted : SwapView → SwapView
 parted v = record v { is_whole = false }
 
 abbrev pub render_view : SwapView → SwapView
-render_view v = record { side = render; is_whole = false; is_stopped = false; claimed = 0; given = []; back = []; taken = v.taken; returned = v.returned; stops = v.stops }
+render_view v = record { side = render; is_whole = false; is_stopped = false; claimed = 0; given = []; back = []; taken = v.taken; returned = v.returned; stops = v.stops; stopped_after = 0; misses = 0 }
 
 abbrev pub united : SwapView → SwapView → SwapView
 united v w = record v { is_whole = true; taken = w.taken; returned = w.returned; stops = w.stops }
 
--- with both ends and nothing out: what was taken is what was given, and what was returned is what came back
+-- with both ends and nothing out: what was taken is what was given, what was returned is what came back, and a stop was seen only where there was one
 abbrev pub Learns : Step Slot → Mine → ℕ → Mine → Type 0
-Learns st m n m' = (m' ≡ m) × (m.0.taken ≡ m.0.given) × (m.0.returned ≡ m.0.back) × (frames_of m.0.back ≡ m.0.given)
+Learns st m n m' = (m' ≡ m) × (m.0.taken ≡ m.0.given) × (m.0.returned ≡ m.0.back) × (frames_of m.0.back ≡ m.0.given) × (1 ≤ m.0.stops → m.0.is_stopped ≡ true)
 
 -- ---- steps of one seat that has the whole
 

@@ -1,8 +1,8 @@
 // The two ends.
-ghost use Rattle.std.specs.Prelude.{◌≡◌, ℕ, ◌+◌, ◌-◌, ◌%◌, [], ◌∷◌, ◌++◌, length, ◌<◌, ◌≤◌, IfOk, IfErr, IfSome, IfNone, MatchOption};
+ghost use Rattle.std.specs.Prelude.{◌≡◌, ℕ, ◌+◌, ◌-◌, ◌%◌, [], ◌∷◌, ◌++◌, length, ◌<◌, ◌≤◌, IfOk, IfErr, IfSome, IfNone, MatchOption, true};
 ghost use Rattle.std.specs.Arc.{arc_value};
 ghost use Rattle.frame_record.specs.Links.{frames_of, out_of, CameBack};
-ghost use Rattle.frame_swap.specs.Views.{api, render, first_view, empty_slots, gave, took, saw, gave_back, came, stopped};
+ghost use Rattle.frame_swap.specs.Views.{api, render, first_view, empty_slots, gave, took, saw, gave_back, came, stopped, missed, with_misses};
 
 use crate::content::Content;
 use crate::view::{Claim, Give, Law, Learn, Part, Return, Stop, Take, TakeBack, View};
@@ -11,6 +11,7 @@ use crossbeam_utils::Backoff;
 use frame_record::{Frame, FrameLink, RenderedFrame};
 use std::alloc::{AllocError, Global};
 use std::sync::{Arc, Wait};
+use std::thread::Threads;
 
 /// The table of the frames: as many words and slots as frames may be out; its key is that number.
 pub type FrameTable = Table<Option<Content>, View, u8, Law, Global>;
@@ -101,11 +102,12 @@ pub fn claim_all(table: &FrameTable, seat: &mut Seat<Option<Content>, View>, lat
 }
 
 impl ApiEnd {
-    /// Takes the oldest frame that is out back, where its render has ended; None changes nothing.
+    /// Tries once to take the oldest frame that is out back. None only where a step of this call did not find its render ended, which the
+    /// end's view then counts.
     pub fn try_take_back(&mut self) -> Option<RenderedFrame>
         ensures came { IfSome result (λ r. self.new.seat.me.0 ≡ came r self.old.seat.me.0) }
         ensures order { IfSome result (λ r. CameBack self.old.seat.me.0.given self.old.seat.me.0.back self.new.seat.me.0.back r) }
-        ensures none { IfNone result (self.new.seat.me.0 ≡ self.old.seat.me.0) }
+        ensures none { IfNone result (self.new.seat.me.0 ≡ missed self.old.seat.me.0) }
         ensures same { (self.new.seat.table_id ≡ self.old.seat.table_id) × (self.new.latency ≡ self.old.latency) }
     {
         let shared = &self.table.shared;
@@ -122,7 +124,7 @@ impl ApiEnd {
         }
     }
 
-    /// No frame is given any more. The render end takes the frames that it has not taken, and then finds the stop.
+    /// No frame is given any more. The render end finds the stop when it next takes. No frame is out.
     pub fn stop(&mut self)
         requires none_out { length self.old.seat.me.0.given ≡ length self.old.seat.me.0.back }
         ensures view { self.new.seat.me.0 ≡ stopped self.old.seat.me.0 }
@@ -133,7 +135,8 @@ impl ApiEnd {
             .store::<Stop>(&mut self.seat, self.next as usize, 4);
     }
 
-    /// Tells that the render end took just what this end gave, and gave back just what came back here, outcomes included.
+    /// Tells that the render end took just what this end gave, gave back just what came back here, outcomes included, and saw a stop only
+    /// where this end stopped.
     pub fn close(self, end: RenderEnd)
         requires pair { end.seat.table_id ≡ self.seat.table_id }
         requires none_out { length self.seat.me.0.given ≡ length self.seat.me.0.back }
@@ -141,6 +144,7 @@ impl ApiEnd {
         ensures taken { end.seat.me.0.taken ≡ self.seat.me.0.given }
         ensures returned { end.seat.me.0.returned ≡ self.seat.me.0.back }
         ensures all_back { frames_of self.seat.me.0.back ≡ self.seat.me.0.given }
+        ensures stop { 1 ≤ end.seat.me.0.stops → self.seat.me.0.is_stopped ≡ true }
     {
         let ApiEnd {
             table,
@@ -167,7 +171,7 @@ impl FrameLink for ApiEnd {
 
     ghost origin = { api_table };
 
-    fn give<R: Wait>(&mut self, rt: &R, frame: Frame)
+    fn give<R: Threads + Wait + Sync>(&mut self, rt: &R, frame: Frame)
         requires room { length self.old.seat.me.0.given < length self.old.seat.me.0.back + self.old.latency }
         ensures view { self.new.seat.me.0 ≡ gave frame self.old.seat.me.0 }
         ensures same { (self.new.seat.table_id ≡ self.old.seat.table_id) × (self.new.latency ≡ self.old.latency) }
@@ -184,16 +188,16 @@ impl FrameLink for ApiEnd {
 
     fn try_take_back<R: Wait>(&mut self, rt: &R) -> Option<RenderedFrame>
         requires some_out { length self.old.seat.me.0.back < length self.old.seat.me.0.given }
-        ensures view { MatchOption result (self.new.seat.me.0 ≡ self.old.seat.me.0) (λ r. self.new.seat.me.0 ≡ came r self.old.seat.me.0) }
+        ensures view { MatchOption result (self.new.seat.me.0 ≡ missed self.old.seat.me.0) (λ r. self.new.seat.me.0 ≡ came r self.old.seat.me.0) }
         ensures order { IfSome result (λ r. CameBack self.old.seat.me.0.given self.old.seat.me.0.back self.new.seat.me.0.back r) }
         ensures same { (self.new.seat.table_id ≡ self.old.seat.table_id) × (self.new.latency ≡ self.old.latency) }
     {
         ApiEnd::try_take_back(self)
     }
 
-    fn take_back<R: Wait>(&mut self, rt: &R) -> RenderedFrame
+    fn take_back<R: Threads + Wait + Sync>(&mut self, rt: &R) -> RenderedFrame
         requires some_out { length self.old.seat.me.0.back < length self.old.seat.me.0.given }
-        ensures view { self.new.seat.me.0 ≡ came result self.old.seat.me.0 }
+        ensures view { self.new.seat.me.0 ≡ with_misses self.new.seat.me.0.misses (came result self.old.seat.me.0) }
         ensures order { CameBack self.old.seat.me.0.given self.old.seat.me.0.back self.new.seat.me.0.back result }
         ensures same { (self.new.seat.table_id ≡ self.old.seat.table_id) × (self.new.latency ≡ self.old.latency) }
     {
@@ -209,11 +213,12 @@ impl FrameLink for ApiEnd {
 }
 
 impl RenderEnd {
-    /// Tries once to take the next frame that was given. `Ok(None)` is the stop, `Err` that neither is there yet, which changes nothing.
+    /// Tries once to take the next frame that was given. `Ok(None)` is the stop. `Err` only where a step of this call found neither, which
+    /// the end's view then counts.
     pub fn try_take(&mut self) -> Result<Option<Frame>, Nothing>
         requires none_held { self.old.seat.me.0.taken ≡ frames_of self.old.seat.me.0.returned }
         ensures some_frame { IfOk result (λ o. MatchOption o (self.new.seat.me.0 ≡ saw self.old.seat.me.0) (λ f. self.new.seat.me.0 ≡ took f self.old.seat.me.0)) }
-        ensures none { IfErr result (λ _. self.new.seat.me.0 ≡ self.old.seat.me.0) }
+        ensures none { IfErr result (λ _. self.new.seat.me.0 ≡ missed self.old.seat.me.0) }
         ensures same { self.new.seat.table_id ≡ self.old.seat.table_id }
     {
         let shared = &self.table.shared;
@@ -234,7 +239,9 @@ impl RenderEnd {
     /// The next frame that was given. `None` only where a step of this call found the stop, which the end's view then counts.
     pub fn take<R: Wait>(&mut self, rt: &R) -> Option<Frame>
         requires none_held { self.old.seat.me.0.taken ≡ frames_of self.old.seat.me.0.returned }
-        ensures frame { MatchOption result (self.new.seat.me.0 ≡ saw self.old.seat.me.0) (λ f. self.new.seat.me.0 ≡ took f self.old.seat.me.0) }
+        ensures frame { MatchOption result
+            (self.new.seat.me.0 ≡ with_misses self.new.seat.me.0.misses (saw self.old.seat.me.0))
+            (λ f. self.new.seat.me.0 ≡ with_misses self.new.seat.me.0.misses (took f self.old.seat.me.0)) }
         ensures same { self.new.seat.table_id ≡ self.old.seat.table_id }
     {
         let backoff = Backoff::new();

@@ -1,5 +1,5 @@
 // A thread that renders, at each latency.
-ghost use Rattle.std.specs.Prelude.{◌≡◌, ◌≤◌, []};
+ghost use Rattle.std.specs.Prelude.{◌≡◌, ◌+◌, ◌≤◌, [], length};
 ghost use Rattle.frame_record.specs.Links.{frames_of};
 ghost use Rattle.frame_swap.specs.Ends.{api_table, api_knows, render_table, render_knows};
 
@@ -110,5 +110,57 @@ fn a_thread_renders_at_each_latency(rt: HostRuntime) -> Result<(), Fail> {
         )?;
         assert!(rt; numbers == (3, 4));
     }
+    Ok(())
+}
+
+// The render end takes one frame and gives it back with an outcome.
+fn pass<R: Wait>(rt: &R, end: &mut RenderEnd, outcome: Outcome) -> bool
+    requires { (render_knows end.old).taken ≡ frames_of (render_knows end.old).returned }
+    ensures table { render_table end.new ≡ render_table end.old }
+    ensures none_held { (render_knows end.new).taken ≡ frames_of (render_knows end.new).returned }
+{
+    let Some(frame) = end.take(rt) else {
+        return false;
+    };
+    end.give_back(RenderedFrame { frame, outcome });
+    true
+}
+
+// With two frames out, the oldest comes back and the next is given: its number and its outcome.
+fn turn<R: Threads + Wait + Sync>(rt: &R, api: &mut ApiEnd, next: Frame) -> (u32, Outcome)
+    requires out { length (api_knows api.old).given ≡ length (api_knows api.old).back + 2 }
+    requires latency { 3 ≤ api.old.latency }
+    ensures table { (api_table api.new ≡ api_table api.old) × (api.new.latency ≡ api.old.latency) }
+    ensures out { length (api_knows api.new).given ≡ length (api_knows api.new).back + 2 }
+{
+    let back = api.take_back(rt);
+    api.give(rt, next);
+    (back.frame.number, back.outcome)
+}
+
+#[test]
+fn two_frames_out_of_three(rt: HostRuntime) -> Result<(), Fail> {
+    let (mut api, mut end) = swap_pair(rt.alloc(), 3)?;
+    assert!(rt; api.try_take_back().is_none());
+    assert!(rt; end.try_take().is_err());
+    api.give(&rt, frame(&rt, 3)?);
+    api.give(&rt, frame(&rt, 4)?);
+    assert!(rt; pass(&rt, &mut end, Outcome::Shown));
+    let first = turn(&rt, &mut api, frame(&rt, 5)?);
+    assert!(rt; pass(&rt, &mut end, Outcome::PictureFault));
+    assert!(rt; pass(&rt, &mut end, Outcome::Skipped));
+    let second = turn(&rt, &mut api, frame(&rt, 6)?);
+    let third = turn(&rt, &mut api, frame(&rt, 7)?);
+    assert!(rt; pass(&rt, &mut end, Outcome::OutOfMemory));
+    assert!(rt; pass(&rt, &mut end, Outcome::Skipped));
+    let fourth = api.take_back(&rt);
+    let fifth = api.take_back(&rt);
+    assert!(rt; first == (3, Outcome::Shown));
+    assert!(rt; second == (4, Outcome::PictureFault));
+    assert!(rt; third == (5, Outcome::Skipped));
+    assert!(rt; (fourth.frame.number, fourth.outcome) == (6, Outcome::OutOfMemory));
+    assert!(rt; (fifth.frame.number, fifth.outcome) == (7, Outcome::Skipped));
+    api.stop();
+    assert!(rt; end.take(&rt).is_none());
     Ok(())
 }

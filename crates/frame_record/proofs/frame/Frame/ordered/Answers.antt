@@ -5,7 +5,7 @@ use Rattle.gfx_model.specs.World.{sorted_by_key}
 use Rattle.draw_encoder.specs.declared.items.Recording.{Recording}
 use Rattle.frame_record.specs.Ordered.{keyed_of, IsPlaced}
 use Rattle.frame_record.specs.Seen.{entry_seen, recordings_seen}
-use Rattle.frame_record.proofs.KeptLaws.{few_entries}
+use Rattle.frame_record.proofs.KeptLaws.{few_entries, kept_of}
 use Rattle.frame_record.proofs.KeyLaws.{entries_seen, placed_sorted, positions_ascend}
 use Rattle.frame_record.proofs.frame.Frame.ordered.Goals as goal
 
@@ -13,7 +13,7 @@ pub with_keys-requires : goal.with_keys-requires
 with_keys-requires c =
     let f = c.args.self.now in
     let same = ap length c.deref-2.ensures.value in
-    let few = few_entries f.recordings.items f.journal.items f.kept in
+    let few = few_entries f.recordings.items f.journal.items (kept_of f.recordings.items f.journal.items f.kept) in
     omega (arith, same, few)
 
 pub returns-clause-keyed : goal.returns-clause-keyed

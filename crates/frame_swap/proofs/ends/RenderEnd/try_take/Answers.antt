@@ -1,4 +1,4 @@
-use Rattle.std.proofs.Common.{rules, ◌≡◌, ℕ, zero, suc, ◌+◌, ◌-◌, ◌%◌, ◌∷◌, [], ◌++◌, length, length-append, arith, Some, None, sym, ap, ◌∙◌}
+use Rattle.std.proofs.Common.{rules, ◌≡◌, ℕ, zero, suc, ◌-◌, ◌%◌, ◌∷◌, [], length, length-append, arith, Some, None, sym, ap, ◌∙◌}
 use Rattle.atomic_table.specs.Table.{rest}
 use Rattle.frame_swap.specs.Views.{SwapView, Slots, Mine, empty_slots, took}
 use Rattle.frame_swap.specs.declared.content.Content.TheVariants.{Given}
