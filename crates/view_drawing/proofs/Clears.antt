@@ -5,7 +5,7 @@ use Rattle.std.proofs.Math.Nat.{div-lt_iff_lt-mul, mul_comm, mul-le-mul_right}
 use Rattle.std.proofs.lemmas.List.{map-append, append_assoc, drop-drop, take-map, drop-map}
 use Rattle.std.proofs.lemmas.Simd.{map-map}
 use borrow.Rule.Slice.PartMut.{post_of, put_mid}
-use Rattle.gfx_model.specs.Number.{map_from, u32_at, is_bit_set}
+use Rattle.gfx_model.specs.Number.{map_from, is_bit_set}
 use Rattle.gfx_model.specs.Vertex.{Color}
 use Rattle.gfx_model.specs.Raster.{Rect, contains}
 use Rattle.gfx_model.specs.Views.{Clear}

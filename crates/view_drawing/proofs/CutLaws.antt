@@ -1,6 +1,6 @@
 -- A prepared draw does what the draw does, and surfaces keep their sides.
-use Rattle.std.proofs.Common.{◌≡◌, ℕ, Bool, true, false, List, [], ◌∷◌, ◌++◌, Option, Some, None, refl, sym, ap, ◌∙◌}
-use Rattle.std.specs.Prelude.{◌&&◌, if◌then◌else◌, fold, option_map, filter_map}
+use Rattle.std.proofs.Common.{◌≡◌, ℕ, Bool, true, false, List, [], ◌∷◌, ◌++◌, Option, refl, sym, ap, ◌∙◌}
+use Rattle.std.specs.Prelude.{◌&&◌, if◌then◌else◌, fold, filter_map}
 use Rattle.std.proofs.lemmas.List.Sums.{fold-append}
 use Rattle.gfx_model.specs.Words.{primitive_of}
 use Rattle.gfx_model.specs.Vertex.{VertexRange, IndexRange, triangles_of}
@@ -9,7 +9,6 @@ use Rattle.gfx_model.specs.Views.{View}
 use Rattle.gfx_model.specs.World.{Surface, Draw, Paint, Facing, is_in_cut, after_facing, drawn, on_each_pixel, placed_facing, draw_vertices}
 use Rattle.int_raster.specs.Drawing.{PreparedDraw, drawn_prepared}
 use Rattle.store_laws.specs.ByIndex.{drawn_with}
-use Rattle.store_laws.proofs.SideLaws.{KeepsSides, sides, map_sides}
 
 pub and_assoc : (a b c : Bool) → ((a && b) && c) ≡ (a && (b && c))
 and_assoc true b c = refl
@@ -39,13 +38,6 @@ list_width s (d ∷ ds) = list_width (drawn_prepared s d) ds
 pub list_height : (s : Surface) (ds : List PreparedDraw) → (fold drawn_prepared s ds).color.height ≡ s.color.height
 list_height s [] = refl
 list_height s (d ∷ ds) = list_height (drawn_prepared s d) ds
-
-list_depth : (s : Surface) (ds : List PreparedDraw) → option_map sides (fold drawn_prepared s ds).depth ≡ option_map sides s.depth
-list_depth s [] = refl
-list_depth s (d ∷ ds) = list_depth (drawn_prepared s d) ds ∙ map_sides _ s.depth
-
-pub list_sides : (ds : List PreparedDraw) → KeepsSides (λ s. fold drawn_prepared s ds)
-list_sides ds = record { wide = λ s. list_width s ds; high = λ s. list_height s ds; deep = λ s. list_depth s ds }
 
 -- one draw more at the end of a list
 pub draw_added : (s : Surface) (old new : List PreparedDraw) (p : PreparedDraw) → new ≡ old ++ p ∷ [] → drawn_prepared (fold drawn_prepared s old) p ≡ fold drawn_prepared s new

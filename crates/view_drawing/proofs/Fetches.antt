@@ -1,12 +1,12 @@
 -- Vertices are found in the rest of the bytes as in all of them.
-use Rattle.std.proofs.Common.{◌≡◌, ℕ, ◌+◌, ◌*◌, ◌-◌, ◌≤◌, ◌<◌, Bool, true, false, cond, List, length, drop, get_or, map, refl, sym, ap, ◌∙◌, arith}
-use Rattle.std.specs.Prelude.{ℤ, pos, Option, Some, None, nat_le, slice_index, option_map, if◌then◌else◌}
+use Rattle.std.proofs.Common.{◌≡◌, ℕ, ◌+◌, ◌*◌, ◌-◌, ◌≤◌, ◌<◌, false, List, length, drop, map, refl, sym, ap, ◌∙◌, arith}
+use Rattle.std.specs.Prelude.{pos, Some, None, nat_le, slice_index, option_map, if◌then◌else◌}
 use Rattle.std.specs.List.{range_with_len}
 use Rattle.std.proofs.lemmas.List.{get_or-drop, length-drop}
 use Rattle.std.specs.Int.{cast_signed, w16, w32}
 use Rattle.std.specs.Prelude.{◌*ℤ◌, ◌/◌}
 use Rattle.std.proofs.lemmas.Bool.Decides.{nat_tests}
-use Rattle.gfx_model.specs.Number.{u16_at, u32_at, i16_at, i32_at}
+use Rattle.gfx_model.specs.Number.{u16_at, u32_at}
 use Rattle.gfx_model.specs.Vertex.{Layout, PlacedAttribute, ComponentType, u8_type, i16_type, fixed_type, fixed_at, component_size, components_at, components_of, find_attribute, Attribute, position_attribute, color0_attribute, texcoord0_attribute, position_of, color_of, texcoord_of, fetch}
 
 byte_behind : (bytes : List ℕ) (n k : ℕ) → slice_index (drop n bytes) k ≡ slice_index bytes (n + k)

@@ -1,11 +1,11 @@
 -- Items of a list, one after the other.
-use Rattle.std.proofs.Common.{◌≡◌, ℕ, ◌+◌, ◌<◌, List, [], ◌∷◌, ◌++◌, length, get_or, take, map, Option, refl, sym, ap, ◌∙◌}
+use Rattle.std.proofs.Common.{◌≡◌, ℕ, ◌+◌, ◌<◌, List, [], ◌∷◌, length, get_or, take, map, Option, sym, ap, ◌∙◌}
 use Rattle.std.specs.Prelude.{fold, Result, Ok, Err, OnErr}
 use Rattle.std.proofs.lemmas.List.{take_more, map-append}
 use Rattle.std.proofs.lemmas.List.Sums.{fold-append}
 use Rattle.gfx_model.specs.Words.{ProgramKind}
 use Rattle.gfx_model.specs.Views.{View}
-use Rattle.gfx_model.specs.World.{Surface, Draw, Item, draw_item, touch_item, Touch}
+use Rattle.gfx_model.specs.World.{Draw, Item, draw_item, touch_item, Touch}
 use Rattle.store_model.specs.Slots.{at}
 use Rattle.store_model.specs.Buffers.{Buffers}
 use Rattle.store_model.specs.Textures.{Textures}

@@ -1,18 +1,12 @@
 -- A target that is taken out, changed and put back.
 use Rattle.std.proofs.Common.{◌≡◌, ℕ, Option, Some, None, refl, sym, ap, ◌∙◌}
 use Rattle.std.proofs.lemmas.Option.{none-some}
-use Rattle.std.specs.Prelude.{option_map, option_and_then}
+use Rattle.std.specs.Prelude.{option_and_then}
 use Rattle.gfx_model.specs.Raster.{Texels}
 use Rattle.gfx_model.specs.World as world
-use Rattle.fix_math.specs.Seen.{texels_seen}
-use Rattle.fix_math.specs.declared.picture.Texels as code
-use Rattle.int_raster.specs.declared.surfaces.Surface.{Surface}
-use Rattle.int_raster.specs.Seen.{surface_seen}
-use Rattle.texture_store.specs.Seen.{sides_seen}
 use Rattle.store_model.specs.Slots.{at}
 use Rattle.store_model.specs.Textures.{Textures, TargetSlot, attached_texels, target_texels, out_for, target_out, back_for, target_back}
 use Rattle.store_laws.specs.ByIndex.{on_taken, on_target_in}
-use Rattle.store_laws.proofs.SideLaws.{KeepsSides, sides}
 
 -- the surface of texels that are taken out
 abbrev pub surface_with : Texels × Option Texels → world.Surface
@@ -35,14 +29,3 @@ put_changed h new i p change s some same is = go (at h.targets i) refl
         ∙ (λ j. back_for (e j) s.color s.depth (out_for (Some p) (Some t) h))
         ∙ (λ j. back_for (Some t) (same j).color (same j).depth (out_for (Some p) (Some t) h))
         ∙ sym (λ j. on_taken change (some j) (e j) h)
-
-seen_sides : (o : Option code.Texels) → option_map sides_seen o ≡ option_map sides (option_map texels_seen o)
-seen_sides None = refl
-seen_sides (Some t) = refl
-
--- a surface that is changed by what keeps sides has its sides
-pub color_sides : (new old : Surface) (change : world.Surface → world.Surface) → KeepsSides change → surface_seen new ≡ change (surface_seen old) → sides_seen new.color ≡ sides_seen old.color
-color_sides new old change k e = (λ j. ((e j).color.width, (e j).color.height)) ∙ (λ j. (k.wide (surface_seen old) j, k.high (surface_seen old) j))
-
-pub depth_sides : (new old : Surface) (change : world.Surface → world.Surface) → KeepsSides change → surface_seen new ≡ change (surface_seen old) → option_map sides_seen new.depth ≡ option_map sides_seen old.depth
-depth_sides new old change k e = seen_sides new.depth ∙ (λ j. option_map sides (e j).depth) ∙ k.deep (surface_seen old) ∙ sym (seen_sides old.depth)

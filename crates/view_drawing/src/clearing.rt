@@ -8,9 +8,8 @@ ghost use Rattle.int_raster.specs.Seen.{surface_seen};
 ghost use Rattle.view_table.specs.Seen.{clear_seen, view_seen};
 ghost use Rattle.view_drawing.specs.Cleared.{in_rect, cleared_color, cleared_word, word_in, word_cleared, word_with_depth, word_with_stencil};
 
-use crate::cuts::view_rect;
 use fix_math::{Rect, tell_texels};
-use int_raster::Surface;
+use int_raster::{Surface, view_rect};
 use view_table::{Clear, View};
 
 /// Whether a flag is set.

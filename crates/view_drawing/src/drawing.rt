@@ -38,9 +38,10 @@ fn draw_surface<R: Threads + Sync>(
     ensures depth { option_map sides_seen surface.new.depth ≡ option_map sides_seen surface.old.depth }
 {
     let _ = rt;
-    let mut list = DrawList::new(room.alloc);
+    let mut list = DrawList::with_room(room.alloc, room.take_list());
     do_items(stage, buffers, items, &mut list, room)?;
     draw_view(surface, &list);
+    room.list = list.into_room();
     Ok(())
 }
 

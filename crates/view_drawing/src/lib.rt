@@ -3,7 +3,6 @@
 
 mod blits;
 mod clearing;
-mod cuts;
 mod drawing;
 mod entering;
 mod items;
@@ -18,3 +17,6 @@ mod uniforms;
 pub use entering::enter_view;
 pub use items::Recorded;
 pub use room::DrawingRoom;
+
+#[cfg(test)]
+mod tests;

@@ -15,14 +15,13 @@ ghost use Rattle.draw_encoder.specs.Seen.{draw_seen, vertices_seen, indices_seen
 ghost use Rattle.view_drawing.specs.Shapes.{placed_by, kept_of};
 ghost use Rattle.view_drawing.specs.Prepared.{AddsTo};
 
-use crate::cuts::{cut_by_both, view_rect};
 use crate::paints::paint_of;
 use crate::ranges::{indices_of, vertices_of};
 use crate::room::DrawingRoom;
 use crate::shapes::{Placement, place_vertices, triangles_of};
 use buffer_store::BufferStore;
 use draw_encoder::DrawItem;
-use int_raster::{DrawList, Paint, Prepared};
+use int_raster::{DrawList, Paint, Prepared, draw_cut, view_rect};
 use render_stores::ProgramRow;
 use std::alloc::AllocError;
 use texture_store::TextureStore;
@@ -102,7 +101,7 @@ fn add_painted<'x>(
     };
     shape_draw(room, buffers, recorded, draw, &placement)?;
     let prepared = Prepared {
-        cut: cut_by_both(rect, stage.view.scissor, draw.scissor),
+        cut: draw_cut(rect, stage.view.scissor, draw.scissor),
         state: draw.state,
         front: draw.front,
         back: draw.back,

@@ -1,14 +1,17 @@
 // Room that is kept.
+use int_raster::DrawRoom;
 use std::alloc::Global;
+use std::mem::replace;
 use tri_cover::{ScreenVertex, Setup};
 
-/// Room for the vertices and triangles of draws. It is kept from view to view and from frame to frame, and grows to what
-/// the largest draw needs.
+/// Room for the vertices and triangles of a draw, and for all triangles of a view. It is kept from view to view and from
+/// frame to frame, and grows to what the largest view needs.
 #[derive(Drop)]
 pub struct DrawingRoom {
     pub(crate) alloc: Global,
     pub(crate) vertices: Vec<Option<ScreenVertex>>,
     pub(crate) triangles: Vec<Setup>,
+    pub(crate) list: DrawRoom,
 }
 
 impl DrawingRoom {
@@ -18,6 +21,12 @@ impl DrawingRoom {
             alloc,
             vertices: Vec::new(alloc),
             triangles: Vec::new(alloc),
+            list: DrawRoom::new(alloc),
         }
+    }
+
+    /// Takes out the room for a view's triangles.
+    pub(crate) fn take_list(&mut self) -> DrawRoom {
+        replace(&mut self.list, DrawRoom::new(self.alloc))
     }
 }

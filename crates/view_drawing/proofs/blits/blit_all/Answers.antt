@@ -1,4 +1,4 @@
-use Rattle.std.proofs.Common.{take, map, sym, ap, ◌∙◌}
+use Rattle.std.proofs.Common.{map, sym, ap, ◌∙◌}
 use Rattle.std.specs.Prelude.{fold}
 use Rattle.std.proofs.lemmas.List.{take-map}
 use Rattle.draw_encoder.specs.Seen.{blit_seen}

@@ -1,4 +1,4 @@
-use Rattle.std.proofs.Common.{◌≡◌, ◌+◌, ◌*◌, ◌≤◌, None, Some, length, map, option_map, sym, ap, ◌∙◌, arith}
+use Rattle.std.proofs.Common.{◌≡◌, ◌+◌, ◌*◌, ◌≤◌, None, Some, length, option_map, sym, ap, ◌∙◌, arith}
 use Rattle.gfx_model.specs.Raster.{view_rect, contains}
 use Rattle.gfx_model.specs.World.{on_each_pixel}
 use Rattle.fix_math.specs.Lending.{refilled}

@@ -1,4 +1,4 @@
-use Rattle.std.proofs.Common.{◌+◌, ◌≤◌, [], length, sym, ap, ◌∙◌, arith}
+use Rattle.std.proofs.Common.{◌+◌, [], length, sym, arith}
 use Rattle.view_table.specs.Seen.{clear_seen}
 use Rattle.texture_store.proofs.RowLaws.{row_fits}
 use Rattle.view_drawing.specs.Cleared.{cleared_color}

@@ -1,4 +1,4 @@
-use Rattle.std.proofs.Common.{map, ap}
+use Rattle.std.proofs.Common.{map}
 use Rattle.std.proofs.lemmas.Result.{on_ok_weaker, on_err_weaker}
 use Rattle.int_raster.specs.Seen.{surface_seen}
 use Rattle.view_table.specs.Seen.{view_seen}

@@ -1,4 +1,3 @@
-use Rattle.std.proofs.Common.{arith}
 use Rattle.view_table.specs.Seen.{view_seen}
 use Rattle.view_drawing.specs.Recorded.{recorded_seen}
 use Rattle.view_drawing.proofs.Folds.{on_err_holds}

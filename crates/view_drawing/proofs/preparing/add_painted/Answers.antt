@@ -1,13 +1,13 @@
-use Rattle.std.proofs.Common.{◌≡◌, ℕ, List, map, ap, sym, ◌∙◌}
+use Rattle.std.proofs.Common.{map, ap, ◌∙◌}
 use Rattle.std.specs.Prelude.{◌&&◌, fold, option_and_then}
 use Rattle.gfx_model.specs.Words.{cull_of, primitive_of}
 use Rattle.gfx_model.specs.Vertex.{triangles_of}
 use Rattle.gfx_model.specs.Raster.{contains, passes_scissor, view_rect, place}
 use Rattle.gfx_model.specs.World.{draw_vertices}
-use Rattle.fix_math.specs.Seen.{rect_seen, affine_seen}
+use Rattle.fix_math.specs.Seen.{rect_seen}
 use Rattle.tri_cover.specs.Shown.{setup_seen}
 use Rattle.int_raster.specs.Drawing.{facing_shown, drawn_prepared}
-use Rattle.int_raster.specs.Seen.{paint_seen, prepared_seen}
+use Rattle.int_raster.specs.Seen.{paint_seen}
 use Rattle.view_table.specs.Seen.{view_seen}
 use Rattle.draw_encoder.specs.Seen.{draw_seen}
 use Rattle.store_laws.specs.ByIndex.{vertices_at, indices_at}
@@ -28,12 +28,12 @@ returns c sets s ew eh =
     let indices = indices_at c.args.buffers.now d.indices in
     let vs = draw_vertices vertices indices in
     let rect = view_rect view.rect width height in
-    let cut = rect_seen c.cut_by_both.result in
+    let cut = rect_seen c.draw_cut.result in
     let triangles = map setup_seen c.shape_draw.new.room.triangles.items in
     let facings = map (facing_shown d.front d.back) triangles in
     let paint = paint_seen c.args.paint in
     prepared_drawn view cut d vertices indices paint facings width height (fold drawn_prepared s old) (list_width s old ∙ ew) (list_height s old ∙ eh)
-    (λ x y. c.cut_by_both.ensures x y ∙ (λ i. contains (c.view_rect-rect.ensures i) x y && passes_scissor view.scissor x y && passes_scissor d.scissor x y))
+    (λ x y. c.draw_cut.ensures.pixels x y ∙ (λ i. contains (c.view_rect-rect.ensures i) x y && passes_scissor view.scissor x y && passes_scissor d.scissor x y))
     (ap (map (facing_shown d.front d.back)) c.in_ok-shape_draw.ensures
     ∙ (λ i. map (facing_shown d.front d.back) (kept_of (cull_of d.state) (triangles_of (primitive_of d.state) (map (option_and_then (place d.model view.transform (c.view_rect-rect.ensures i))) vs))))
     ∙ facings_kept view rect d vs)

@@ -1,7 +1,7 @@
-use Rattle.std.proofs.Common.{◌+◌, ◌<◌, false, length, map, ap, arith}
+use Rattle.std.proofs.Common.{◌<◌, length, map, ap, arith}
 use Rattle.std.specs.Prelude.{option_map}
 use Rattle.std.proofs.lemmas.List.{length-map}
-use Rattle.gfx_model.specs.Vertex.{listed_triangles, strip_triangles as strip_triangles_of}
+use Rattle.gfx_model.specs.Vertex.{listed_triangles}
 use Rattle.tri_cover.specs.Seen.{screen_seen}
 use Rattle.tri_cover.specs.Shown.{setup_seen}
 use Rattle.view_drawing.specs.Shapes.{kept_of}
