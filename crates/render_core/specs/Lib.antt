@@ -1,0 +1,9 @@
+pub mod Counted
+pub mod Found
+pub mod Lists
+pub mod Outcomes
+pub mod Put
+pub mod Rendered
+pub mod Runs
+pub mod Seen
+pub mod Shown
