@@ -4,6 +4,7 @@ pub mod Lists
 pub mod Outcomes
 pub mod Put
 pub mod Rendered
+pub mod Run
 pub mod Runs
 pub mod Seen
 pub mod Shown
