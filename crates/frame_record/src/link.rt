@@ -1,5 +1,6 @@
 // A place to which frames go, and from which they come back.
 ghost use Rattle.std.specs.Prelude.{◌≡◌, ◌+◌, ◌<◌, [], ◌∷◌, ◌++◌, length, MatchOption};
+ghost use Rattle.std.specs.Thread.{IsSync};
 ghost use Rattle.frame_record.specs.Links.{frames_of, out_of, CameBack};
 
 use crate::frame::{Frame, RenderedFrame};
@@ -31,7 +32,8 @@ pub trait FrameLink {
 
     /// Hands a frame over, or renders it at once. Fewer frames than the latency are out.
     fn give<R: Threads + Wait + Sync>(&mut self, rt: &R, frame: Frame)
-        requires { length (given self.old) < length (back self.old) + latency self.old }
+        requires room { length (given self.old) < length (back self.old) + latency self.old }
+        requires sync { IsSync R.row }
         ensures given { given self.new ≡ given self.old ++ frame ∷ [] }
         ensures back { back self.new ≡ back self.old }
         ensures latency { latency self.new ≡ latency self.old }

@@ -1,0 +1,9 @@
+mod Counts
+mod Found
+mod Parts
+mod Pieces
+mod Runs
+mod Shows
+mod Tallies
+mod Turns
+mod ViewRuns

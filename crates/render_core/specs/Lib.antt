@@ -1,0 +1,10 @@
+pub mod Counted
+pub mod Found
+pub mod Lists
+pub mod Outcomes
+pub mod Put
+pub mod Rendered
+pub mod Run
+pub mod Runs
+pub mod Seen
+pub mod Shown

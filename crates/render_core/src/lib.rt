@@ -1,0 +1,14 @@
+//! Frames to pictures: each frame's commands and views drawn on the renderer's stores, and its picture put into a sink.
+#![tactic(auto)]
+
+mod in_place;
+mod lists;
+mod outcomes;
+mod output;
+mod picture;
+mod renderer;
+mod running;
+mod views;
+
+pub use in_place::InPlaceLink;
+pub use renderer::Renderer;

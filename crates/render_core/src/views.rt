@@ -1,0 +1,130 @@
+// Draws a frame's views in their order.
+ghost use Rattle.std.specs.Prelude.{◌≡◌, ◌<◌, ◌+◌, [], ◌∷◌, fold, filter, OnOk};
+ghost use Rattle.std.specs.List.{list_any};
+ghost use Rattle.gfx_model.specs.Views.{view_count, position_of_view};
+ghost use Rattle.gfx_model.specs.World.{is_of_view};
+ghost use Rattle.store_laws.specs.ByIndex.{enter_by_index, entered_by_index};
+ghost use Rattle.frame_record.specs.Ordered.{position_of};
+ghost use Rattle.render_stores.specs.Seen.{stores_seen};
+ghost use Rattle.render_core.specs.Lists.{AreListed, IsPart};
+ghost use Rattle.render_core.specs.Runs.{RunsFrom};
+ghost use Rattle.render_core.specs.Seen.{frame_seen};
+
+use crate::lists::Lists;
+use draw_encoder::BlitItem;
+use frame_record::{Frame, end_of_blits, end_of_run};
+use render_stores::RenderStores;
+use std::alloc::{AllocError, Global};
+use std::thread::Threads;
+use view_drawing::{DrawingRoom, Recorded, enter_view};
+
+/// Enters a view with its blits and items, where it has an item.
+fn enter_where<R: Threads + Sync>(
+    rt: &R,
+    stores: &mut RenderStores,
+    frame: &Frame,
+    view: u16,
+    is_entered: bool,
+    blits: &[BlitItem],
+    items: &[Recorded<'_>],
+    room: &mut DrawingRoom,
+) -> Result<(), AllocError>
+    requires there { view < view_count frame.now.views }
+    requires part { IsPart (frame_seen frame.now) view is_entered blits.now items.now }
+    ensures { let f = frame_seen frame.now in
+        OnOk result (stores_seen stores.new ≡ fold (enter_by_index f.views f.items f.ordered) (stores_seen stores.old) (filter (λ v. list_any (is_of_view v) f.items) (view ∷ []))) }
+{
+    match frame.views.get(view) {
+        Some(settings) => {
+            if is_entered {
+                enter_view(rt, stores, settings, blits, items, room)?;
+            }
+            Ok(())
+        }
+        None => Ok(()),
+    }
+}
+
+/// A view's part of a frame's lists, and where the next view's part begins.
+#[derive(Clone, Copy)]
+struct Part<'a, 'x> {
+    is_entered: bool,
+    blits: &'a [BlitItem],
+    items: &'a [Recorded<'x>],
+    copied: usize,
+    drawn: usize,
+}
+
+/// The part of the view at a position, which begins where the part before it ends.
+fn next_part<'a, 'x>(
+    frame: &Frame,
+    lists: &'a Lists<'x>,
+    view: u16,
+    position: u16,
+    drawn: usize,
+    copied: usize,
+) -> Part<'a, 'x>
+    requires listed { AreListed frame.now lists.now }
+    requires view { (view < view_count frame.now.views) × (position_of_view frame.now.views view ≡ position) }
+    requires draws { RunsFrom position_of drawn position lists.now.ordered.items }
+    requires blits { RunsFrom (λ p. p.position) copied position lists.now.blits.items }
+    ensures part { IsPart (frame_seen frame.now) view result.is_entered result.blits.now result.items.now }
+    ensures draws { RunsFrom position_of result.drawn (position + 1) lists.now.ordered.items }
+    ensures blits { RunsFrom (λ p. p.position) result.copied (position + 1) lists.now.blits.items }
+{
+    let drawn_end = end_of_run(&lists.ordered, drawn, position);
+    let copied_end = end_of_blits(&lists.blits, copied, position);
+    Part {
+        is_entered: lists.entered[view as usize],
+        blits: &lists.copies[copied..copied_end],
+        items: &lists.items[drawn..drawn_end],
+        copied: copied_end,
+        drawn: drawn_end,
+    }
+}
+
+fn enter_views<R: Threads + Sync>(
+    rt: &R,
+    stores: &mut RenderStores,
+    frame: &Frame,
+    lists: &Lists<'_>,
+    room: &mut DrawingRoom,
+) -> Result<(), AllocError>
+    requires { AreListed frame.now lists.now }
+    ensures { let f = frame_seen frame.now in OnOk result (stores_seen stores.new ≡ fold (enter_by_index f.views f.items f.ordered) (stores_seen stores.old) (entered_by_index f)) }
+{
+    frame.views.tell_facts();
+    let mut drawn = 0;
+    let mut copied = 0;
+    for position in 0..frame.views.count() {
+        let view = frame.views.view_at(position);
+        let part = next_part(frame, lists, view, position, drawn, copied);
+        enter_where(
+            rt,
+            stores,
+            frame,
+            view,
+            part.is_entered,
+            part.blits,
+            part.items,
+            room,
+        )?;
+        drawn = part.drawn;
+        copied = part.copied;
+    }
+    Ok(())
+}
+
+/// Draws each view that has an item, in the order of the views.
+pub(crate) fn draw_views<R: Threads + Sync>(
+    alloc: Global,
+    rt: &R,
+    stores: &mut RenderStores,
+    frame: &Frame,
+    room: &mut DrawingRoom,
+) -> Result<(), AllocError>
+    ensures { let f = frame_seen frame.now in OnOk result (stores_seen stores.new ≡ fold (enter_by_index f.views f.items f.ordered) (stores_seen stores.old) (entered_by_index f)) }
+{
+    let lists = Lists::of_frame(alloc, frame)?;
+    enter_views(rt, stores, frame, &lists, room)
+}
