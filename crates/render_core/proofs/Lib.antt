@@ -1,5 +1,6 @@
 mod Counts
 mod Found
+mod OneItem
 mod Parts
 mod Pieces
 mod Runs

@@ -12,3 +12,6 @@ mod views;
 
 pub use in_place::InPlaceLink;
 pub use renderer::Renderer;
+
+#[cfg(test)]
+mod tests;
