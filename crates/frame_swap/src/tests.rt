@@ -1,5 +1,5 @@
 // A thread that renders, at each latency.
-ghost use Rattle.std.specs.Prelude.{◌≡◌, ◌+◌, ◌≤◌, [], length};
+ghost use Rattle.std.specs.Prelude.{◌≡◌, ◌+◌, ◌≤◌, [], length, IfOk};
 ghost use Rattle.frame_record.specs.Links.{frames_of};
 ghost use Rattle.frame_swap.specs.Ends.{api_table, api_knows, render_table, render_knows};
 
@@ -152,11 +152,34 @@ fn turn<R: Threads + Wait + Sync>(rt: &R, api: &mut ApiEnd, next: Frame) -> Came
     seen(&back)
 }
 
+// No frame comes back yet.
+fn none_back(api: &mut ApiEnd) -> Result<(), &'static str>
+    ensures table { (api_table api.new ≡ api_table api.old) × (api.new.latency ≡ api.old.latency) }
+    ensures lists { IfOk result (λ _. ((api_knows api.new).given ≡ (api_knows api.old).given) × ((api_knows api.new).back ≡ (api_knows api.old).back)) }
+{
+    match api.try_take_back() {
+        None => Ok(()),
+        Some(_) => Err("a frame came back"),
+    }
+}
+
+// No frame was given yet.
+fn none_given(end: &mut RenderEnd) -> Result<(), &'static str>
+    requires { (render_knows end.old).taken ≡ frames_of (render_knows end.old).returned }
+    ensures table { render_table end.new ≡ render_table end.old }
+    ensures lists { IfOk result (λ _. (render_knows end.new).taken ≡ frames_of (render_knows end.new).returned) }
+{
+    match end.try_take() {
+        Err(_) => Ok(()),
+        Ok(_) => Err("a frame was given, or the stop"),
+    }
+}
+
 #[test]
 fn two_frames_out_of_three(rt: HostRuntime) -> Result<(), Fail> {
     let (mut api, mut end) = swap_pair(rt.alloc(), 3)?;
-    assert!(rt; api.try_take_back().is_none());
-    assert!(rt; end.try_take().is_err());
+    none_back(&mut api)?;
+    none_given(&mut end)?;
     api.give(&rt, frame(&rt, 3)?);
     api.give(&rt, frame(&rt, 4)?);
     assert!(rt; pass(&rt, &mut end, Outcome::Shown));
