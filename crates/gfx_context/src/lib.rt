@@ -30,3 +30,6 @@ pub fn items_law()
 pub fn targets_law()
     ensures { TargetsLaw }
 {}
+
+#[cfg(test)]
+mod tests;
