@@ -11,3 +11,6 @@ pub use desk::Desk;
 pub use job::{Job, block_lines};
 pub use lines::record_line;
 pub use threads::{help, serve, start_all};
+
+#[cfg(test)]
+mod tests;
