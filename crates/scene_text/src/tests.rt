@@ -321,16 +321,26 @@ fn the_first_scene_is_written(rt: HostRuntime) -> Result<(), Fail> {
     Ok(())
 }
 
+/// The text with the room that it leaves out, behind its three first lines of 28 bytes.
+fn with_room(alloc: Global, text: &[u8]) -> Result<Vec<u8>, AllocError> {
+    let mut whole = Vec::new(alloc);
+    for (place, byte) in text.iter().enumerate() {
+        if place == 28 {
+            whole.extend_from_slice(b"room 8191 262144 4096\n")?;
+        }
+        whole.push(*byte)?;
+    }
+    Ok(whole)
+}
+
 #[test]
 fn every_form_is_written_as_it_is_read(rt: HostRuntime) -> Result<(), Fail> {
     let alloc = rt.alloc();
     let text = changed(alloc, 6, CREATES)?;
     let scene = read_small(alloc, &text)?;
-    let first = write(alloc, &scene)?;
-    let again = read_small(alloc, &first)?;
-    let second = write(alloc, &again)?;
-    assert_eq!(rt; first.len(), text.len() + 22);
-    assert_eq!(rt; first.as_slice(), second.as_slice());
+    let written = write(alloc, &scene)?;
+    let wanted = with_room(alloc, &text)?;
+    assert_eq!(rt; written.as_slice(), wanted.as_slice());
     Ok(())
 }
 
