@@ -4,6 +4,7 @@ mod OneItem
 mod Parts
 mod Pieces
 mod Runs
+mod ShownFrames
 mod Shows
 mod Tallies
 mod Turns

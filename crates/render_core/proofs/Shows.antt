@@ -14,13 +14,13 @@ use Rattle.frame_record.specs.declared.frame.Outcome.TheVariants as outcomes
 use Rattle.render_core.specs.Outcomes.{IsShown}
 use Rattle.render_core.specs.Shown.{StoresAfter, HeldAfter}
 
-stores_if : (o : Outcome) (old new : Stores) (f : FrameData) → StoresAfter o old f new → IsShown o → new ≡ frame_by_index old f
+pub stores_if : (o : Outcome) (old new : Stores) (f : FrameData) → StoresAfter o old f new → IsShown o → new ≡ frame_by_index old f
 stores_if outcomes.Shown old new f k s = k
 stores_if outcomes.PictureFault old new f k s = cc s
 stores_if outcomes.OutOfMemory old new f k s = cc s
 stores_if outcomes.Skipped old new f k s = cc s
 
-held_if : (o : Outcome) (text : List ℕ) (old new : Option (List ℕ)) → HeldAfter o text old new → IsShown o → new ≡ with_back old text
+pub held_if : (o : Outcome) (text : List ℕ) (old new : Option (List ℕ)) → HeldAfter o text old new → IsShown o → new ≡ with_back old text
 held_if outcomes.Shown text old new k s = k
 held_if outcomes.PictureFault text old new k s = cc s
 held_if outcomes.OutOfMemory text old new k s = cc s
@@ -56,7 +56,7 @@ back_after payloads h (update_texture_command index x y w high payload) = refl
 back_after payloads h (destroy_command kind index) = back_destroyed (kind_of_number kind) index h
 
 -- commands leave the back buffer
-back_commanded : (payloads : List (List ℕ)) (h : Stores) (cs : List Command) → (all_commanded payloads h cs).back ≡ h.back
+pub back_commanded : (payloads : List (List ℕ)) (h : Stores) (cs : List Command) → (all_commanded payloads h cs).back ≡ h.back
 back_commanded payloads h [] = refl
 back_commanded payloads h (c ∷ cs) = back_commanded payloads (after_command payloads h c) cs ∙ back_after payloads h c
 

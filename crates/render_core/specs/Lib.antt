@@ -1,5 +1,6 @@
 pub mod Counted
 pub mod Found
+pub mod Laws
 pub mod Lists
 pub mod Outcomes
 pub mod Put

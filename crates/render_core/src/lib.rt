@@ -2,6 +2,7 @@
 #![tactic(auto)]
 
 mod in_place;
+pub mod laws;
 mod lists;
 mod outcomes;
 mod output;
