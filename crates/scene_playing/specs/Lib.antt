@@ -1,0 +1,3 @@
+pub mod Recording
+pub mod Steps
+pub mod Frames

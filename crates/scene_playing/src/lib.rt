@@ -1,0 +1,14 @@
+//! The frames of a scene, played one after another over a context, with recorder threads that live for the whole play.
+//!
+//! For each frame the API thread plays the lines before the blocks, begins one encoder for each number, hands all but encoder 0 to
+//! the recorders, records encoder 0, plays the lines beside the blocks, records what no recorder took, and ends the frame.
+#![tactic(auto)]
+
+mod beginning;
+mod frame;
+mod frames;
+mod played;
+mod threads;
+
+pub use played::{FrameNote, Played};
+pub use threads::play_frames;
