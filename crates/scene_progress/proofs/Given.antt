@@ -1,5 +1,5 @@
 -- The state in each frame is lawful and of that frame, and each name stands for a handle that was given.
-use Rattle.std.proofs.Common.{◌≡◌, ℕ, zero, suc, ◌+◌, ◌-◌, ◌<◌, ◌≤◌, ◌==◌, nat_lt, Bool, true, false, if◌then◌else◌, List, [], ◌∷◌, ◌++◌, length, take, Option, Some, None, refl, sym, ap, ◌∙◌, subst, arith}
+use Rattle.std.proofs.Common.{◌≡◌, ℕ, suc, ◌+◌, ◌-◌, ◌<◌, ◌≤◌, ◌==◌, nat_lt, Bool, true, false, ◌&&◌, if◌then◌else◌, List, [], ◌∷◌, ◌++◌, length, take, Option, Some, None, refl, ◌∙◌, subst, arith}
 use Rattle.std.specs.List.{AllByRecursion, find}
 use Rattle.std.proofs.lemmas.Option.{same_Some, none-some}
 use Rattle.gfx_model.specs.Words.{greatest, Handle, UniformKind}
@@ -12,7 +12,7 @@ use Rattle.resource_laws.proofs.StartLaws.{lawful_started, lawful_opening}
 use Rattle.scene_model.specs.Scene.{Name, ResourceLine, SceneFrame, Scene, views_of, latency_of}
 use Rattle.scene_model.specs.Fold.{Bindings, thing_named, resource_call, created_name, Progress, bound_by, after_answer, after_call, after_line, after_lines, at_start, first_progress}
 use Rattle.scene_laws.proofs.Moves.{frame_kept}
-use Rattle.scene_progress.specs.Progress.{after_frame, progress_from, progress_before, start_of, before_of, AreGiven}
+use Rattle.scene_progress.specs.Progress.{after_frame, progress_from, progress_before, start_of, before_of}
 use Rattle.scene_progress.specs.Laws.{LawfulStateLaw, GivenLaw, FrameNumberLaw}
 use Rattle.scene_progress.proofs.Lists.{take_few}
 
@@ -136,7 +136,7 @@ answer_keeps k p line c None e q =
     record {
       lawful = lawful;
       names = bound_below after.next_serial (created_name line) (effect p.resources c).made p.bindings (λ h made. made_below p.resources h q.lawful c lawful made)
-        (names_more p.resources.next_serial after.next_serial p.bindings (serial_grows p.resources c) q.names);
+          (names_more p.resources.next_serial after.next_serial p.bindings (serial_grows p.resources c) q.names);
       frame = frame_kept p.resources c ∙ q.frame;
     }
 
@@ -180,7 +180,9 @@ first_keeps s = record { lawful = lawful_opening (views_of s) (latency_of s) 0 1
 
 -- before each frame
 pub before_keeps : (s : Scene) (k : ℕ) → KeepsBefore k (progress_before s k)
-before_keeps s k = later_keeps (length (take k s.frames)) k (progress_before s k) (take_few k s.frames) (frames_keep s.names 0 (first_progress s) (take k s.frames) (first_keeps s))
+before_keeps s k =
+    let few = take_few k s.frames in
+    later_keeps (0 + length (take k s.frames)) k (progress_before s k) (omega (arith, few)) (frames_keep s.names 0 (first_progress s) (take k s.frames) (first_keeps s))
 
 -- behind the `before` lines of each frame
 pub in_frame : (s : Scene) (k : ℕ) (f : SceneFrame) → Keeps k (before_of s k f)

@@ -5,11 +5,11 @@ use Rattle.scene_model.specs.Scene.{SceneFrame, Scene}
 use Rattle.scene_model.specs.Fold.{Progress, at_start, FramePlan, plans, first_progress}
 use Rattle.scene_model.specs.Journal.{Entry, Journal, IsLawfulFrame, AreLawful, frame_content, pictures_from}
 use Rattle.scene_model.specs.Output.{report_from}
-use Rattle.scene_laws.specs.SceneFrames.{frame_data, frames_from}
-use Rattle.scene_progress.specs.Progress.{after_frame, progress_from, start_of}
+use Rattle.scene_laws.specs.SceneFrames.{frame_data, frames_from, scene_frames}
+use Rattle.scene_progress.specs.Progress.{after_frame, progress_from, progress_before}
 use Rattle.scene_progress.specs.Notes.{noted_of, note_line, note_lines}
 use Rattle.scene_progress.specs.Laws.{NoFramesLaw, FramesMoreLaw, FrameCountLaw, NoneLawfulLaw, LawfulMoreLaw, LawfulCountLaw, FramesFrontLaw, PicturesFrontLaw, PictureCountLaw, ReportLaw, NotedMoreLaw}
-use Rattle.scene_progress.proofs.Lists.{add_one, take_none, map_next}
+use Rattle.scene_progress.proofs.Lists.{add_one, none_before, take_none, map_next}
 use Rattle.scene_progress.proofs.Reached.{plan_count}
 
 -- ---- frames by index
@@ -41,7 +41,9 @@ frames_more_from s n p (g ∷ rest) (suc k) f (x ∷ j) e is count =
     ∙ ap (λ m. frames_from s (n + 1) all rest j ++ frame_data s m (at_start m (progress_from s.names (n + 1) all (take k rest))) f e ∷ []) later)
 
 pub frames_more : FramesMoreLaw
-frames_more s k f j e is count = frames_more_from s 0 (first_progress s) s.frames k f j e is count
+frames_more s k f j e is count =
+    frames_more_from s 0 (first_progress s) s.frames k f j e is count
+    ∙ ap (λ m. scene_frames s j ++ frame_data s m (at_start m (progress_before s k)) f e ∷ []) (none_before k)
 
 frame_count_from : (s : Scene) (n : ℕ) (p : Progress) (frames : List SceneFrame) (j : Journal) → length j ≤ length frames → length (frames_from s n p frames j) ≡ length j
 frame_count_from s n p [] [] le = refl

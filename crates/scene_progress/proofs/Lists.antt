@@ -1,11 +1,14 @@
 -- The first elements of lists.
-use Rattle.std.proofs.Common.{◌≡◌, ℕ, zero, suc, ◌+◌, ◌≤◌, List, [], ◌∷◌, ◌++◌, map, length, take, Some, slice_get, refl, sym, ap, ◌∙◌, arith}
+use Rattle.std.proofs.Common.{◌≡◌, ℕ, zero, suc, ◌+◌, ◌≤◌, List, [], ◌∷◌, ◌++◌, map, length, take, Some, slice_get, refl, ap, arith}
 use Rattle.std.proofs.lemmas.List.{length-take}
 
 pub add_one : (k : ℕ) → k + 1 ≡ suc k
 add_one k = omega arith
 
-pub take_none : {A : Type 0} (n : ℕ) → take n (the (List A) []) ≡ []
+pub none_before : (k : ℕ) → 0 + k ≡ k
+none_before k = omega arith
+
+pub take_none : {A : Type 0} (n : ℕ) → take {A = A} n [] ≡ []
 take_none zero = refl
 take_none (suc n) = refl
 

@@ -1,11 +1,11 @@
 -- The state before each frame, and the plans.
-use Rattle.std.proofs.Common.{◌≡◌, ℕ, zero, suc, ◌+◌, List, [], ◌∷◌, length, take, Some, slice_get, refl, sym, ap, ◌∙◌, arith}
+use Rattle.std.proofs.Common.{◌≡◌, ℕ, zero, suc, ◌+◌, List, [], ◌∷◌, length, take, Some, slice_get, refl, ap, ◌∙◌, arith}
 use Rattle.gfx_model.specs.Resources.{deaths_in}
 use Rattle.scene_model.specs.Scene.{SceneFrame, Scene}
-use Rattle.scene_model.specs.Fold.{Progress, after_lines, at_start, FramePlan, plan_of, plans_from, plans, first_progress}
-use Rattle.scene_progress.specs.Progress.{after_frame, progress_from, progress_before, before_of, all_of}
+use Rattle.scene_model.specs.Fold.{Progress, after_lines, at_start, FramePlan, plan_of, plans_from, first_progress}
+use Rattle.scene_progress.specs.Progress.{after_frame, progress_from, progress_before}
 use Rattle.scene_progress.specs.Laws.{FirstLaw, NextLaw, PlanLaw, PlanCountLaw}
-use Rattle.scene_progress.proofs.Lists.{add_one}
+use Rattle.scene_progress.proofs.Lists.{add_one, none_before}
 
 next_from : (names : List (List ℕ)) (n : ℕ) (p : Progress) (frames : List SceneFrame) (k : ℕ) (f : SceneFrame) → slice_get frames k ≡ Some f
     → progress_from names n p (take (suc k) frames) ≡ after_frame names (n + k) (progress_from names n p (take k frames)) f
@@ -23,7 +23,10 @@ pub first : FirstLaw
 first s = refl
 
 pub next : NextLaw
-next s k f e = ap (λ m. progress_from s.names 0 (first_progress s) (take m s.frames)) (add_one k) ∙ next_from s.names 0 (first_progress s) s.frames k f e
+next s k f e =
+    ap (λ m. progress_from s.names 0 (first_progress s) (take m s.frames)) (add_one k)
+    ∙ next_from s.names 0 (first_progress s) s.frames k f e
+    ∙ ap (λ m. after_frame s.names m (progress_before s k) f) (none_before k)
 
 -- ---- plans
 
@@ -45,7 +48,9 @@ plan_from s n gone p (g ∷ rest) (suc k) f e =
     (more.0, more.1 ∙ ap (λ m. Some (plan_by s m f more.0 (progress_from s.names (n + 1) all (take k rest)))) later)
 
 pub plan : PlanLaw
-plan s k f e = plan_from s 0 [] (first_progress s) s.frames k f e
+plan s k f e =
+    let p = plan_from s 0 [] (first_progress s) s.frames k f e in
+    (p.0, p.1 ∙ ap (λ m. Some (plan_by s m f p.0 (progress_before s k))) (none_before k))
 
 plan_count_from : (s : Scene) (n : ℕ) (gone : List ℕ) (p : Progress) (frames : List SceneFrame) → length (plans_from s n gone p frames) ≡ length frames
 plan_count_from s n gone p [] = refl

@@ -1,5 +1,5 @@
 -- What the lines of a scene's frames have done before a frame, in it and behind it.
-use Rattle.std.specs.Prelude.{◌≡◌, ℕ, ◌+◌, ◌<◌, List, [], ◌∷◌, take, Option, Some}
+use Rattle.std.specs.Prelude.{◌≡◌, ℕ, ◌+◌, ◌<◌, List, [], ◌∷◌, take, Some}
 use Rattle.gfx_model.specs.Words.{Handle, greatest}
 use Rattle.scene_model.specs.Scene.{Name, SceneFrame, Scene}
 use Rattle.scene_model.specs.Fold.{Progress, thing_named, after_lines, at_start, first_progress}
