@@ -9,8 +9,8 @@ use Rattle.scene_progress.specs.Progress.{start_of}
 use Rattle.scene_progress.specs.Notes.{noted_of}
 use Rattle.frame_record.specs.declared.frame.Frame.{Frame}
 use Rattle.frame_record.specs.declared.frame.Outcome.{Outcome}
-use Rattle.frame_record.specs.declared.frame.Outcome.TheVariants as outcomes
 use Rattle.render_core.specs.Seen.{frame_seen}
+use Rattle.render_core.specs.Ended.{outcome_then}
 use Rattle.gfx_context.specs.States.{ContextView}
 use Rattle.gfx_context.specs.declared.report.BackNote.{BackNote}
 use Rattle.scene_playing.specs.Recording.{IsAt}
@@ -37,8 +37,5 @@ pub record FrameEnds {L : Type 0} (s : Scene) (k : ℕ) (f : SceneFrame) (entrie
 
 -- the outcome of the first frame that was not shown, when one more came back, or none
 abbrev pub first_after : Outcome → Option BackNote → Outcome
-first_after outcomes.Shown None = outcomes.Shown
-first_after outcomes.Shown (Some n) = n.outcome
-first_after outcomes.PictureFault note = outcomes.PictureFault
-first_after outcomes.OutOfMemory note = outcomes.OutOfMemory
-first_after outcomes.Skipped note = outcomes.Skipped
+first_after first None = first
+first_after first (Some n) = outcome_then first n.outcome

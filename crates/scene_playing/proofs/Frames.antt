@@ -1,0 +1,123 @@
+-- Frames of a scene that ended one after another.
+use Rattle.std.proofs.Common.{◌≡◌, ℕ, zero, suc, ◌+◌, ◌<◌, ◌≤◌, Bool, true, false, List, [], ◌∷◌, ◌++◌, map, length, take, Option, Some, None, MatchOption, refl, sym, ap, ◌∙◌, subst, arith}
+use Rattle.std.proofs.lemmas.List.{length-append, map-append, take_all, take-append-le}
+use Rattle.std.specs.List.{slice_get}
+use Rattle.gfx_model.specs.Words.{Handle}
+use Rattle.scene_model.specs.Scene.{SceneFrame, Scene}
+use Rattle.scene_model.specs.Fold.{FramePlan, plans}
+use Rattle.scene_model.specs.Journal.{Entry, Journal, IsLawfulFront}
+use Rattle.scene_laws.specs.SceneFrames.{scene_frames, frame_data}
+use Rattle.scene_progress.specs.Progress.{start_of}
+use Rattle.scene_progress.specs.Notes.{noted_of}
+use Rattle.scene_progress.specs.Laws.{FramesMoreLaw, LawfulMoreLaw, NotedMoreLaw, NoFramesLaw, NoneLawfulLaw}
+use Rattle.frame_record.specs.declared.frame.Frame.{Frame}
+use Rattle.frame_record.specs.declared.frame.Outcome.{Outcome}
+use Rattle.frame_record.specs.declared.frame.Outcome.TheVariants as outcomes
+use Rattle.frame_record.specs.declared.frame.RenderedFrame.{RenderedFrame}
+use Rattle.gfx_context.specs.declared.report.BackNote.{BackNote}
+use Rattle.gfx_context.specs.Ended.{note_of, notes_of, IsBack, MakesWay}
+use Rattle.gfx_context.specs.States.{ContextView}
+use Rattle.render_core.specs.Seen.{frame_seen}
+use Rattle.render_core.specs.Ended.{outcome_then, first_outcome}
+use Rattle.scene_playing.specs.Steps.{IsGiven, FrameEnds, first_after}
+use Rattle.scene_playing.specs.Frames.{AreEnded}
+
+-- the first k frames of a scene ended, and all were given
+pub record AreGiven (s : Scene) (k : ℕ) (given : List Frame) (journal : Journal) (notes : List (ℕ × ℕ)) : Type 0 where
+  pub lawful : IsLawfulFront s journal
+  pub many : length journal ≡ k
+  pub noted : notes ≡ map noted_of (take k (plans s))
+  pub all : length given ≡ k
+  pub seen : map frame_seen given ≡ scene_frames s journal
+
+pub none_given : (s : Scene) → NoneLawfulLaw → NoFramesLaw → AreGiven s 0 [] [] []
+none_given s lawful frames = record { lawful = lawful s; many = refl; noted = refl; all = refl; seen = sym (frames s) }
+
+module _ (s : Scene) (frames : FramesMoreLaw) (lawful : LawfulMoreLaw) (notes_more : NotedMoreLaw) where
+  -- one frame more ended and was given
+  pub one_more : {L : Type 0} (k : ℕ) (f : SceneFrame) (e : List Entry) (note : ℕ × ℕ) (handles : List (Option Handle)) (old new : ContextView L) (j : Journal) (notes : List (ℕ × ℕ))
+      → AreGiven s k old.given j notes → slice_get s.frames k ≡ Some f → FrameEnds s k f e note true handles old new → AreGiven s (k + 1) new.given (j ++ e ∷ []) (notes ++ note ∷ [])
+  one_more k f e note handles old new j notes a there ends = record {
+    lawful = lawful s k ends.plan j e ends.planned a.many a.lawful ends.lawful;
+    many = length-append j (e ∷ []) ∙ ap (λ n. n + 1) a.many;
+    noted = ap (λ (ns : List _). ns ++ note ∷ []) a.noted ∙ ap (λ n. map noted_of (take k (plans s)) ++ n ∷ []) ends.noted ∙ sym (notes_more s k ends.plan ends.planned);
+    all = ap length ends.gives.given ∙ length-append old.given (ends.gives.frame ∷ []) ∙ ap (λ n. n + 1) a.all;
+    seen = ap (map frame_seen) ends.gives.given ∙ map-append frame_seen old.given (ends.gives.frame ∷ [])
+        ∙ ap (λ fs. fs ++ frame_seen ends.gives.frame ∷ []) a.seen ∙ ap (λ d. scene_frames s j ++ d ∷ []) ends.gives.seen ∙ sym (frames s k f j e there a.many);
+  }
+
+  -- one frame more ended and was not given
+  pub stopped : {L : Type 0} (k : ℕ) (f : SceneFrame) (e : List Entry) (note : ℕ × ℕ) (handles : List (Option Handle)) (old new : ContextView L) (j : Journal) (notes : List (ℕ × ℕ))
+      → AreGiven s k old.given j notes → FrameEnds s k f e note false handles old new → AreEnded s new.given (j ++ e ∷ []) (notes ++ note ∷ []) false
+  stopped k f e note handles old new j notes a ends =
+      let many : length (j ++ e ∷ []) ≡ k + 1 = length-append j (e ∷ []) ∙ ap (λ n. n + 1) a.many in
+      let all : length new.given ≡ k = ap length ends.gives ∙ a.all in
+      let front : take (length new.given) (j ++ e ∷ []) ≡ j = ap (λ n. take n (j ++ e ∷ [])) (all ∙ sym a.many) ∙ take-append-le (length j) j (e ∷ []) (omega arith) ∙ take_all (length j) j (omega arith) in
+      record {
+        lawful = lawful s k ends.plan j e ends.planned a.many a.lawful ends.lawful;
+        noted = ap (λ (ns : List _). ns ++ note ∷ []) a.noted ∙ ap (λ n. map noted_of (take k (plans s)) ++ n ∷ []) ends.noted ∙ sym (notes_more s k ends.plan ends.planned)
+            ∙ ap (λ n. map noted_of (take n (plans s))) (sym many);
+        few = omega (arith, many, all);
+        seen = ap (map frame_seen) ends.gives ∙ a.seen ∙ ap (scene_frames s) (sym front);
+        whole = λ z. absurd cc;
+      }
+
+-- the frames ended so far, where no other does
+pub so_far : (s : Scene) (k : ℕ) (given : List Frame) (j : Journal) (notes : List (ℕ × ℕ)) (is_whole : Bool) → (is_whole ≡ true → k ≡ length s.frames) → AreGiven s k given j notes → AreEnded s given j notes is_whole
+so_far s k given j notes is_whole whole a =
+    let same : length given ≡ length j = a.all ∙ sym a.many in
+    record {
+      lawful = a.lawful;
+      noted = a.noted ∙ ap (λ n. map noted_of (take n (plans s))) (sym a.many);
+      few = omega (arith, same);
+      seen = a.seen ∙ ap (scene_frames s) (sym (ap (λ n. take n j) same ∙ take_all (length j) j (omega arith)));
+      whole = λ e. a.all ∙ whole e;
+    }
+
+-- ---- outcomes
+
+then_shown : (o : Outcome) → outcome_then o outcomes.Shown ≡ o
+then_shown outcomes.Shown = refl
+then_shown outcomes.PictureFault = refl
+then_shown outcomes.OutOfMemory = refl
+then_shown outcomes.Skipped = refl
+
+then_then : (o p q : Outcome) → outcome_then (outcome_then o p) q ≡ outcome_then o (outcome_then p q)
+then_then outcomes.Shown p q = refl
+then_then outcomes.PictureFault p q = refl
+then_then outcomes.OutOfMemory p q = refl
+then_then outcomes.Skipped p q = refl
+
+first_append : (xs ys : List RenderedFrame) → first_outcome (xs ++ ys) ≡ outcome_then (first_outcome xs) (first_outcome ys)
+first_append [] ys = refl
+first_append (x ∷ xs) ys = ap (outcome_then x.outcome) (first_append xs ys) ∙ sym (then_then x.outcome (first_outcome xs) (first_outcome ys))
+
+first_more : (xs : List RenderedFrame) (r : RenderedFrame) → first_outcome (xs ++ r ∷ []) ≡ outcome_then (first_outcome xs) r.outcome
+first_more xs r = first_append xs (r ∷ []) ∙ ap (outcome_then (first_outcome xs)) (then_shown r.outcome)
+
+-- when a frame came back, or none
+pub outcome_after : {L : Type 0} (note : Option BackNote) (old : ContextView L) (back : List RenderedFrame) → MakesWay note old back → first_outcome back ≡ first_after (first_outcome old.back) note
+outcome_after None old back m = ap first_outcome m.1
+outcome_after (Some n) old back m =
+    let b : IsBack n old.given old.back back = m.1 in
+    ap first_outcome b.oldest.back ∙ first_more old.back b.rendered ∙ ap (λ (x : BackNote). outcome_then (first_outcome old.back) x.outcome) (sym b.note)
+
+-- when all that were out came back, at most three
+pub outcome_closed : (first second third : Option BackNote) (back came all : List RenderedFrame) → length came ≤ 3 → all ≡ back ++ came → first ∷ second ∷ third ∷ [] ≡ notes_of came
+    → first_outcome all ≡ first_after (first_after (first_after (first_outcome back) first) second) third
+outcome_closed first second third back came all few is notes = ap first_outcome is ∙ first_append back came ∙ by came few notes where
+  o : Outcome
+  o = first_outcome back
+
+  told : List (Option BackNote) → Outcome
+  told (a ∷ b ∷ c ∷ rest) = first_after (first_after (first_after o a) b) c
+  told _ = o
+
+  by : (came : List RenderedFrame) → length came ≤ 3 → first ∷ second ∷ third ∷ [] ≡ notes_of came → outcome_then o (first_outcome came) ≡ first_after (first_after (first_after o first) second) third
+  by [] few e = then_shown o ∙ sym (ap told e)
+  by (a ∷ []) few e = ap (outcome_then o) (then_shown a.outcome) ∙ sym (ap told e)
+  by (a ∷ b ∷ []) few e = ap (λ x. outcome_then o (outcome_then a.outcome x)) (then_shown b.outcome) ∙ sym (then_then o a.outcome b.outcome) ∙ sym (ap told e)
+  by (a ∷ b ∷ c ∷ []) few e =
+      ap (λ x. outcome_then o (outcome_then a.outcome (outcome_then b.outcome x))) (then_shown c.outcome)
+      ∙ sym (then_then o a.outcome (outcome_then b.outcome c.outcome)) ∙ sym (then_then (outcome_then o a.outcome) b.outcome c.outcome) ∙ sym (ap told e)
+  by (a ∷ b ∷ c ∷ d ∷ rest) few e = absurd (omega (arith, few))
