@@ -11,7 +11,7 @@ pub const MOST_COMMAND_BYTES: u32 = 33;
 
 /// What is done to the thing of an index. Kinds, formats and program kinds are given by their numbers, and a
 /// payload by its place in the frame's list of payloads, from 0.
-#[derive(Clone, Copy, Debug)]
+#[derive(Clone, Copy, PartialEq, Debug)]
 pub enum Command {
     CreateLayout {
         index: u16,

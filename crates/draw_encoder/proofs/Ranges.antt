@@ -8,7 +8,7 @@ use Rattle.gfx_model.specs.World as world
 use Rattle.gfx_model.specs.Words.{Handle}
 use Rattle.gfx_model.specs.Recorder as calls
 use Rattle.gfx_words.specs.Seen.{value_seen}
-use Rattle.draw_encoder.specs.declared.items.Room.{Room}
+use Rattle.gfx_words.specs.declared.rooms.Room.{Room}
 use Rattle.draw_encoder.specs.declared.items.VertexSet.{VertexSet}
 use Rattle.draw_encoder.specs.declared.items.VertexSet.TheVariants as vertices
 use Rattle.draw_encoder.specs.declared.items.IndexSet.{IndexSet}

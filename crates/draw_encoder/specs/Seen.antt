@@ -1,10 +1,9 @@
 -- The crate's types as the definitions see them: bytes and values in place of ranges.
 use Rattle.std.specs.Prelude.{ℕ, ◌+◌, ◌≤◌, List, take, drop, map, ⊤}
 use Rattle.gfx_model.specs.World as world
-use Rattle.gfx_model.specs.Recorder as recorder
 use Rattle.gfx_words.specs.Seen.{value_seen}
+pub use Rattle.gfx_words.specs.Seen.{room_seen}
 use Rattle.fix_math.specs.Seen.{rect_seen, affine_seen}
-use Rattle.draw_encoder.specs.declared.items.Room.{Room}
 use Rattle.draw_encoder.specs.declared.items.VertexSet.{VertexSet}
 use Rattle.draw_encoder.specs.declared.items.VertexSet.TheVariants as vertices
 use Rattle.draw_encoder.specs.declared.items.IndexSet.{IndexSet}
@@ -16,9 +15,6 @@ use Rattle.draw_encoder.specs.declared.items.BlitCall.{BlitCall}
 use Rattle.draw_encoder.specs.declared.items.BlitItem.{BlitItem}
 use Rattle.draw_encoder.specs.declared.items.Item.{Item}
 use Rattle.draw_encoder.specs.declared.items.Item.TheVariants as kinds
-
-abbrev pub room_seen : Room → recorder.Room
-room_seen r = record { items = r.items; bytes = r.bytes; uniforms = r.uniforms }
 
 -- the elements of a range: as many as `count` from the place `at` on
 abbrev pub part : {A : Type 0} → List A → ℕ → ℕ → List A

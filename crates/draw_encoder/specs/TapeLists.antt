@@ -1,7 +1,7 @@
 -- What is recorded, by its lists.
 use Rattle.std.specs.Prelude.{ℕ, ◌≤◌, List, drop, length}
 use Rattle.std.specs.List.{AllByRecursion}
-use Rattle.draw_encoder.specs.declared.items.Room.{Room}
+use Rattle.gfx_words.specs.declared.rooms.Room.{Room}
 use Rattle.draw_encoder.specs.declared.items.Item.{Item}
 use Rattle.draw_encoder.specs.declared.items.UniformSet.{UniformSet}
 use Rattle.draw_encoder.specs.declared.states.DrawState.{DrawState}

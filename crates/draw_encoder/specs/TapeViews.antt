@@ -3,7 +3,7 @@ use Rattle.std.specs.Prelude.{◌≡◌, ℕ, ◌≤◌, List, [], ◌∷◌, �
 use Rattle.std.specs.List.{AllByRecursion}
 use Rattle.gfx_model.specs.World.{UniformSet}
 use Rattle.gfx_model.specs.Recorder.{Recorder, EncoderCall, Room as ModelRoom, begun, after}
-use Rattle.draw_encoder.specs.declared.items.Room.{Room}
+use Rattle.gfx_words.specs.declared.rooms.Room.{Room}
 use Rattle.draw_encoder.specs.declared.items.Recording.{Recording}
 use Rattle.draw_encoder.specs.Seen.{items_seen, uniforms_seen, numbers_of, HasRangesWithin}
 

@@ -9,12 +9,12 @@ ghost use Rattle.draw_encoder.specs.TapeViews.{IsRoom};
 ghost use Rattle.draw_encoder.specs.Calls.{EncoderView, Answers};
 
 use crate::bundle::Bundle;
-use crate::items::{BlitCall, Room};
+use crate::items::BlitCall;
 use crate::naming::Naming;
 use crate::recorder::Recorder;
 use crate::shared::Shared;
 use fix_math::{Affine, Rect};
-use gfx_words::{Handle, Refusal, UniformValue};
+use gfx_words::{Handle, Refusal, Room, UniformValue};
 use hold_table::EncSeat;
 use std::alloc::Global;
 use std::marker::{Model, PhantomData};

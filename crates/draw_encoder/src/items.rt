@@ -3,14 +3,6 @@ use crate::lists::{Bytes, Items, UniformSets};
 use fix_math::{Affine, Rect};
 use gfx_words::{Handle, StateWord, StencilWord, UniformValue};
 
-/// How much an encoder has room for: 1 to 8,191 items, 0 to 1,048,576 transient bytes, 0 to 8,191 uniform values.
-#[derive(Clone, Copy, Drop, PartialEq, Eq, Debug)]
-pub struct Room {
-    pub items: u32,
-    pub bytes: u32,
-    pub uniforms: u32,
-}
-
 /// The vertices of a draw: none, some of a vertex buffer, or a range of the recording's transient bytes.
 #[derive(Clone, Copy, Drop, PartialEq, Eq, Debug)]
 pub enum VertexSet {

@@ -15,8 +15,9 @@ mod tape;
 
 pub use bundle::Bundle;
 pub use encoder::Encoder;
+pub use gfx_words::Room;
 pub use items::{
-    BlitCall, BlitItem, DrawItem, IndexSet, Item, Recording, Room, TouchItem, UniformSet, VertexSet,
+    BlitCall, BlitItem, DrawItem, IndexSet, Item, Recording, TouchItem, UniformSet, VertexSet,
 };
 pub use lists::{Bytes, Items, UniformSets};
 pub use naming::Naming;

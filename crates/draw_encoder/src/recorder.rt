@@ -15,10 +15,10 @@ ghost use Rattle.draw_encoder.specs.Calls.{Answers};
 use crate::handles::{
     differ_in_format, is_no_blit_destination, is_no_color_texture, is_no_uniform_for, is_not_of,
 };
-use crate::items::{BlitCall, Recording, Room, UniformSet};
+use crate::items::{BlitCall, Recording, UniformSet};
 use crate::tape::Tape;
 use fix_math::{Affine, Rect};
-use gfx_words::{Handle, Kind, Refusal, StateWord, StencilWord, UniformValue};
+use gfx_words::{Handle, Kind, Refusal, Room, StateWord, StencilWord, UniformValue};
 use hold_table::{EncSeat, HoldTable};
 use std::alloc::Global;
 use std::marker::Model;

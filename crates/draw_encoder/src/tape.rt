@@ -7,12 +7,12 @@ ghost use Rattle.draw_encoder.specs.Seen.{room_seen, uniform_seen, copy_seen};
 ghost use Rattle.draw_encoder.specs.TapeViews.{new_tape, with_call, with_set, with_item, IsRoom, IsRecordingOf};
 
 use crate::items::{
-    BlitCall, BlitItem, IndexSet, Item, Recording, Room, TouchItem, UniformSet, VertexSet,
+    BlitCall, BlitItem, IndexSet, Item, Recording, TouchItem, UniformSet, VertexSet,
 };
 use crate::lists::{Bytes, Items, UniformSets, put_item};
 use crate::states::DrawState;
 use fix_math::{Affine, Rect};
-use gfx_words::{Handle, StateWord, StencilWord};
+use gfx_words::{Handle, Room, StateWord, StencilWord};
 use std::alloc::{AllocError, Global};
 use std::marker::Model;
 

@@ -12,7 +12,7 @@ use Rattle.schedule_model.specs.Held.{Ascends}
 use Rattle.draw_encoder.specs.declared.items.Item.{Item}
 use Rattle.draw_encoder.specs.declared.items.Recording.{Recording}
 use Rattle.draw_encoder.specs.Seen.{number_of, numbers_of}
-use Rattle.frame_record.specs.declared.entry.JournalEntry.{JournalEntry}
+use Rattle.gfx_words.specs.declared.journal.JournalEntry.{JournalEntry}
 use Rattle.frame_record.specs.Kept.{most_frame_items, numbers_in, IsKept}
 use Rattle.frame_record.specs.Seen.{entry_seen, numbered_seen, recorded_seen, recordings_seen}
 use Rattle.frame_record.proofs.EntryLaws.{length_entries}

@@ -17,7 +17,7 @@ use Rattle.view_table.specs.Order.{IsViewTable}
 use Rattle.draw_encoder.specs.declared.items.Item as items
 use Rattle.draw_encoder.specs.declared.items.Recording.{Recording}
 use Rattle.draw_encoder.specs.Seen.{item_seen}
-use Rattle.frame_record.specs.declared.entry.JournalEntry.{JournalEntry}
+use Rattle.gfx_words.specs.declared.journal.JournalEntry.{JournalEntry}
 use Rattle.frame_record.specs.declared.ordering.OrderedItem.{OrderedItem}
 use Rattle.frame_record.specs.Ordered.{keyed_of, key_or_none, one_or_none, position_of, position_in, AscendFrom, IsOfView, IsPlaced}
 use Rattle.frame_record.specs.Seen.{entry_seen, numbered_seen, recorded_seen, recordings_seen}

@@ -12,7 +12,7 @@ use Rattle.gfx_model.specs.Views.{Views, view_count, position_of_view}
 use Rattle.gfx_model.specs.World.{Item, Blit, draw_item, touch_item, blit_item, is_of_view, view_of_item, sorted_by_key}
 use Rattle.gfx_model.proofs.OrderedLaws.{Ascends, sorted-ascends}
 use Rattle.schedule_model.proofs.Lists.{all-append}
-use Rattle.frame_record.specs.declared.entry.JournalEntry.{JournalEntry}
+use Rattle.gfx_words.specs.declared.journal.JournalEntry.{JournalEntry}
 use Rattle.frame_record.specs.declared.placing.PlacedBlit.{PlacedBlit}
 use Rattle.frame_record.specs.Ordered.{AscendFrom}
 use Rattle.frame_record.specs.Placed.{placed_of, blit_position, position_of_blit, one_placed, blit_entries, items_in, IsBlitAt}

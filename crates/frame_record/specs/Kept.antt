@@ -6,7 +6,7 @@ use Rattle.gfx_model.specs.Frames.{collected, AreOfOwnEncoders, NumbersAscend}
 use Rattle.schedule_model.specs.Held.{Ascends, count_of}
 use Rattle.draw_encoder.specs.declared.items.Recording.{Recording}
 use Rattle.draw_encoder.specs.Seen.{numbers_of}
-use Rattle.frame_record.specs.declared.entry.JournalEntry.{JournalEntry}
+use Rattle.gfx_words.specs.declared.journal.JournalEntry.{JournalEntry}
 use Rattle.frame_record.specs.Seen.{entry_seen, recordings_seen}
 
 -- how many items a frame can have

@@ -5,10 +5,7 @@ use Rattle.gfx_model.specs.World.{Numbered}
 use Rattle.draw_encoder.specs.declared.items.Item.{Item}
 use Rattle.draw_encoder.specs.declared.items.Recording.{Recording}
 use Rattle.draw_encoder.specs.Seen.{item_seen, number_of}
-use Rattle.frame_record.specs.declared.entry.JournalEntry.{JournalEntry}
-
-abbrev pub entry_seen : JournalEntry → model.Entry
-entry_seen e = record { encoder = e.encoder; ordinal = e.ordinal }
+pub use Rattle.gfx_words.specs.Seen.{entry_seen}
 
 -- an item of a recording with the number that it drew
 abbrev pub numbered_seen : Recording → Item → Numbered

@@ -5,9 +5,9 @@ ghost use Rattle.gfx_model.specs.Frames.{collected, NumbersAscend};
 ghost use Rattle.frame_record.specs.Kept.{IsCollectable};
 ghost use Rattle.frame_record.specs.Seen.{entry_seen, recordings_seen};
 
-use crate::entry::JournalEntry;
 use crate::merging::{NumberedEntry, merged};
 use draw_encoder::Recording;
+use gfx_words::JournalEntry;
 use std::alloc::{AllocError, Global};
 
 // the entries without their numbers

@@ -2,9 +2,9 @@
 ghost use Rattle.std.specs.Prelude.{◌≡◌};
 ghost use Rattle.frame_record.specs.Kept.{IsKept};
 
-use crate::entry::JournalEntry;
 use cmd_buffer::CmdBytes;
 use draw_encoder::Recording;
+use gfx_words::JournalEntry;
 use view_table::ViewTable;
 
 /// How many items a frame has at most: 8,191 of each of eight encoders.

@@ -2,7 +2,6 @@
 #![tactic(auto)]
 
 mod collecting;
-mod entry;
 mod frame;
 mod link;
 mod merging;
@@ -10,8 +9,8 @@ mod ordering;
 mod placing;
 
 pub use collecting::collect;
-pub use entry::JournalEntry;
 pub use frame::{Frame, MOST_ITEMS, Outcome, RenderedFrame};
+pub use gfx_words::JournalEntry;
 pub use link::FrameLink;
 pub use ordering::{OrderedItem, end_of_run};
 pub use placing::{PlacedBlit, end_of_blits};

@@ -8,8 +8,8 @@ ghost use Rattle.frame_record.specs.Kept.{most_frame_items};
 ghost use Rattle.frame_record.specs.Merged.{pair_of, right_first};
 ghost use Rattle.frame_record.specs.Seen.{recorded_seen};
 
-use crate::entry::JournalEntry;
 use draw_encoder::{Item, Recording};
+use gfx_words::JournalEntry;
 use std::alloc::{AllocError, Global};
 
 /// An item's entry with its number.

@@ -12,10 +12,9 @@ ghost use Rattle.frame_record.specs.Kept.{most_frame_items};
 ghost use Rattle.frame_record.specs.Ordered.{keyed_of, position_of, key_or_none, one_or_none, AscendFrom, IsOfView, IsPlaced};
 ghost use Rattle.frame_record.specs.Seen.{entry_seen, recorded_seen, recordings_seen};
 
-use crate::entry::JournalEntry;
 use crate::frame::Frame;
 use draw_encoder::{DrawItem, Item, Recording, TouchItem};
-use gfx_words::Kind;
+use gfx_words::{JournalEntry, Kind};
 use sort_key::SortKey;
 use std::alloc::{AllocError, Global};
 use view_table::ViewTable;

@@ -9,10 +9,10 @@ ghost use Rattle.frame_record.specs.Placed.{placed_of, blit_position, position_o
 ghost use Rattle.frame_record.specs.Ordered.{AscendFrom};
 ghost use Rattle.frame_record.specs.Seen.{entry_seen, recordings_seen};
 
-use crate::entry::JournalEntry;
 use crate::frame::Frame;
 use crate::ordering::item_at;
 use draw_encoder::{Item, Recording};
+use gfx_words::JournalEntry;
 use std::alloc::{AllocError, Global};
 use view_table::ViewTable;
 

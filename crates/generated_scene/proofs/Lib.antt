@@ -1,1 +1,4 @@
 pub mod Grows
+pub mod Ranges
+pub mod Lines
+pub mod Readable

@@ -2,6 +2,7 @@
 #![tactic(auto)]
 
 mod frames;
+pub mod laws;
 mod squares;
 
 pub use frames::make_scene;

@@ -8,7 +8,7 @@ use Rattle.schedule_model.specs.Held.{count_of, Ascends}
 use Rattle.hold_table.specs.Views.{SeatView}
 use Rattle.draw_encoder.specs.declared.items.Recording.{Recording}
 use Rattle.draw_encoder.specs.Seen.{numbers_of}
-use Rattle.frame_record.specs.declared.entry.JournalEntry.{JournalEntry}
+use Rattle.gfx_words.specs.declared.journal.JournalEntry.{JournalEntry}
 use Rattle.frame_record.specs.Kept.{IsKept, IsCollectable}
 use Rattle.frame_record.specs.Seen.{entry_seen, recordings_seen}
 use Rattle.frame_record.proofs.KeptLaws.{all_ascend}

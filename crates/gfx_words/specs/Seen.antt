@@ -1,9 +1,21 @@
 -- The crate's types as the definitions see them.
 use Rattle.std.specs.Prelude.{ℕ, ◌≡◌, Option, Some, None, Result, Err, MatchOption, IfSome}
 use Rattle.gfx_model.specs.Resources as model
+use Rattle.gfx_model.specs.Recorder as recorder
+use Rattle.gfx_model.specs.Frames as frames
+use Rattle.gfx_words.specs.declared.rooms.Room.{Room}
+use Rattle.gfx_words.specs.declared.journal.JournalEntry.{JournalEntry}
 use Rattle.gfx_words.specs.declared.refusals.Refusal.{Refusal}
 use Rattle.gfx_words.specs.declared.refusals.Refusal.TheVariants as refusals
 pub use Rattle.gfx_words.specs.Kinds.{kind_seen, format_seen, program_seen, uniform_seen, value_seen, mode_seen, info_seen}
+
+-- a room with as many items, bytes and uniform values
+abbrev pub room_seen : Room → recorder.Room
+room_seen r = record { items = r.items; bytes = r.bytes; uniforms = r.uniforms }
+
+-- an entry of the same encoder and ordinal
+abbrev pub entry_seen : JournalEntry → frames.Entry
+entry_seen e = record { encoder = e.encoder; ordinal = e.ordinal }
 
 -- the refusal of the definitions; want of memory is none of theirs
 abbrev pub refusal_seen : Refusal → Option model.Refusal

@@ -1,17 +1,20 @@
-//! The words of the drawing interface: kinds and handles of things, state, stencil and place words, flags and refusals.
+//! The words of the drawing interface: kinds and handles of things, state, stencil and place words, flags, refusals, rooms and journal entries.
 #![tactic(auto)]
 
 mod flags;
 mod handles;
+mod journal;
 mod kinds;
 mod names;
 mod places;
 mod refusals;
+mod rooms;
 mod states;
 mod stencils;
 
 pub use flags::{ClearFlags, DiscardFlags};
 pub use handles::Handle;
+pub use journal::JournalEntry;
 pub use kinds::{
     FEWEST_VIEWS, Format, Info, Kind, MOST_VIEWS, ProgramKind, UniformKind, UniformValue, ViewMode,
     view_counts,
@@ -19,6 +22,7 @@ pub use kinds::{
 pub use names::{HandleName, one_word_one_name};
 pub use places::PlaceWord;
 pub use refusals::Refusal;
+pub use rooms::Room;
 pub use states::StateWord;
 pub use stencils::StencilWord;
 

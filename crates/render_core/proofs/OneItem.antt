@@ -6,7 +6,7 @@ use Rattle.schedule_model.specs.Held.{Ascends, count_of}
 use Rattle.draw_encoder.specs.declared.items.Item.{Item}
 use Rattle.draw_encoder.specs.declared.items.Recording.{Recording}
 use Rattle.draw_encoder.specs.Seen.{number_of, numbers_of}
-use Rattle.frame_record.specs.declared.entry.JournalEntry.{JournalEntry}
+use Rattle.gfx_words.specs.declared.journal.JournalEntry.{JournalEntry}
 use Rattle.frame_record.specs.Kept.{IsKept, IsCollectable, numbers_in}
 use Rattle.frame_record.specs.Seen.{entry_seen, recordings_seen}
 use Rattle.frame_record.proofs.Apart.{count_most}

@@ -8,7 +8,7 @@ use Rattle.std.proofs.lemmas.List.Sums.{sum_by-cons}
 use Rattle.scene_model.specs.Fold.{Accepted, FramePlan}
 use Rattle.scene_model.specs.Journal as model
 use Rattle.scene_model.specs.Journal.{Entry, Journal, ordinals_of, item_count, fault_in_frame, fault_of_frames, fault_place}
-use Rattle.scene_text.specs.declared.journal.JournalEntry.{JournalEntry}
+use Rattle.gfx_words.specs.declared.journal.JournalEntry.{JournalEntry}
 use Rattle.scene_text.specs.Seen.{entry_seen}
 use Rattle.scene_text.specs.Journals.{entry_count, counts_in, counts_of, has_item, can_stand, fault_in, fault_from}
 

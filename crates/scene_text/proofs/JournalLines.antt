@@ -13,7 +13,7 @@ use Rattle.scene_model.specs.Grammar.{is_skipped}
 use Rattle.scene_model.specs.Journal.{Entry, Journal}
 use Rattle.scene_model.specs.JournalText.{number_within, entry_from, entry_of_pieces, entry_field, EntriesRead, entries_onto, entries_in, entries_behind, entries_of_line, with_first, after_line, at_last_piece, journal_pieces, journal_of, greatest_encoder, greatest_ordinal}
 use Rattle.scene_model.specs.TextLaws.{IsSpellable}
-use Rattle.scene_text.specs.declared.journal.JournalEntry.{JournalEntry}
+use Rattle.gfx_words.specs.declared.journal.JournalEntry.{JournalEntry}
 use Rattle.scene_text.specs.Seen.{entry_seen}
 use Rattle.scene_text.specs.declared.journal.JournalFault.{JournalFault}
 use Rattle.scene_text.specs.Fields.{texts}

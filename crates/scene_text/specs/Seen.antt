@@ -2,18 +2,17 @@
 use Rattle.std.specs.Prelude.{ℕ, List, map}
 use Rattle.gfx_model.specs.Vertex as vertex
 use Rattle.gfx_model.specs.Resources as texels
-use Rattle.gfx_model.specs.Recorder as recorder
 use Rattle.scene_model.specs.Scene as model
 use Rattle.scene_model.specs.Journal as journals
 use Rattle.gfx_words.specs.Kinds.{format_seen, program_seen, uniform_seen, value_seen, mode_seen}
 use Rattle.fix_math.specs.Seen.{rect_seen, affine_seen}
 use Rattle.vertex_layout.specs.Kinds.{attribute_seen, component_seen}
+pub use Rattle.gfx_words.specs.Seen.{room_seen, entry_seen}
 pub use Rattle.view_table.specs.Seen.{clear_seen}
 use Rattle.scene_text.specs.declared.scene.LayoutPart.{LayoutPart}
 use Rattle.scene_text.specs.declared.scene.LayoutPart.TheVariants as parts
 use Rattle.scene_text.specs.declared.scene.TexSource.{TexSource}
 use Rattle.scene_text.specs.declared.scene.TexSource.TheVariants as sources
-use Rattle.scene_text.specs.declared.scene.Room.{Room}
 use Rattle.scene_text.specs.declared.scene.ResLine.{ResLine}
 use Rattle.scene_text.specs.declared.scene.ResLine.TheVariants as resources
 use Rattle.scene_text.specs.declared.scene.EncLine.{EncLine}
@@ -22,11 +21,7 @@ use Rattle.scene_text.specs.declared.scene.EncBlock.{EncBlock}
 use Rattle.scene_text.specs.declared.scene.SceneFrame.{SceneFrame}
 use Rattle.scene_text.specs.declared.scene.SceneName.{SceneName}
 use Rattle.scene_text.specs.declared.scene.Scene.{Scene}
-use Rattle.scene_text.specs.declared.journal.JournalEntry.{JournalEntry}
 use Rattle.scene_text.specs.declared.journal.Journal.{Journal}
-
-abbrev pub room_seen : Room → recorder.Room
-room_seen r = record { items = r.items; bytes = r.bytes; uniforms = r.uniforms }
 
 abbrev pub part_seen : LayoutPart → vertex.LayoutPart
 part_seen (parts.Attribute attr kind count) = vertex.attribute_part (attribute_seen attr) (component_seen kind) count
@@ -92,9 +87,6 @@ scene_seen s = record {
   names = map name_seen s.names;
   frames = map frame_seen s.frames;
 }
-
-abbrev pub entry_seen : JournalEntry → journals.Entry
-entry_seen e = record { encoder = e.encoder; ordinal = e.ordinal }
 
 abbrev pub journal_seen : Journal → journals.Journal
 journal_seen j = map (map entry_seen) j.frames

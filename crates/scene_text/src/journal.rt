@@ -1,14 +1,8 @@
 // Which items a frame has, in the order of their numbers.
 
 use crate::sequence::Sequence;
+use gfx_words::JournalEntry;
 use std::alloc::{AllocError, AllocFailed};
-
-/// An item: the number of its encoder, and its place among that encoder's accepted items, from 0.
-#[derive(Clone, Copy, Debug, PartialEq, Eq, Drop)]
-pub struct JournalEntry {
-    pub encoder: u8,
-    pub ordinal: u32,
-}
 
 /// The items of each frame, in the order of the numbers that they were given.
 #[derive(Debug, Drop)]

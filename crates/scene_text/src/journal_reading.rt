@@ -8,12 +8,13 @@ ghost use Rattle.scene_text.specs.Fields.{texts};
 ghost use Rattle.scene_text.specs.Seen.{entry_seen, journal_seen};
 ghost use Rattle.scene_text.specs.Journals.{ReadsJournal, Passes, entry_count, behind_frames, entries_seen, frames_read, IsOnePiece};
 
-use crate::journal::{Journal, JournalEntry, JournalFault};
+use crate::journal::{Journal, JournalFault};
 use crate::numbers::{is_numeral, value_to};
 use crate::reading::is_skipped;
 use crate::sequence::Sequence;
 use crate::splitting::{find, split_fields};
 use crate::words::is;
+use gfx_words::JournalEntry;
 use std::alloc::{AllocError, Global};
 
 /// The entries of a line up to the first field that is none, and whether there is no such field.

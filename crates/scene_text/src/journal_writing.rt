@@ -6,9 +6,10 @@ ghost use Rattle.scene_model.specs.TextLaws.{IsSpellable};
 ghost use Rattle.scene_model.specs.Output.{entry_text, journal_line, journal_text};
 ghost use Rattle.scene_text.specs.Seen.{entry_seen, journal_seen};
 
-use crate::journal::{Journal, JournalEntry};
+use crate::journal::Journal;
 use crate::sequence::Sequence;
 use crate::spelled::put_number;
+use gfx_words::JournalEntry;
 use std::alloc::{AllocError, Global};
 
 fn put_entry(text: &mut Vec<u8>, entry: JournalEntry) -> Result<(), AllocError>

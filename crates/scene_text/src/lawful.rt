@@ -5,8 +5,9 @@ ghost use Rattle.scene_model.specs.Journal as model;
 ghost use Rattle.scene_text.specs.Journals.{counts_of, entry_count, has_item, fault_in, fault_from};
 ghost use Rattle.scene_text.specs.Seen.{entry_seen, journal_seen};
 
-use crate::journal::{Journal, JournalEntry};
+use crate::journal::Journal;
 use crate::sequence::Sequence;
+use gfx_words::JournalEntry;
 
 /// Whether a number is the sum of others.
 fn is_sum(number: usize, parts: &[u32]) -> bool

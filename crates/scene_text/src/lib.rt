@@ -34,13 +34,12 @@ mod write_resource_lines;
 
 pub use fault::SceneFault;
 pub use front::read_front;
-pub use journal::{Journal, JournalEntry, JournalFault};
+pub use gfx_words::{JournalEntry, Room};
+pub use journal::{Journal, JournalFault};
 pub use journal_reading::read_journal;
 pub use journal_writing::write_journal;
 pub use lawful::fault_place;
-pub use scene::{
-    EncBlock, EncLine, LayoutPart, ResLine, Room, Scene, SceneFrame, SceneName, TexSource,
-};
+pub use scene::{EncBlock, EncLine, LayoutPart, ResLine, Scene, SceneFrame, SceneName, TexSource};
 pub use scene_writing::write;
 pub use sequence::Sequence;
 pub use text::read;

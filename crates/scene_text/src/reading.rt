@@ -19,10 +19,11 @@ use crate::frames::{add_before, add_beside, add_block, add_encoder_line, add_fra
 use crate::names::Names;
 use crate::numbers::{is_numeral, number, u8_number, value_to};
 use crate::resource_lines::resource_line;
-use crate::scene::{ResLine, Room, SceneFrame};
+use crate::scene::{ResLine, SceneFrame};
 use crate::splitting::split_fields;
 use crate::stages::{Stage, can_stand};
 use crate::words::{Word, is, line_word};
+use gfx_words::Room;
 use std::alloc::{AllocError, Global};
 
 /// The newest version of scenes that is read.

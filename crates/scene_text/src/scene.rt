@@ -2,17 +2,9 @@
 
 use crate::sequence::Sequence;
 use fix_math::{Affine, Rect};
-use gfx_words::{Format, ProgramKind, UniformKind, UniformValue, ViewMode};
+use gfx_words::{Format, ProgramKind, Room, UniformKind, UniformValue, ViewMode};
 use vertex_layout::{Attr, AttrType};
 use view_table::Clear;
-
-/// How much an encoder records in a frame: items, transient bytes and uniform values.
-#[derive(Clone, Copy, Debug, PartialEq, Eq, Drop)]
-pub struct Room {
-    pub items: u32,
-    pub bytes: u32,
-    pub uniforms: u32,
-}
 
 /// A part of a vertex: an attribute of one to four components, or bytes that are skipped.
 #[derive(Clone, Copy, Debug, PartialEq, Eq, Drop)]

@@ -9,10 +9,11 @@ ghost use Rattle.scene_text.specs.Seen.{name_seen, scene_seen};
 ghost use Rattle.scene_text.specs.WrittenParts.{resource_text, encoder_text, block_text, beside_text, frame_text};
 
 use crate::reading::says_latency;
-use crate::scene::{EncBlock, EncLine, ResLine, Room, Scene, SceneFrame, SceneName};
+use crate::scene::{EncBlock, EncLine, ResLine, Scene, SceneFrame, SceneName};
 use crate::spelled::{Spelled, put_line};
 use crate::write_encoder_lines::put_encoder_line;
 use crate::write_resource_lines::put_resource_line;
+use gfx_words::Room;
 use std::alloc::{AllocError, Global};
 
 fn put_resource_lines<'a>(

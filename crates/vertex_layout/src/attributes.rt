@@ -93,7 +93,7 @@ const BLANK: PlacedAttr = PlacedAttr {
 };
 
 /// Attributes in order, of one to four components each, none of them twice. It takes no memory.
-#[derive(Clone, Copy, Debug)]
+#[derive(Clone, Copy, PartialEq, Debug)]
 pub struct AttrList {
     slots: [PlacedAttr; 7],
     count: u8,

@@ -13,7 +13,7 @@ use std::marker::Model;
 
 /// The attributes of a vertex with their places, and the bytes from one vertex to the next, 1 to 255.
 /// It takes no memory of its own.
-#[derive(Clone, Copy, Debug)]
+#[derive(Clone, Copy, PartialEq, Debug)]
 pub struct VertexLayout {
     attributes: AttrList,
     stride: u8,

@@ -1,5 +1,5 @@
 use Rattle.std.proofs.Common.{ap, sym, slice_index_or, ◌∙◌, ◌++◌, map}
-use Rattle.frame_record.specs.declared.entry.JournalEntry.{JournalEntry}
+use Rattle.gfx_words.specs.declared.journal.JournalEntry.{JournalEntry}
 use Rattle.frame_record.specs.Ordered.{keyed_of, one_or_none, IsPlaced}
 use Rattle.frame_record.specs.Seen.{entry_seen, recordings_seen}
 use Rattle.frame_record.proofs.KeyLaws.{keyed_more, placed_more}

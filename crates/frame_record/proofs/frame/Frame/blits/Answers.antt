@@ -1,7 +1,7 @@
 use Rattle.std.proofs.Common.{List, ap, ◌∙◌, map}
 use Rattle.gfx_model.specs.World.{sorted_by_key}
 use Rattle.draw_encoder.specs.declared.items.Recording.{Recording}
-use Rattle.frame_record.specs.declared.entry.JournalEntry.{JournalEntry}
+use Rattle.gfx_words.specs.declared.journal.JournalEntry.{JournalEntry}
 use Rattle.frame_record.specs.Placed.{placed_of, blit_entries}
 use Rattle.frame_record.specs.Seen.{entry_seen, recordings_seen}
 use Rattle.frame_record.proofs.PlaceLaws.{places_ascend, places_placed}
