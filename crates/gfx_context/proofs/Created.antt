@@ -1,5 +1,5 @@
 -- What an accepted create tells.
-use Rattle.std.proofs.Common.{◌≡◌, ℕ, ◌+◌, ◌<◌, ◌≤◌, Bool, true, false, List, [], ◌∷◌, ◌++◌, map, length, Option, Some, None, if◌then◌else◌, refl, sym, ap, ◌∙◌, subst, arith}
+use Rattle.std.proofs.Common.{◌≡◌, ℕ, ◌+◌, ◌<◌, ◌≤◌, Bool, true, false, List, [], ◌∷◌, ◌++◌, map, length, Option, Some, None, if◌then◌else◌, inl, refl, sym, ap, ◌∙◌, subst, arith}
 use Rattle.std.specs.List.{AllByRecursion}
 use Rattle.std.proofs.lemmas.Option.{same_Some, none-some}
 use Rattle.gfx_model.specs.Words.{Kind, layout_kind, vertex_buffer_kind, index_buffer_kind, texture_kind, frame_buffer_kind, program_kind, uniform_kind, Info, plain, texture_info, uniform_info, Handle, Format, ProgramKind, UniformKind, first_place, place_of_handle}
@@ -12,7 +12,7 @@ use Rattle.resource_laws.specs.Bare.{bare_of}
 use Rattle.resource_laws.specs.Lawful.{IsLawful}
 use Rattle.resource_laws.proofs.CallLaws.{all_passed}
 use Rattle.resource_book.specs.Written.{BookView, after_in}
-use Rattle.gfx_context.specs.Kept.{IsTied, AreTargets, IsContext}
+use Rattle.gfx_context.specs.Kept.{IsTied, IsNext, AreTargets, IsContext}
 use Rattle.gfx_model.specs.Views.{View}
 use Rattle.gfx_context.proofs.Targets.{targets_stay}
 use Rattle.gfx_context.specs.States.{ContextView}
@@ -73,6 +73,10 @@ module _ {r : Resources} {e : Effect} {h : Handle} (m : IsMake r e h) where
       (λ j. (bare_of (sym m.is j).after, created (sym place_is j) (sym (ap (λ (g : Handle). g.serial) m.handle) j) seat))
       (tied_made m.kind r l m.some m.serial seat t m.info m.content)
 
+  -- the next serial is one more than the thing's
+  next_made : (first : ℕ) → IsNext (bare_of e.after).next_serial h.serial first
+  next_made first = inl (ap (λ (x : Effect). x.after.next_serial) m.is ∙ (let s = ap (λ (g : Handle). g.serial) m.handle in omega (arith, s)))
+
 -- a create of a new thing
 pub kept_made : {L : Type 0} (admits : ℕ → ℕ → List Item → ℕ → Type 0) (views : ℕ) (v : ContextView L) (c : ResourceCall) (h : Handle) → IsContext admits views v → IsLawful v.book.resources → IsMake v.book.resources (effect v.book.resources c) h
     → IsContext admits views (record v { book = after_in c (Some h) v.book; seat = created (place_of_handle h) h.serial v.seat })
@@ -81,7 +85,7 @@ kept_made admits views v c h k l m =
     let stays = λ (n : ℕ). stays_unnamed v.seat.places (place_of_handle h) (Rattle.schedule_model.specs.Machine.live h.serial) n (free_unnamed n (place_at v.seat.places (place_of_handle h)) (place_was_free m v.seat l k.tied)) in
     kept_moved admits views v k (after_in c (Some h) v.book) (Rattle.std.proofs.Common.slice_set v.seat.places (place_of_handle h) (Rattle.schedule_model.specs.Machine.live h.serial)) h.serial
     (λ n le. stays_unnamed v.seat.places (place_of_handle h) (Rattle.schedule_model.specs.Machine.live h.serial) n (free_unnamed n (place_at v.seat.places (place_of_handle h)) (place_was_free m v.seat l k.tied)))
-    (tied_after m v.seat l k.tied) same.0 same.1
+    (tied_after m v.seat l k.tied) (next_made m v.first) same.0 same.1
     (subst (λ (xs : List View). AreTargets v.seat.frame (Rattle.std.proofs.Common.slice_set v.seat.places (place_of_handle h) (Rattle.schedule_model.specs.Machine.live h.serial)) xs) (sym (ap (λ (e : Effect). e.after.views.settings) m.is))
     (targets_stay v.seat.frame v.seat.places (Rattle.std.proofs.Common.slice_set v.seat.places (place_of_handle h) (Rattle.schedule_model.specs.Machine.live h.serial)) (stays v.seat.frame) v.book.resources.views.settings k.targets))
 

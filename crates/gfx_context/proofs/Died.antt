@@ -129,14 +129,14 @@ after_death b v h = record v {
 module _ {L : Type 0} (admits : ℕ → ℕ → List Item → ℕ → Type 0) (views_count : ℕ) (v : ContextView L) (h : Handle) (t : Thing) (k : IsContext admits views_count v) (l : IsLawful v.book.resources) (lt : h.index < greatest h.kind)
     (live : HasLiveThing h v.book.resources.things t) where
   kept_by : (b : Bool) → IsContext admits views_count (after_death b v h)
-  kept_by true = kept_same admits views_count v k (after_death true v h).book (tied_referred (λ n. n - 1) h.serial v.book.resources v.seat l k.tied) refl refl k.targets
+  kept_by true = kept_same admits views_count v k (after_death true v h).book (tied_referred (λ n. n - 1) h.serial v.book.resources v.seat l k.tied) refl refl refl k.targets
   kept_by false =
       let many : place_of_handle h < length v.seat.places = (let m = k.tied.many in let p = place_below h.kind h.index lt in omega arith) in
       let stays = λ (n : ℕ) (le : n ≤ v.seat.frame). stays_named v.seat.places (place_of_handle h) (dying h.serial v.seat.frame) n many
       (dying_named n v.seat.frame h.serial (place_at v.seat.places (place_of_handle h)) (place_is_live v.book.resources v.seat h t l k.tied lt live) le) in
       kept_moved admits views_count v k (after_death false v h).book (slice_set v.seat.places (place_of_handle h) (dying h.serial v.seat.frame)) v.seat.greatest
       stays
-      (tied_died v.book.resources v.seat h t l k.tied lt live) refl refl
+      (tied_died v.book.resources v.seat h t l k.tied lt live) k.newest refl refl
       (targets_stay v.seat.frame v.seat.places (slice_set v.seat.places (place_of_handle h) (dying h.serial v.seat.frame)) (stays v.seat.frame (omega arith)) v.book.resources.views.settings k.targets)
 
   pub kept_destroyed : IsContext admits views_count (destroyed h v)

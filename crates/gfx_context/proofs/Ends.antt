@@ -14,7 +14,7 @@ use Rattle.frame_record.specs.Links.{CameBack}
 use Rattle.resource_book.specs.Written.{BookView}
 use Rattle.gfx_context.specs.Places.{Stays}
 use Rattle.gfx_context.specs.Gathered.{AreCollected, AreGathered, once_below, with_gathered}
-use Rattle.gfx_context.specs.Kept.{IsTied, AreOut, AreTargets, IsContext}
+use Rattle.gfx_context.specs.Kept.{IsTied, IsNext, AreOut, AreTargets, IsContext}
 use Rattle.gfx_model.specs.Views.{View}
 use Rattle.resource_laws.specs.Lawful.{IsLawful}
 use Rattle.gfx_context.proofs.Targets.{targets_stay, live_targets}
@@ -38,6 +38,7 @@ module _ {L : Type 0} (admits : ℕ → ℕ → List Item → ℕ → Type 0) (v
   pub kept_collected : (s : SeatView) (rs : List Recording) → s ≡ with_gathered s v.seat → AreGathered admits views s v.begun rs → IsContext admits views (record v { seat = s; gathered = rs })
   kept_collected s rs e g = record {
     tied = tied_seat v.book.resources s v.seat e k.tied;
+    newest = subst (λ (x : SeatView). IsNext v.book.resources.next_serial x.greatest v.first) (sym e) k.newest;
     targets = subst (λ (x : SeatView). AreTargets x.frame x.places v.book.resources.views.settings) (sym e) k.targets;
     counted = k.counted;
     latency = k.latency;
@@ -51,6 +52,7 @@ module _ {L : Type 0} (admits : ℕ → ℕ → List Item → ℕ → Type 0) (v
       → IsContext admits views (record v { out = left; given = given; back = new; link = link })
   kept_back left given new r e same c link = record {
     tied = k.tied;
+    newest = k.newest;
     targets = k.targets;
     counted = k.counted;
     latency = k.latency;
@@ -100,6 +102,7 @@ module _ {L : Type 0} (admits : ℕ → ℕ → List Item → ℕ → Type 0) (v
       let frame : s.frame ≡ suc v.seat.frame = ap (λ (x : SeatView). x.frame) seat in
       record {
         tied = tied;
+        newest = subst (λ (p : ℕ × ℕ). IsNext p.0 p.1 v.first) (λ j. (sym (ap (λ (r : model.Resources). r.next_serial) resources) j, sym (ap (λ (x : SeatView). x.greatest) seat) j)) k.newest;
         targets = targets_next l frame (stays (suc v.seat.frame) (let e = k.tied.frame in let some = k.latency.0 in omega (arith, e, some)));
         counted = ap (λ (r : model.Resources). view_count r.views) resources ∙ length-map v.book.resources.views.settings (model.with_live_target v.book.resources) ∙ k.counted;
         latency = (subst (λ (n : ℕ). 1 ≤ n) (sym latency) k.latency.0, subst (λ (n : ℕ). n ≤ 3) (sym latency) k.latency.1);

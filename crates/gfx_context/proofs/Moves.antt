@@ -10,7 +10,7 @@ use Rattle.frame_record.specs.declared.frame.RenderedFrame.{RenderedFrame}
 use Rattle.frame_record.specs.Links.{out_of}
 use Rattle.resource_book.specs.Written.{BookView}
 use Rattle.gfx_context.specs.Gathered.{AreGathered}
-use Rattle.gfx_context.specs.Kept.{IsTied, AreOut, AreTargets, IsContext}
+use Rattle.gfx_context.specs.Kept.{IsTied, IsNext, AreOut, AreTargets, IsContext}
 use Rattle.gfx_context.specs.States.{ContextView}
 use Rattle.gfx_context.specs.Places.{Stays}
 use Rattle.gfx_context.proofs.Stays.{all_stay, frames_stay}
@@ -39,10 +39,11 @@ module _ (admits : ℕ → ℕ → List Item → ℕ → Type 0) (views : ℕ) w
 
   -- the places change, and what can be named stays so; the book changes, and agrees with the places
   pub kept_moved : {L : Type 0} (v : ContextView L) → IsContext admits views v → (b : BookView) (places : List Place) (greatest : ℕ) → ((n : ℕ) → n ≤ v.seat.frame → Stays n v.seat.places places)
-      → IsTied b.resources (record v.seat { places = places; greatest = greatest }) → view_count b.resources.views ≡ view_count v.book.resources.views → b.resources.latency ≡ v.book.resources.latency
+      → IsTied b.resources (record v.seat { places = places; greatest = greatest }) → IsNext b.resources.next_serial greatest v.first → view_count b.resources.views ≡ view_count v.book.resources.views → b.resources.latency ≡ v.book.resources.latency
       → AreTargets v.seat.frame places b.resources.views.settings → IsContext admits views (record v { book = b; seat = record v.seat { places = places; greatest = greatest } })
-  kept_moved v k b places greatest s tied vs latency targets = record {
+  kept_moved v k b places greatest s tied next vs latency targets = record {
     tied = tied;
+    newest = next;
     targets = targets;
     counted = vs ∙ k.counted;
     latency = (subst (λ (n : ℕ). 1 ≤ n) (sym latency) k.latency.0, subst (λ (n : ℕ). n ≤ 3) (sym latency) k.latency.1);
@@ -53,6 +54,7 @@ module _ (admits : ℕ → ℕ → List Item → ℕ → Type 0) (views : ℕ) w
   }
 
   -- the book alone changes
-  pub kept_same : {L : Type 0} (v : ContextView L) → IsContext admits views v → (b : BookView) → IsTied b.resources v.seat → view_count b.resources.views ≡ view_count v.book.resources.views
+  pub kept_same : {L : Type 0} (v : ContextView L) → IsContext admits views v → (b : BookView) → IsTied b.resources v.seat → b.resources.next_serial ≡ v.book.resources.next_serial → view_count b.resources.views ≡ view_count v.book.resources.views
       → b.resources.latency ≡ v.book.resources.latency → AreTargets v.seat.frame v.seat.places b.resources.views.settings → IsContext admits views (record v { book = b })
-  kept_same v k b tied vs latency targets = kept_moved v k b v.seat.places v.seat.greatest (λ n le h u. u) tied vs latency targets
+  kept_same v k b tied next vs latency targets =
+      kept_moved v k b v.seat.places v.seat.greatest (λ n le h u. u) tied (subst (λ (n : ℕ). IsNext n v.seat.greatest v.first) (sym next) k.newest) vs latency targets

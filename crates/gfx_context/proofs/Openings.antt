@@ -1,5 +1,5 @@
 -- What a new context keeps.
-use Rattle.std.proofs.Common.{◌≡◌, ℕ, zero, suc, ◌+◌, ◌<◌, ◌≤◌, List, [], ◌∷◌, ◌++◌, map, length, drop, replicate, false, refl, sym, ap, ◌∙◌, subst, arith, append-nil}
+use Rattle.std.proofs.Common.{◌≡◌, ℕ, zero, suc, ◌+◌, ◌<◌, ◌≤◌, List, [], ◌∷◌, ◌++◌, map, length, drop, replicate, false, inr, refl, sym, ap, ◌∙◌, subst, arith, append-nil}
 use Rattle.std.proofs.lemmas.List.{length-map, length-replicate, drop_all}
 use Rattle.gfx_model.specs.Words.{first_place}
 use Rattle.gfx_model.specs.Views.{plain_view}
@@ -32,6 +32,7 @@ new_context start given back link = record {
   gathered = [];
   out = 0;
   is_ended = false;
+  first = start.serial;
   given = given;
   back = back;
   link = link;
@@ -52,6 +53,7 @@ kept_new admits views start given back link frame serial counted some few none =
         frame = refl;
         most = frame;
       };
+      newest = inr (refl, refl);
       targets = new_targets start.frame (first_view start.frame).places start.views;
       counted = length-replicate start.views plain_view ∙ counted;
       latency = (some, few);

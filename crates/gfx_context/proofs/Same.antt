@@ -75,7 +75,7 @@ kept_quiet admits views v c k q passes =
       older = (let e = q.serial in let l = k.tied.older in omega arith);
       frame = q.frame ∙ k.tied.frame;
       most = k.tied.most;
-    }) same.0 same.1 (q.targets passes k.targets)
+    }) q.serial same.0 same.1 (q.targets passes k.targets)
 
 module _ {L : Type 0} {admits : ℕ → ℕ → List Item → ℕ → Type 0} {views : ℕ} {v : ContextView L} (k : IsContext admits views v) (c : ResourceCall) (q : IsQuiet v.seat v.book.resources c) (b : BookView) where
   after_call : refusal_of v.book.resources c ≡ None → b ≡ after_in c None v.book → IsContext admits views (record v { book = b })

@@ -83,7 +83,7 @@ module _ {L : Type 0} {admits : ℕ → ℕ → List Item → ℕ → Type 0} {v
         let same = same_after v.book.resources (create_uniform name kind) in
         subst (λ (p : BookView × SeatView). IsContext admits views (record v { book = p.0; seat = p.1 })) (λ j. (sym book j, sym (same_seat m) j))
         (kept_same admits views v k (after_in (create_uniform name kind) (Some h) v.book)
-        (subst (λ (r : Resources). IsTied (bare_of r) v.seat) (sym m.after) (tied_referred (λ n. n + 1) m.serial v.book.resources v.seat l k.tied)) same.0 same.1
+        (subst (λ (r : Resources). IsTied (bare_of r) v.seat) (sym m.after) (tied_referred (λ n. n + 1) m.serial v.book.resources v.seat l k.tied)) (ap (λ (r : Resources). r.next_serial) m.after) same.0 same.1
         (subst (λ (r : Resources). AreTargets v.seat.frame v.seat.places r.views.settings) (sym m.after) k.targets))
 
     kept_by : IsMake v.book.resources e h ⊎ IsReferred v.book.resources e → IsContext admits views (record v { book = b; seat = s })

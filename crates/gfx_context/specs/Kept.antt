@@ -1,5 +1,5 @@
 -- What every context keeps.
-use Rattle.std.specs.Prelude.{ℕ, ◌≡◌, ◌<◌, ◌≤◌, ◌+◌, ◌-◌, List, ◌++◌, map, length, Option, Some, None, IsTrue, ⊤}
+use Rattle.std.specs.Prelude.{ℕ, suc, ◌≡◌, ◌<◌, ◌≤◌, ◌+◌, ◌-◌, ◌⊎◌, List, ◌++◌, map, length, Option, Some, None, IsTrue, ⊤}
 use Rattle.std.specs.List.{AllByRecursion, range_with_len}
 use Rattle.gfx_model.specs.World.{Item}
 use Rattle.gfx_model.specs.Views.{View, view_count}
@@ -43,9 +43,14 @@ IsTarget frame places (Some h) = IsTrue (is_kind h.kind frame_buffer_kind) × Is
 abbrev pub AreTargets : ℕ → List Place → List View → Type 0
 AreTargets frame places vs = AllByRecursion (λ view. IsTarget frame places view.target) vs
 
+-- the next serial is one more than the greatest that was given, or none was given and it is the first
+abbrev pub IsNext : (next greatest first : ℕ) → Type 0
+IsNext next greatest first = (next ≡ suc greatest) ⊎ ((greatest ≡ 0) × (next ≡ first))
+
 -- what a context keeps
 pub record IsContext {L : Type 0} (admits : ℕ → ℕ → List Item → ℕ → Type 0) (views : ℕ) (v : ContextView L) : Type 0 where
   pub tied : IsTied v.book.resources v.seat
+  pub newest : IsNext v.book.resources.next_serial v.seat.greatest v.first
   pub targets : AreTargets v.seat.frame v.seat.places v.book.resources.views.settings
   pub counted : view_count v.book.resources.views ≡ views
   pub latency : (1 ≤ v.book.resources.latency) × (v.book.resources.latency ≤ 3)

@@ -1,5 +1,6 @@
 -- A context as the definitions see it.
-use Rattle.std.specs.Prelude.{ℕ, Bool, List}
+use Rattle.std.specs.Prelude.{ℕ, Bool, List, []}
+use Rattle.gfx_model.specs.Resources.{opening}
 use Rattle.gfx_model.specs.FrameCalls.{CallState}
 use Rattle.hold_table.specs.Views.{SeatView}
 use Rattle.draw_encoder.specs.declared.items.Recording.{Recording}
@@ -8,7 +9,8 @@ use Rattle.frame_record.specs.declared.frame.Frame.{Frame}
 use Rattle.frame_record.specs.declared.frame.RenderedFrame.{RenderedFrame}
 
 -- the state of the calls without contents and what they wrote in this frame, what the seat knows, how many encoders were begun in this frame, the recordings
--- that were collected in it, how many frames are out, whether the context is ended, the frames that were given and that came back, and the link
+-- that were collected in it, how many frames are out, whether the context is ended, the serial of the first thing, the frames that were given and that came
+-- back, and the link
 pub record ContextView (L : Type 0) : Type 0 where
   pub book : BookView
   pub seat : SeatView
@@ -16,6 +18,7 @@ pub record ContextView (L : Type 0) : Type 0 where
   pub gathered : List Recording
   pub out : ℕ
   pub is_ended : Bool
+  pub first : ℕ
   pub given : List Frame
   pub back : List RenderedFrame
   pub link : L
@@ -23,3 +26,11 @@ pub record ContextView (L : Type 0) : Type 0 where
 -- the state of the definition, without contents
 abbrev pub state_of : {L : Type 0} → ContextView L → CallState
 state_of v = record { resources = v.book.resources; encoders = v.begun; out = v.out; is_ended = v.is_ended }
+
+-- nothing is made or written
+abbrev pub no_book : BookView
+no_book = record { resources = opening 0 0 0 0; pre = []; post = []; payloads = [] }
+
+-- what no call on things and views changes: all but the book, and the places and the greatest serial that the seat knows
+abbrev pub untouched : {L : Type 0} → ContextView L → ContextView L
+untouched v = record v { book = no_book; seat = record v.seat { places = []; greatest = 0 } }

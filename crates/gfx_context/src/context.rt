@@ -34,6 +34,8 @@ pub struct Context<'t, C: Naming, L: FrameLink + Drop> {
     pub(crate) gathered: Vec<Recording>,
     pub(crate) out: u8,
     pub(crate) is_ended: bool,
+    /// The serial at which it started.
+    pub(crate) first: u32,
 }
 
 impl<'t, C: Naming, L: FrameLink + Drop> Model for Context<'t, C, L> {
@@ -51,6 +53,7 @@ impl<'t, C: Naming, L: FrameLink + Drop> Model for Context<'t, C, L> {
       gathered = c.gathered.items;
       out = c.out;
       is_ended = c.is_ended;
+      first = c.first;
       given = L.given c.link;
       back = L.back c.link;
       link = c.link;
@@ -64,6 +67,7 @@ impl<'t, C: Naming, L: FrameLink + Drop> Model for Context<'t, C, L> {
           gathered = c.gathered.items;
           out = c.out;
           is_ended = c.is_ended;
+          first = c.first;
           given = L.given c.link;
           back = L.back c.link;
           link = c.link;
@@ -106,6 +110,7 @@ impl<'t, C: Naming, L: FrameLink + Drop> Context<'t, C, L> {
           gathered = [];
           out = 0;
           is_ended = false;
+          first = start.serial;
           given = L.given link;
           back = L.back link;
           link = link;
@@ -124,6 +129,7 @@ impl<'t, C: Naming, L: FrameLink + Drop> Context<'t, C, L> {
                 gathered,
                 out: 0,
                 is_ended: false,
+                first: start.serial,
             }),
             Err(_) => Err((seat, link)),
         }

@@ -2,6 +2,7 @@
 #![tactic(auto)]
 
 mod begin;
+mod calls;
 mod closing;
 mod context;
 mod creates;

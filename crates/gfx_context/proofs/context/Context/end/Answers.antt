@@ -18,6 +18,7 @@ returns-clause-answer g c =
       gathered = c.self.inside.gathered.items;
       out = c.self.inside.out;
       is_ended = c.self.inside.is_ended;
+      first = c.self.inside.first;
       given = g.L.FrameLink.given c.self.inside.link;
       back = g.L.FrameLink.back c.self.inside.link;
       link = c.self.inside.link;
