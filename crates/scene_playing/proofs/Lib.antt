@@ -1,6 +1,6 @@
 mod Standing
 mod Jobs
-mod Ending
+
 mod Lines
 mod Frames
 mod Opening
