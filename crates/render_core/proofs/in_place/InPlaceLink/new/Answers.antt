@@ -3,7 +3,7 @@ use Rattle.atomic_table.specs.Table.{opening}
 use Rattle.frame_record.specs.declared.frame.RenderedFrame.{RenderedFrame}
 use Rattle.frame_swap.specs.Views.{first_view, Mine}
 use Rattle.frame_swap.specs.Rule.{IsHeld}
-use Rattle.frame_swap.proofs.Steps.{opens}
+use Rattle.frame_swap.proofs.Openings.{opens}
 use Rattle.render_core.specs.declared.renderer.Renderer.{Renderer}
 use Rattle.render_core.specs.Rendered.{AreRendered, rendered_none, seen_by}
 use Rattle.render_core.proofs.in_place.InPlaceLink.new.Goals as goal
