@@ -1,5 +1,5 @@
 -- Outcomes that are kept as numbers.
-use Rattle.std.proofs.Common.{◌≡◌, ℕ, zero, suc, ◌+◌, ◌<◌, Bool, true, false, List, [], ◌∷◌, ◌++◌, length, replicate, Option, Some, None, refl, sym, ap, ◌∙◌, arith, append_assoc, append-nil, length-append}
+use Rattle.std.proofs.Common.{◌≡◌, ℕ, zero, suc, ◌+◌, ◌<◌, true, List, [], ◌∷◌, ◌++◌, length, replicate, Option, Some, None, refl, sym, ap, ◌∙◌, arith, append_assoc, append-nil, length-append}
 use Rattle.std.specs.Prelude.{min, ◌||◌, not, is_some}
 use Rattle.frame_record.specs.declared.frame.Outcome.{Outcome}
 use Rattle.frame_record.specs.declared.frame.Outcome.TheVariants as outcomes
@@ -7,7 +7,7 @@ use Rattle.render_core.specs.declared.outcomes.Fault.{Fault}
 use Rattle.render_core.specs.declared.outcomes.Fault.TheVariants as faults
 use Rattle.render_core.specs.declared.outcomes.End.{End}
 use Rattle.render_core.specs.Outcomes.{is_shown, is_skipped, has_ended}
-use Rattle.render_core.specs.Counted.{fault_seen, end_in, outcomes_in, one_skipped, shown_after, end_after}
+use Rattle.render_core.specs.Counted.{fault_seen, end_in, outcomes_in, shown_after, end_after}
 
 shown_then : (n : ℕ) (rest : List Outcome) → has_ended (replicate n outcomes.Shown ++ rest) ≡ has_ended rest
 shown_then zero rest = refl

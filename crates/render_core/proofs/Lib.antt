@@ -1,4 +1,5 @@
 mod Counts
+mod EndedFrames
 mod Found
 mod OneItem
 mod Parts
@@ -7,5 +8,6 @@ mod Runs
 mod ShownFrames
 mod Shows
 mod Tallies
+mod Texts
 mod Turns
 mod ViewRuns

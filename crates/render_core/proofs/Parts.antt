@@ -24,7 +24,7 @@ use Rattle.render_core.specs.declared.lists.Lists.{Lists}
 use Rattle.render_core.specs.Lists.{AreDraws, AreBlits, AreListed, IsPart}
 use Rattle.render_core.specs.Seen.{recordings_of, journal_of, frame_seen}
 use Rattle.render_core.proofs.Runs.{at_position, NextRun}
-use Rattle.render_core.proofs.ViewRuns.{IsAt, items_at, many_items, run_items, run_of_view, blits_of_view}
+use Rattle.render_core.proofs.ViewRuns.{IsAt, many_items, run_items, run_of_view, blits_of_view}
 
 abbrev ordered_entry : OrderedItem → model.Entry
 ordered_entry o = entry_seen o.entry

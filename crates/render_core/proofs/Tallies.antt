@@ -1,5 +1,5 @@
 -- Numbers and sums of pieces that are put one after another.
-use Rattle.std.proofs.Common.{◌≡◌, ◌≤◌, ◌<◌, ℕ, zero, suc, ◌+◌, ◌%◌, ◌^◌, List, [], ◌++◌, length, take, drop, Option, Some, None, refl, sym, ap, ◌∙◌, arith, length-append}
+use Rattle.std.proofs.Common.{◌≡◌, ◌<◌, ℕ, zero, suc, ◌+◌, ◌%◌, ◌^◌, List, ◌++◌, length, take, drop, Option, Some, None, refl, sym, ap, ◌∙◌, arith, length-append}
 use Rattle.std.specs.Prelude.{sum}
 use Rattle.std.proofs.Math.Nat.{mod-add-mod}
 use Rattle.std.proofs.Math.Seq.{take-add}
@@ -12,7 +12,8 @@ sum_both a b = sum_by-append (λ n. n) a b
 added_both : (n m a b c : ℕ) → c ≡ a + b → ((n + a) % m + b) % m ≡ (n + c) % m
 added_both n m a b c e = mod-add-mod (n + a) m b ∙ ap (λ x. x % m) (omega (arith, e))
 
-counted_both : (t : Option (ℕ × ℕ)) (a b : List ℕ) → counted (counted t a) b ≡ counted t (a ++ b)
+-- one text behind another
+pub counted_both : (t : Option (ℕ × ℕ)) (a b : List ℕ) → counted (counted t a) b ≡ counted t (a ++ b)
 counted_both None a b = refl
 counted_both (Some told) a b =
     let many = added_both told.0 (2 ^ 64) (length a) (length b) (length (a ++ b)) (length-append a b) in

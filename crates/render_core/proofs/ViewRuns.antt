@@ -1,8 +1,8 @@
 -- The items of a view among those of a frame.
 use native.Mathlib.Decide.{ℕ_discrete}
 use mathlib.Core.Logic.{dite}
-use Rattle.std.proofs.Common.{◌≡◌, ◌≢◌, ℕ, zero, suc, ◌+◌, ◌<◌, ◌≤◌, ◌==◌, nat_lt, Bool, true, false, cond, Option, Some, None, List, [], ◌∷◌, map, filter, take, drop, length, slice_index, refl, sym, ap, subst, ◌∙◌, arith}
-use Rattle.std.specs.Prelude.{filter_map, option_map, option_and_then}
+use Rattle.std.proofs.Common.{◌≡◌, ◌≢◌, ℕ, zero, suc, ◌<◌, ◌==◌, nat_lt, Bool, true, false, cond, Option, Some, None, List, [], ◌∷◌, map, filter, take, drop, length, slice_index, refl, sym, ap, ◌∙◌, arith}
+use Rattle.std.specs.Prelude.{option_map, option_and_then}
 use Rattle.std.specs.List.{AllByRecursion}
 use Rattle.std.proofs.lemmas.Bool.{ne_eqb, eq-eqb}
 use Rattle.gfx_model.specs.Frames as model
@@ -11,7 +11,7 @@ use Rattle.gfx_model.specs.Views.{Views, view_count, view_order, position_of_vie
 use Rattle.gfx_model.specs.World.{Item, Blit, draw_item, touch_item, blit_item, is_blit, is_of_view, view_of_item}
 use Rattle.view_table.proofs.Lists.{at_place}
 use Rattle.view_table.proofs.Permuted.{order_has}
-use Rattle.frame_record.specs.Placed.{blit_position, position_of_blit, blit_entries, items_in}
+use Rattle.frame_record.specs.Placed.{blit_position, blit_entries, items_in}
 use Rattle.render_core.proofs.Runs.{at_position}
 
 -- two views of one position are one

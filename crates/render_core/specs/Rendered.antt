@@ -1,5 +1,5 @@
 -- Frames that a renderer renders one after another.
-use Rattle.std.specs.Prelude.{◌≡◌, ℕ, ◌<◌, ◌||◌, not, List, [], ◌∷◌, ◌++◌, length, Option}
+use Rattle.std.specs.Prelude.{◌≡◌, ℕ, ◌<◌, ◌≤◌, ◌||◌, not, List, [], ◌∷◌, ◌++◌, length, Option}
 use Rattle.scene_model.specs.Output.{picture_text}
 use Rattle.store_laws.specs.ByIndex.{Stores}
 use Rattle.frame_record.specs.declared.frame.Outcome.{Outcome}
@@ -31,6 +31,7 @@ pub record IsRendered (old : Rendering) (r : RenderedFrame) (new : Rendering) : 
   pub held : HeldAfter r.outcome (picture_text new.stores.back.color) old.held new.held
   pub tally : TallyAfter r.outcome (picture_text new.stores.back.color) old.tally new.tally
   pub faults : FaultIf r.outcome old.faults new.faults
+  pub no_fewer : old.faults ≤ new.faults
   pub sure : new.sure ≡ old.sure
   pub ended : has_ended new.outcomes ≡ (has_ended old.outcomes || not (is_shown r.outcome))
   pub added : length old.outcomes < 18446744073709551615 → new.outcomes ≡ old.outcomes ++ r.outcome ∷ []

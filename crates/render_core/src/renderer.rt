@@ -134,6 +134,7 @@ impl<P: Sink> Renderer<P> {
         ensures held { HeldAfter result (picture_text (stores_seen self.new.canvas.stores).back.color) (P.held self.old.sink) (P.held self.new.sink) }
         ensures tally { TallyAfter result (picture_text (stores_seen self.new.canvas.stores).back.color) (P.tally self.old.sink) (P.tally self.new.sink) }
         ensures faults { FaultIf result (P.faults self.old.sink) (P.faults self.new.sink) }
+        ensures no_fewer { P.faults self.old.sink ≤ P.faults self.new.sink }
         ensures sure { P.sure self.new.sink ≡ P.sure self.old.sink }
         ensures outcomes { self.new.outcomes ≡ self.old.outcomes }
     {

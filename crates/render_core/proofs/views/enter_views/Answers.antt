@@ -1,4 +1,4 @@
-use Rattle.std.proofs.Common.{◌≡◌, ◌<◌, length, arith}
+use Rattle.std.proofs.Common.{◌<◌, length, arith}
 use Rattle.std.specs.List.{list_any}
 use Rattle.gfx_model.specs.World.{is_of_view}
 use Rattle.store_laws.specs.ByIndex.{enter_by_index}

@@ -1,4 +1,4 @@
-use Rattle.std.proofs.Common.{◌≡◌, ◌-◌, ◌+◌, ◌<◌, ℕ, false, List, take, drop, length, slice_index_or, sym, ap, subst, ◌∙◌, arith}
+use Rattle.std.proofs.Common.{◌≡◌, ◌-◌, ◌<◌, false, List, take, drop, length, slice_index_or, sym, subst, arith}
 use Rattle.std.proofs.lemmas.List.{get_or_read}
 use Rattle.draw_encoder.specs.declared.items.BlitItem.{BlitItem}
 use Rattle.frame_record.specs.declared.ordering.OrderedItem.{OrderedItem}

@@ -2,7 +2,7 @@ use Rattle.std.proofs.Common.{rules, ◌≡◌, ℕ, suc, ◌+◌, ◌-◌, ◌%
 use Rattle.frame_swap.specs.Views.{SwapView, Slots, Mine, empty_slots, later_of}
 use Rattle.frame_record.specs.declared.frame.RenderedFrame.{RenderedFrame}
 use Rattle.frame_record.specs.Links.{frames_of}
-use Rattle.render_core.specs.Rendered.{AreRendered, rendered_more, seen_by}
+use Rattle.render_core.specs.Rendered.{AreRendered, seen_by}
 use Rattle.frame_swap.proofs.WholeSeat.{one_came}
 use Rattle.frame_swap.proofs.Slots.{slots_back, next_place, one_more, came_back}
 use Rattle.render_core.proofs.in_place.InPlaceLink.take_oldest.Goals as goal

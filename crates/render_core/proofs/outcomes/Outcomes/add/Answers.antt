@@ -1,4 +1,4 @@
-use Rattle.std.proofs.Common.{◌≡◌, ◌<◌, ℕ, List, [], ◌∷◌, ◌++◌, length, sym, ap, subst, ◌∙◌}
+use Rattle.std.proofs.Common.{◌<◌, List, [], ◌∷◌, ◌++◌, length, sym, ap, subst, ◌∙◌}
 use Rattle.frame_record.specs.declared.frame.Outcome.{Outcome}
 use Rattle.render_core.specs.Outcomes.{has_ended}
 use Rattle.render_core.specs.Counted.{outcomes_in}

@@ -1,4 +1,4 @@
-use Rattle.std.proofs.Common.{sym, ◌∙◌, ap}
+use Rattle.std.proofs.Common.{◌∙◌, ap}
 use Rattle.render_core.specs.Outcomes.{has_ended}
 use Rattle.render_core.proofs.Counts.{ended_is}
 use Rattle.render_core.proofs.outcomes.Outcomes.has_ended.Goals as goal
