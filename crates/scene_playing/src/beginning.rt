@@ -7,7 +7,8 @@ ghost use Rattle.scene_text.specs.Seen.{frame_seen, scene_seen};
 ghost use Rattle.block_recording.specs.Promised.{IsAccepted};
 ghost use Rattle.scene_playing.specs.Recording.{IsRecording, BeginsMore, HasBegun};
 
-use block_recording::{Desk, Job, block_jobs_are_ready, block_lines};
+use block_recording::laws::block_jobs_are_ready;
+use block_recording::{Desk, Job, block_lines};
 use frame_record::FrameLink;
 use gfx_context::{Context, Naming};
 use gfx_words::Handle;
