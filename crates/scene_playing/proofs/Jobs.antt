@@ -1,6 +1,6 @@
 -- The job of an encoder that just began is ready.
 use Rattle.std.proofs.Common.{◌≡◌, ℕ, ◌+◌, ◌<◌, ◌≤◌, ◌==◌, ◌^◌, suc, zero, Bool, true, false, if◌then◌else◌, List, [], ◌∷◌, map, length, Option, Some, refl, sym, ap, ◌∙◌, subst, arith}
-use Rattle.std.proofs.lemmas.Option.{slice_get_within, get_or_from_slice_get}
+use Rattle.std.proofs.lemmas.Option.{same_Some, slice_get_within, get_or_from_slice_get}
 use Rattle.std.specs.List.{All, slice_get}
 use Rattle.gfx_model.specs.Words.{Handle}
 use Rattle.gfx_model.specs.World.{Item}
@@ -32,22 +32,24 @@ few_in s k f bounded is = subst HasFewLines (get_or_from_slice_get s.frames k f 
 all_rest : {A : Type 0} (P : A → Type 0) (x : A) (xs : List A) → All P (x ∷ xs) → All P xs
 all_rest P x xs all k d lt = all (suc k) d (omega (arith, lt))
 
+fewer : (e : ℕ) (b : Block) (bs : List Block) (t : Bool) → length b.lines < 2 ^ 32 → length (lines_of e bs) ≤ 4294967295 → length (if t then b.lines else lines_of e bs) ≤ 4294967295
+fewer e b bs true few rest = omega (arith, few)
+fewer e b bs false few rest = rest
+
 lines_few : (e : ℕ) (bs : List Block) → All (λ b. length b.lines < 2 ^ 32) bs → length (lines_of e bs) ≤ 4294967295
 lines_few e [] all = omega arith
-lines_few e (b ∷ bs) all = by (b.encoder == e) where
-  by : (t : Bool) → length (if t then b.lines else lines_of e bs) ≤ 4294967295
-  by true = let few = all 0 b (omega arith) in omega (arith, few)
-  by false = lines_few e bs (all_rest (λ (c : Block). length c.lines < 2 ^ 32) b bs all)
+lines_few e (b ∷ bs) all = fewer e b bs (b.encoder == e) (all 0 b (omega arith)) (lines_few e bs (all_rest (λ (c : Block). length c.lines < 2 ^ 32) b bs all))
 
 -- ---- the job
 
-begun_is : {L : Type 0} (room : Room) (enc : EncoderView) (old new : ContextView L) → Begins room enc old new → record { encoder = old.begun; recorder = begun old.book.resources.frame (view_count old.book.resources.views) room } ≡ record { encoder = enc.seat.encoder; recorder = enc.recorder }
-begun_is room enc old new b = some_is _ _ b.made where
-  some_is : (x y : Begun) → Some x ≡ Some y → x ≡ y
-  some_is x y e = ap (λ (o : Option Begun). from x o) e where
-    from : Begun → Option Begun → Begun
-    from d (Some z) = z
-    from d None = d
+abbrev begun_in : {L : Type 0} → Room → ContextView L → Begun
+begun_in room v = record { encoder = v.begun; recorder = begun v.book.resources.frame (view_count v.book.resources.views) room }
+
+abbrev begun_as : EncoderView → Begun
+begun_as e = record { encoder = e.seat.encoder; recorder = e.recorder }
+
+begun_is : {L : Type 0} (room : Room) (enc : EncoderView) (old new : ContextView L) → Begins room enc old new → begun_in room old ≡ begun_as enc
+begun_is room enc old new b = same_Some (begun_in room old) (begun_as enc) b.made
 
 -- an encoder that just began, with its block of the frame and the names as they stand, is ready
 pub ready_when_begun : {L : Type 0} (admits : ℕ → ℕ → List Item → ℕ → Type 0) (views : ℕ) (s : Scene) (k : ℕ) (f : SceneFrame) (names : List (Option Handle)) (room : Room) (old new : ContextView L) (j : JobView)
@@ -59,7 +61,7 @@ pub ready_when_begun : {L : Type 0} (admits : ℕ → ℕ → List Item → ℕ 
 ready_when_begun admits views s k f names room old new j admit kept counted is_room below bounded number recording lawful given planned begins lines handles =
     let first = begun_is room j.encoder old new begins in
     let recorder : j.encoder.recorder ≡ begun k (views_of s) s.room =
-        sym (ap (λ (b : Begun). b.recorder) first) ∙ ap (λ n. begun n (view_count old.book.resources.views) room) number ∙ ap (λ n. begun k n room) (kept.counted ∙ counted) ∙ ap (begun k (views_of s)) is_room in
+    sym (ap (λ (b : Begun). b.recorder) first) ∙ ap (λ n. begun n (view_count old.book.resources.views) room) number ∙ ap (λ n. begun k n room) (kept.counted ∙ counted) ∙ ap (begun k (views_of s)) is_room in
     let encoder : j.encoder.seat.encoder ≡ old.begun = ap (λ v. v.encoder) begins.seat in
     let frame : j.encoder.seat.frame ≡ k = ap (λ v. v.frame) begins.seat ∙ sym kept.tied.frame ∙ number in
     ready_for admits s k old.begun f (before_of s k f) j (λ items dropped a. admit old.begun k items dropped a)

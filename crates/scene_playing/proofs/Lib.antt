@@ -1,6 +1,7 @@
 mod Standing
 mod Jobs
-
-mod Lines
-mod Frames
-mod Opening
+mod Begun
+mod EndLaws
+mod LineLaws
+mod FrameLaws
+mod OpeningLaws

@@ -7,12 +7,12 @@ ghost use Rattle.scene_text.specs.Seen.{frame_seen, scene_seen};
 ghost use Rattle.block_recording.specs.Promised.{IsAccepted};
 ghost use Rattle.scene_playing.specs.Recording.{IsRecording, BeginsMore, HasBegun};
 
-use block_recording::laws::block_jobs_are_ready;
 use block_recording::{Desk, Job, block_lines};
 use frame_record::FrameLink;
 use gfx_context::{Context, Naming};
 use gfx_words::Handle;
 use io_edge::Gate;
+use scene_progress::{given_law, plan_law};
 use scene_text::{Scene, SceneFrame};
 use std::alloc::{AllocError, Global};
 use std::sync::{Arc, Wait};
@@ -28,6 +28,7 @@ fn begin<'t, C: Naming, L: FrameLink + Drop>(
     names: &Names,
 ) -> Result<Job<'t, C>, AllocError>
     requires admits { (e n : ℕ) (items : List Item) (dropped : ℕ) → IsAccepted (scene_seen scene.now) e n items dropped → C.admits e n items dropped }
+    requires views { C.views ≡ views_of (scene_seen scene.now) }
     requires bounded { IsBounded (scene_seen scene.now) }
     requires recording { IsRecording (scene_seen scene.now) context.old.book.resources.frame (frame_seen frame.now) names.now.value.items context.old }
     requires more { context.old.begun < scene.now.encoders }
@@ -37,10 +38,12 @@ fn begin<'t, C: Naming, L: FrameLink + Drop>(
     let Ok(theirs) = Arc::try_clone(names) else {
         return Err(AllocError);
     };
+    plan_law();
+    given_law();
+    context.tell_facts();
     let number = context.begun() as u8;
     match context.begin(scene.room) {
         Ok(encoder) => {
-            block_jobs_are_ready();
             let lines = block_lines(frame.blocks.as_slice(), number);
             Ok(Job::new(encoder, lines, theirs))
         }
@@ -58,6 +61,7 @@ fn hand_out<'t, C: Naming, L: FrameLink + Drop, R: Wait>(
     names: &Names,
 ) -> bool
     requires admits { (e n : ℕ) (items : List Item) (dropped : ℕ) → IsAccepted (scene_seen scene.now) e n items dropped → C.admits e n items dropped }
+    requires views { C.views ≡ views_of (scene_seen scene.now) }
     requires bounded { IsBounded (scene_seen scene.now) }
     requires recording { IsRecording (scene_seen scene.now) context.old.book.resources.frame (frame_seen frame.now) names.now.value.items context.old }
     requires one { context.old.begun ≡ 1 }
@@ -85,6 +89,7 @@ pub(crate) fn record_blocks<'t, C: Naming, L: FrameLink + Drop, R: Wait, G: Gate
     names: &Names,
 ) -> bool
     requires admits { (e n : ℕ) (items : List Item) (dropped : ℕ) → IsAccepted (scene_seen scene.now) e n items dropped → C.admits e n items dropped }
+    requires views { C.views ≡ views_of (scene_seen scene.now) }
     requires bounded { IsBounded (scene_seen scene.now) }
     requires recording { IsRecording (scene_seen scene.now) context.old.book.resources.frame (frame_seen frame.now) names.now.value.items context.old }
     requires none { context.old.begun ≡ 0 }

@@ -5,10 +5,10 @@
 #![tactic(auto)]
 
 mod beginning;
-//mod frame;
-//mod frames;
+mod frame;
+mod frames;
 mod played;
-//mod threads;
+mod threads;
 
 pub use played::{FrameNote, Played};
-//pub use threads::play_frames;
+pub use threads::play_frames;

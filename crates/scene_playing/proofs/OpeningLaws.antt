@@ -43,7 +43,7 @@ pub at_first : {L : Type 0} (first : FirstLaw) (s : Scene) (start : Start) (c : 
 at_first first s start c frame serial views latency book begun is handles none =
     let at : start_of s 0 ≡ at_start 0 (first_progress s) = ap (at_start 0) (first s) in
     let opened_is : opening start.views start.latency start.frame start.serial ≡ (start_of s 0).resources =
-        (λ i. opening (views i) (latency i) (frame i) (serial i)) ∙ sym (start_opening (views_of s) (latency_of s) 0 1) ∙ ap (λ (p : Progress). p.resources) (sym at) in
+    (λ i. opening (views i) (latency i) (frame i) (serial i)) ∙ sym (start_opening (views_of s) (latency_of s) 0 1) ∙ ap (λ (p : Progress). p.resources) (sym at) in
     let bare_is : (start_of s 0).resources ≡ bare_of (start_of s 0).resources = subst (λ (r : Resources). r ≡ bare_of r) opened_is refl in
     record {
       stands = record {

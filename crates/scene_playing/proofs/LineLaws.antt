@@ -45,6 +45,9 @@ places_in places s k f readable there = all_at (FrameHasPlaces (length s.names))
 
 -- ---- from the start to the blocks
 
+none_before : (n m : ℕ) → m ≡ 0 + n → m ≡ n
+none_before n m e = omega (arith, e)
+
 -- after the lines before the blocks the context records the frame
 pub recording_after : {L : Type 0} (s : Scene) (k : ℕ) (f : SceneFrame) (dropped : ℕ) (before after : List (Option Handle)) (old new : ContextView L)
     → IsAt s k before old → slice_get s.frames k ≡ Some f → LinesPlayed s.names f.before dropped old.book new.book before after → untouched new ≡ untouched old
@@ -55,7 +58,7 @@ recording_after s k f dropped before after old new at there played same = (
     stands = played.stands (nothing_written (start_of s k).resources) (start_of s k) at.stands;
     first = ap (λ v. v.first) same ∙ at.first;
   },
-  played.dropped_are (nothing_written (start_of s k).resources) (start_of s k) at.stands,
+  none_before dropped (before_of s k f).dropped (played.dropped_are (nothing_written (start_of s k).resources) (start_of s k) at.stands),
   ap (λ v. v.begun) same ∙ at.none_begun,
   played.many ∙ at.many,
 )
@@ -68,8 +71,7 @@ pub recorded_after : {L : Type 0} (s : Scene) (k : ℕ) (f : SceneFrame) (droppe
     → IsRecorded s k f after new × ((all_of s k f).dropped ≡ (before_of s k f).dropped + dropped)
 recorded_after s k f dropped before after old mid new recording begun played same many =
     let book : mid.book ≡ old.book = ap (λ v. v.book) begun.same in
-    let stands : StandsFor (written_before s k f) (before_of s k f) mid.book before = subst (λ b. StandsFor (written_before s k f) (before_of s k f) b before) (sym book) recording.stands in
-    (
+    let stands : StandsFor (written_before s k f) (before_of s k f) mid.book before = subst (λ b. StandsFor (written_before s k f) (before_of s k f) b before) (sym book) recording.stands in (
       record {
         there = recording.there;
         stands = subst (λ (w : Written). StandsFor w (all_of s k f) new.book after)
