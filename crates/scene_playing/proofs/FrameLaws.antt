@@ -20,7 +20,8 @@ use Rattle.gfx_context.specs.States.{ContextView}
 use Rattle.render_core.specs.Seen.{frame_seen}
 use Rattle.render_core.specs.Ended.{outcome_then, first_outcome}
 use Rattle.scene_playing.specs.Steps.{IsGiven, FrameEnds, first_after}
-use Rattle.scene_playing.specs.Frames.{AreEnded}
+use Rattle.frame_record.specs.Links.{frames_of}
+use Rattle.scene_playing.specs.Frames.{AreEnded, ArePlayed}
 
 -- the first k frames of a scene ended, and all were given
 pub record AreGiven (s : Scene) (k : ℕ) (given : List Frame) (journal : Journal) (notes : List (ℕ × ℕ)) : Type 0 where
@@ -121,3 +122,30 @@ outcome_closed first second third back came all few is notes = ap first_outcome 
       ap (λ x. outcome_then o (outcome_then a.outcome (outcome_then b.outcome x))) (then_shown c.outcome)
       ∙ sym (then_then o a.outcome (outcome_then b.outcome c.outcome)) ∙ sym (then_then (outcome_then o a.outcome) b.outcome c.outcome) ∙ sym (ap told e)
   by (a ∷ b ∷ c ∷ d ∷ rest) few e = absurd (omega (arith, few))
+
+-- ---- where no frame was played
+
+none_at_all : (s : Scene) → NoneLawfulLaw → NoFramesLaw → ArePlayed s [] [] [] [] outcomes.Shown false
+none_at_all s lawful frames = record {
+  ended = so_far s 0 [] [] [] false (λ z. absurd cc) (none_given s lawful frames);
+  all_back = refl;
+  outcome_is = refl;
+}
+
+pub none_played : (s : Scene) → NoneLawfulLaw → NoFramesLaw → (given : List Frame) (back : List RenderedFrame) (j : Journal) (notes : List (ℕ × ℕ)) → given ≡ [] → back ≡ [] → j ≡ [] → notes ≡ []
+    → ArePlayed s given back j notes outcomes.Shown false
+none_played s lawful frames given back j notes g b e n =
+    subst (λ (x : List Frame). ArePlayed s x back j notes outcomes.Shown false) (sym g)
+    (subst (λ (x : List RenderedFrame). ArePlayed s [] x j notes outcomes.Shown false) (sym b)
+    (subst (λ (x : Journal). ArePlayed s [] [] x notes outcomes.Shown false) (sym e)
+    (subst (λ (x : List (ℕ × ℕ)). ArePlayed s [] [] [] x outcomes.Shown false) (sym n) (none_at_all s lawful frames))))
+
+-- ---- all that were out came back
+
+pub played_when_back : (s : Scene) (given given_now : List Frame) (back : List RenderedFrame) (j journal : Journal) (notes : List (ℕ × ℕ)) (outcome : Outcome) (is_whole : Bool)
+    → AreEnded s given j notes is_whole → given_now ≡ given → given_now ≡ frames_of back → journal ≡ j → outcome ≡ first_outcome back → ArePlayed s given_now back journal notes outcome is_whole
+played_when_back s given given_now back j journal notes outcome is_whole ended same all told is = record {
+  ended = subst (λ (g : List Frame). AreEnded s g journal notes is_whole) (sym same) (subst (λ (x : Journal). AreEnded s given x notes is_whole) (sym told) ended);
+  all_back = all;
+  outcome_is = is;
+}

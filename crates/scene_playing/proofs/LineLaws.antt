@@ -1,5 +1,5 @@
 -- The lines of a frame, from its start to its end.
-use Rattle.std.proofs.Common.{◌≡◌, ℕ, ◌+◌, ◌<◌, ◌≤◌, ◌^◌, zero, suc, List, [], ◌∷◌, ◌++◌, map, length, fold, Option, Some, refl, sym, ap, ◌∙◌, subst, arith}
+use Rattle.std.proofs.Common.{◌≡◌, ℕ, ◌+◌, ◌<◌, ◌≤◌, ◌^◌, zero, suc, Bool, true, false, List, [], ◌∷◌, ◌++◌, map, length, fold, Option, Some, Result, Ok, Err, MatchResult, refl, sym, ap, ◌∙◌, subst, arith}
 use Rattle.std.proofs.lemmas.List.Sums.{fold-append}
 use Rattle.std.proofs.lemmas.Option.{same_Some, none-some}
 use Rattle.std.specs.List.{AllByRecursion, slice_get}
@@ -14,7 +14,13 @@ use Rattle.scene_progress.proofs.Given.{Keeps, in_frame, lines_keep}
 use Rattle.scene_lines.specs.Names.{LineHasPlace, FrameHasPlaces, PlacesLaw}
 use Rattle.scene_lines.specs.Played.{StandsFor, LinesPlayed}
 use Rattle.gfx_context.specs.States.{ContextView, untouched}
+use Rattle.scene_model.specs.Journal.{Entry}
+use Rattle.gfx_words.specs.Seen.{entry_seen}
+use Rattle.render_core.specs.Ended.{first_outcome}
+use Rattle.scene_playing.specs.declared.frame.EndedFrame.{EndedFrame}
+use Rattle.scene_playing.specs.Frames.{note_seen}
 use Rattle.scene_playing.specs.Recording.{IsAt, written_before, IsRecording, IsRecorded, HasBegun}
+use Rattle.scene_playing.specs.Steps.{IsGivenWhere, FrameEnds, first_after}
 
 -- ---- the frame's number
 
@@ -83,3 +89,55 @@ recorded_after s k f dropped before after old mid new recording begun played sam
       },
       played.dropped_are (written_before s k f) (before_of s k f) stands,
     )
+
+-- ---- by the number that the context has
+
+pub recording_now : {L : Type 0} (s : Scene) (k : ℕ) (f : SceneFrame) (names others : List (Option Handle)) (c : ContextView L) → others ≡ names → IsRecording s k f names c → IsRecording s c.book.resources.frame f others c
+recording_now s k f names others c same r =
+    subst (λ n. IsRecording s n f others c) (sym (number_recording s k f names c r)) (subst (λ ns. IsRecording s k f ns c) (sym same) r)
+
+pub recorded_now : {L : Type 0} (s : Scene) (k : ℕ) (f : SceneFrame) (handles : List (Option Handle)) (c : ContextView L) → IsRecorded s k f handles c → IsRecorded s c.book.resources.frame f handles c
+recorded_now s k f handles c r = subst (λ n. IsRecorded s n f handles c) (sym (number_recorded s k f handles c r)) r
+
+-- the lines that a frame dropped before its blocks and beside them
+pub dropped_now : {L : Type 0} (s : Scene) (k : ℕ) (f : SceneFrame) (handles : List (Option Handle)) (c : ContextView L) (before beside : ℕ) → IsRecorded s k f handles c → (before_of s k f).dropped ≡ before → (all_of s k f).dropped ≡ (before_of s k f).dropped + beside
+    → before + beside ≡ (all_of s c.book.resources.frame f).dropped
+dropped_now s k f handles c before beside r first all =
+    sym (all ∙ ap (λ n. n + beside) first) ∙ ap (λ n. (all_of s n f).dropped) (sym (number_recorded s k f handles c r))
+
+-- ---- what ended since the frame's start
+
+gives_since : {L : Type 0} (s : Scene) (k : ℕ) (f : SceneFrame) (e : List Entry) (b : Bool) (handles : List (Option Handle)) (old mid new : ContextView L) → mid.given ≡ old.given → IsGivenWhere b s k f e handles mid new → IsGivenWhere b s k f e handles old new
+gives_since s k f e true handles old mid new same g = record { frame = g.frame; given = g.given ∙ ap (λ fs. fs ++ g.frame ∷ []) same; seen = g.seen; next = g.next }
+gives_since s k f e false handles old mid new same g = g ∙ same
+
+ends_since : {L : Type 0} (s : Scene) (n k : ℕ) (f : SceneFrame) (e : List Entry) (note : ℕ × ℕ) (b : Bool) (handles : List (Option Handle)) (old mid new : ContextView L) → n ≡ k → mid.given ≡ old.given
+    → FrameEnds s n f e note b handles mid new → FrameEnds s k f e note b handles old new
+ends_since s n k f e note b handles old mid new is same ends = subst (λ (m : ℕ). FrameEnds s m f e note b handles old new) is (record {
+  plan = ends.plan;
+  planned = ends.planned;
+  lawful = ends.lawful;
+  noted = ends.noted;
+  gives = gives_since s n f e b handles old mid new same ends.gives;
+})
+
+pub ended_since : {L E : Type 0} (r : Result EndedFrame E) (s : Scene) (n k : ℕ) (f : SceneFrame) (handles : List (Option Handle)) (old mid new : ContextView L) → n ≡ k → mid.given ≡ old.given
+    → MatchResult r (λ e. FrameEnds s n f (map entry_seen e.journal.items) (note_seen e.note) e.given handles mid new) (λ _. new.given ≡ mid.given)
+    → MatchResult r (λ e. FrameEnds s k f (map entry_seen e.journal.items) (note_seen e.note) e.given handles old new) (λ _. new.given ≡ old.given)
+ended_since (Ok e) s n k f handles old mid new is same m = ends_since s n k f (map entry_seen e.journal.items) (note_seen e.note) e.given handles old mid new is same m
+ended_since (Err x) s n k f handles old mid new is same m = m ∙ same
+
+pub back_since : {L E : Type 0} (r : Result EndedFrame E) (old mid new : ContextView L) → mid.back ≡ old.back
+    → MatchResult r (λ e. first_outcome new.back ≡ first_after (first_outcome mid.back) e.back) (λ _. new.back ≡ mid.back)
+    → MatchResult r (λ e. first_outcome new.back ≡ first_after (first_outcome old.back) e.back) (λ _. new.back ≡ old.back)
+back_since (Ok e) old mid new same m = m ∙ ap (λ rs. first_after (first_outcome rs) e.back) same
+back_since (Err x) old mid new same m = m ∙ same
+
+-- what the lines and the blocks leave as it was
+pub rest_kept : {L : Type 0} (n : ℕ) (old first mid last : ContextView L) → untouched first ≡ untouched old → HasBegun n first mid → untouched last ≡ untouched mid
+    → (last.given ≡ old.given) × (last.back ≡ old.back) × (last.link ≡ old.link)
+rest_kept n old first mid last before begun beside = (
+  ap (λ v. v.given) beside ∙ ap (λ v. v.given) begun.same ∙ ap (λ v. v.given) before,
+  ap (λ v. v.back) beside ∙ ap (λ v. v.back) begun.same ∙ ap (λ v. v.back) before,
+  ap (λ v. v.link) beside ∙ ap (λ v. v.link) begun.same ∙ ap (λ v. v.link) before,
+)

@@ -1,8 +1,8 @@
 -- The context at the start of the first frame.
-use Rattle.std.proofs.Common.{◌≡◌, ℕ, zero, suc, List, [], ◌∷◌, map, length, replicate, Option, Some, None, refl, sym, ap, ◌∙◌, subst}
+use Rattle.std.proofs.Common.{◌≡◌, ◌==◌, ℕ, zero, suc, Bool, true, false, if◌then◌else◌, inl, inr, List, [], ◌∷◌, map, length, replicate, Option, Some, None, refl, sym, ap, ◌∙◌, subst}
 use Rattle.std.proofs.lemmas.List.{length-replicate}
 use Rattle.gfx_model.specs.Words.{Handle, Kind, all_kinds, greatest}
-use Rattle.gfx_model.specs.Views.{View, plain_view}
+use Rattle.gfx_model.specs.Views.{View, plain_view, IsViewCount, fewest_views, most_views}
 use Rattle.gfx_model.specs.Resources.{Resources, Book, new_book, opening, book_at_start, with_live_target, start_frame}
 use Rattle.resource_laws.specs.Bare.{bare_of}
 use Rattle.scene_model.specs.Scene.{Scene, views_of, latency_of}
@@ -56,3 +56,11 @@ at_first first s start c frame serial views latency book begun is handles none =
       first = is ∙ serial;
       many = ap length none ∙ length-replicate (length s.names) None;
     }
+
+counted_by : (b : Bool) → IsViewCount (if b then fewest_views else most_views)
+counted_by true = inl refl
+counted_by false = inr refl
+
+-- a scene has as many views as there may be
+pub counted_views : (s : Scene) → IsViewCount (views_of s)
+counted_views s = counted_by (s.version == 1)

@@ -7,7 +7,7 @@ ghost use Rattle.spelling_model.specs.Readable.{IsReadable};
 ghost use Rattle.scene_text.specs.Bounds.{HasFewLines, IsBounded};
 ghost use Rattle.scene_text.specs.Seen.{frame_seen, scene_seen};
 ghost use Rattle.frame_record.specs.Seen.{entry_seen};
-ghost use Rattle.gfx_context.specs.Ended.{MakesWay};
+ghost use Rattle.render_core.specs.Ended.{first_outcome};
 ghost use Rattle.block_recording.specs.Promised.{IsAccepted};
 ghost use Rattle.scene_lines.specs.Names.{LineHasPlace};
 ghost use Rattle.scene_lines.specs.Played.{LinesPlayed};
@@ -15,7 +15,7 @@ ghost use Rattle.scene_progress.specs.Progress.{all_of};
 ghost use Rattle.gfx_context.specs.States.{untouched};
 ghost use Rattle.scene_playing.specs.Recording.{IsAt, IsRecorded};
 ghost use Rattle.scene_playing.specs.Frames.{note_seen};
-ghost use Rattle.scene_playing.specs.Steps.{FrameEnds};
+ghost use Rattle.scene_playing.specs.Steps.{FrameEnds, first_after};
 
 use crate::beginning::{Names, record_blocks};
 use crate::played::FrameNote;
@@ -88,7 +88,7 @@ fn end_frame<'t, C: Naming, L: FrameLink + Drop, R: Threads + Wait + Sync>(
     ensures ended { MatchResult result
         (λ e. FrameEnds (scene_seen scene.now) context.old.book.resources.frame (frame_seen frame.now) (map entry_seen e.journal.items) (note_seen e.note) e.given handles.now context.old context.new)
         (λ _. context.new.given ≡ context.old.given) }
-    ensures back { MatchResult result (λ e. MakesWay e.back context.old context.new.back) (λ _. context.new.back ≡ context.old.back) }
+    ensures back { MatchResult result (λ e. first_outcome context.new.back ≡ first_after (first_outcome context.old.back) e.back) (λ _. context.new.back ≡ context.old.back) }
     ensures origin { L.origin context.new.link ≡ L.origin context.old.link }
 {
     let _ = scene;
@@ -144,7 +144,7 @@ pub(crate) fn play_frame<'t, C: Naming, L: FrameLink + Drop, R: Threads + Wait +
     ensures ended { MatchResult result
         (λ e. FrameEnds (scene_seen scene.now) context.old.book.resources.frame (frame_seen frame.now) (map entry_seen e.journal.items) (note_seen e.note) e.given handles.new context.old context.new)
         (λ _. context.new.given ≡ context.old.given) }
-    ensures back { MatchResult result (λ e. MakesWay e.back context.old context.new.back) (λ _. context.new.back ≡ context.old.back) }
+    ensures back { MatchResult result (λ e. first_outcome context.new.back ≡ first_after (first_outcome context.old.back) e.back) (λ _. context.new.back ≡ context.old.back) }
     ensures origin { L.origin context.new.link ≡ L.origin context.old.link }
 {
     places_law();

@@ -22,6 +22,7 @@ use gfx_context::{BackNote, Context, Naming, Shared, Start};
 use gfx_words::{FEWEST_VIEWS, Handle, MOST_VIEWS};
 use hold_table::ApiSeat;
 use io_edge::Gate;
+use scene_progress::{frames_law, lawful_law, next_law, noted_law};
 use scene_text::{Journal, Scene, Sequence};
 use std::alloc::{AllocError, Global};
 use std::sync::Wait;
@@ -108,6 +109,9 @@ fn play_all<'t, C: Naming, L: FrameLink + Drop, R: Threads + Wait + Sync, G: Gat
     ensures outcome { told.new.outcome ≡ first_outcome context.new.back }
     ensures origin { L.origin context.new.link ≡ L.origin context.old.link }
 {
+    frames_law();
+    lawful_law();
+    noted_law();
     for frame in scene.frames.as_slice() {
         let played = play_frame(rt, gate, alloc, desk, scene, frame, context, handles);
         let Ok(ended) = played else {
@@ -139,6 +143,7 @@ fn finish<'t, C: Naming, L: FrameLink + Drop, R: Threads + Wait + Sync>(
         notes,
         outcome,
     } = told;
+    context.tell_facts();
     let closed = context.shutdown(rt);
     let [first, second, third] = closed.backs;
     let outcome = later(later(later(outcome, first), second), third);
@@ -160,6 +165,8 @@ pub(crate) fn nothing<L: FrameLink + Drop>(alloc: Global, scene: &Scene, link: L
     ensures origin { L.origin result.link ≡ L.origin link }
 {
     let _ = scene;
+    lawful_law();
+    frames_law();
     Played {
         link,
         journal: Journal {
@@ -216,6 +223,7 @@ pub(crate) fn play_named<'t, C: Naming, L: FrameLink + Drop, R: Threads + Wait +
     ensures played { ArePlayed (scene_seen scene.now) (L.given result.link) (L.back result.link) (journal_seen result.journal) (map note_seen result.notes.items) result.outcome result.is_whole }
     ensures origin { L.origin result.link ≡ L.origin link }
 {
+    next_law();
     let Ok((told, handles)) = rooms(alloc, scene) else {
         return nothing(alloc, scene, link);
     };
