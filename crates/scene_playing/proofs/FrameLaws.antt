@@ -1,5 +1,6 @@
 -- Frames of a scene that ended one after another.
-use Rattle.std.proofs.Common.{◌≡◌, ℕ, zero, suc, ◌+◌, ◌<◌, ◌≤◌, Bool, true, false, List, [], ◌∷◌, ◌++◌, map, length, take, Option, Some, None, MatchOption, refl, sym, ap, ◌∙◌, subst, arith}
+use Rattle.std.proofs.Common.{◌≡◌, ℕ, zero, suc, ◌+◌, ◌<◌, ◌≤◌, Bool, true, false, List, [], ◌∷◌, ◌++◌, map, length, take, Option, Some, None, MatchOption, option_map, slice_index_or, refl, sym, ap, ◌∙◌, subst, arith}
+use Rattle.std.proofs.lemmas.Option.{slice_get-map, slice_get_read}
 use Rattle.std.proofs.lemmas.List.{length-append, map-append, take_all, take-append-le}
 use Rattle.std.specs.List.{slice_get}
 use Rattle.gfx_model.specs.Words.{Handle}
@@ -19,6 +20,9 @@ use Rattle.gfx_context.specs.Ended.{note_of, notes_of, IsBack, MakesWay}
 use Rattle.gfx_context.specs.States.{ContextView}
 use Rattle.render_core.specs.Seen.{frame_seen}
 use Rattle.render_core.specs.Ended.{outcome_then, first_outcome}
+use Rattle.scene_text.specs.Seen as text
+use Rattle.scene_text.specs.declared.scene.SceneFrame as code
+use Rattle.scene_playing.specs.Recording.{IsAt}
 use Rattle.scene_playing.specs.Steps.{IsGiven, FrameEnds, first_after}
 use Rattle.frame_record.specs.Links.{frames_of}
 use Rattle.scene_playing.specs.Frames.{AreEnded, ArePlayed}
@@ -149,3 +153,38 @@ played_when_back s given given_now back j journal notes outcome is_whole ended s
   all_back = all;
   outcome_is = is;
 }
+
+-- ---- as the loop over frames has it
+
+pub none_yet : (s : Scene) → NoneLawfulLaw → NoFramesLaw → (given : List Frame) (j : Journal) (notes : List (ℕ × ℕ)) → given ≡ [] → j ≡ [] → notes ≡ [] → AreGiven s 0 given j notes
+none_yet s lawful frames given j notes g e n =
+    subst (λ (x : List Frame). AreGiven s 0 x j notes) (sym g)
+    (subst (λ (x : Journal). AreGiven s 0 [] x notes) (sym e)
+    (subst (λ (x : List (ℕ × ℕ)). AreGiven s 0 [] [] x) (sym n) (none_given s lawful frames)))
+
+-- the lists with one more, as they are seen
+pub one_seen : {A B : Type 0} (v : A → B) (old new : List A) (x : A) → new ≡ old ++ x ∷ [] → map v new ≡ map v old ++ v x ∷ []
+one_seen v old new x e = ap (map v) e ∙ map-append v old (x ∷ [])
+
+module _ {L : Type 0} (s : Scene) (frames : FramesMoreLaw) (lawful : LawfulMoreLaw) (notes_more : NotedMoreLaw) (n k : ℕ) (f : SceneFrame) (e : List Entry) (note : ℕ × ℕ) (handles : List (Option Handle)) (old new : ContextView L)
+    (j all : Journal) (notes told : List (ℕ × ℕ)) (is : n ≡ k) (given : AreGiven s k old.given j notes) (lists : all ≡ j ++ e ∷ []) (noted : told ≡ notes ++ note ∷ []) where
+  pub stopped_now : (b : Bool) → b ≡ false → FrameEnds s n f e note b handles old new → AreEnded s new.given all told false
+  stopped_now b off ends =
+      subst (λ (x : Journal). AreEnded s new.given x told false) (sym lists)
+      (subst (λ (x : List (ℕ × ℕ)). AreEnded s new.given (j ++ e ∷ []) x false) (sym noted)
+      (stopped s frames lawful notes_more k f e note handles old new j notes given
+          (subst (λ (m : ℕ). FrameEnds s m f e note false handles old new) is (subst (λ (t : Bool). FrameEnds s n f e note t handles old new) off ends))))
+
+  pub more_now : (b : Bool) → b ≡ true → slice_get s.frames k ≡ Some f → FrameEnds s n f e note b handles old new → IsAt s (k + 1) handles new × AreGiven s (k + 1) new.given all told
+  more_now b on there ends =
+      let here : FrameEnds s k f e note true handles old new = subst (λ (m : ℕ). FrameEnds s m f e note true handles old new) is (subst (λ (t : Bool). FrameEnds s n f e note t handles old new) on ends) in
+      (
+        here.gives.next,
+        subst (λ (x : Journal). AreGiven s (k + 1) new.given x told) (sym lists)
+            (subst (λ (x : List (ℕ × ℕ)). AreGiven s (k + 1) new.given (j ++ e ∷ []) x) (sym noted) (one_more s frames lawful notes_more k f e note handles old new j notes given there here)),
+      )
+
+-- the frame at an index of a scene's code is the definition's
+pub frame_at : (items frames : List code.SceneFrame) (i : ℕ) (x : code.SceneFrame) → items ≡ frames → i < length items → x ≡ slice_index_or items i x → slice_get (map text.frame_seen frames) i ≡ Some (text.frame_seen x)
+frame_at items frames i x same lt is =
+    slice_get-map text.frame_seen frames i ∙ ap (option_map text.frame_seen) (subst (λ (xs : List code.SceneFrame). slice_get xs i ≡ Some x) same (slice_get_read items (length items) i x refl lt is))

@@ -1,4 +1,4 @@
-use Rattle.std.proofs.Common.{◌≡◌, ◌≤◌, ℕ, map, length, refl, sym, ap, ◌∙◌, subst, arith, List}
+use Rattle.std.proofs.Common.{◌≡◌, ◌≤◌, ◌+◌, ℕ, map, length, refl, sym, ap, ◌∙◌, subst, arith, List}
 use Rattle.std.specs.List.{AllByRecursion}
 use Rattle.std.proofs.lemmas.List.{length-map}
 use Rattle.scene_text.specs.Seen.{frame_seen, scene_seen, name_seen, resource_line_seen}
@@ -45,7 +45,7 @@ pub play_beside-beside-requires-clause-few : goal.play_beside-beside-requires-cl
 play_beside-beside-requires-clause-few g c = few_in (scene_seen c.args.scene.now) c.args.context.now.book.resources.frame (frame_seen c.args.frame.now) c.requires.bounded c.requires.there
 
 pub end_frame-requires-clause-recorded : goal.end_frame-requires-clause-recorded
-end_frame-requires-clause-recorded g c =
+end_frame-requires-clause-recorded g c κs within =
     let s = scene_seen c.args.scene.now in
     let k = c.args.context.now.book.resources.frame in
     let f = frame_seen c.args.frame.now in
@@ -56,7 +56,7 @@ end_frame-requires-clause-recorded g c =
     recorded_now s k f c.play_beside-beside.new.handles c.play_beside-beside.new.context last.0
 
 pub end_frame-requires-clause-dropped : goal.end_frame-requires-clause-dropped
-end_frame-requires-clause-dropped g c =
+end_frame-requires-clause-dropped g c κs within =
     let s = scene_seen c.args.scene.now in
     let k = c.args.context.now.book.resources.frame in
     let f = frame_seen c.args.frame.now in

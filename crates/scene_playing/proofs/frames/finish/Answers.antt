@@ -12,4 +12,5 @@ returns-clause-played g c =
     let closes = c.shutdown-closed.ensures.closes in
     let kept = c.tell_facts.ensures.keeps in
     let few : length closes.came ≤ 3 = let a = kept.few in let b = kept.latency.1 in let m = closes.many in omega (arith, a, b, m) in
+    let x : ℕ ≡ ℕ = c.later.ensures in
     played_when_back (scene_seen c.args.scene.now) c.args.context.given _ _ _ _ _ _ c.args.is_whole c.requires.ended closes.given_is closes.unchanged (ap (map (map entry_seen)) c.from_vec.ensures) ?

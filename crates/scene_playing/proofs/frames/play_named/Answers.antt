@@ -1,0 +1,8 @@
+use Rattle.std.proofs.Common.{◌≡◌, refl, ap, ◌∙◌}
+use Rattle.scene_text.specs.Seen.{scene_seen}
+use Rattle.scene_playing.proofs.OpeningLaws.{at_first}
+use Rattle.scene_playing.proofs.frames.play_named.Goals as goal
+
+pub play_all-is_whole-requires-clause-at : goal.play_all-is_whole-requires-clause-at
+play_all-is_whole-requires-clause-at g c κs within =
+    at_first c.next_law.ensures.first (scene_seen c.args.scene.now) _ c.in-Ok-init.context refl refl c.view_number.ensures refl (ap (λ v. v.book) c.in-Ok-init.ensures) (ap (λ v. v.begun) c.in-Ok-init.ensures) (ap (λ v. v.first) c.in-Ok-init.ensures) _ ?
