@@ -107,25 +107,22 @@ outcome_after (Some n) old back m =
     let b : IsBack n old.given old.back back = m.1 in
     ap first_outcome b.oldest.back ∙ first_more old.back b.rendered ∙ ap (λ (x : BackNote). outcome_then (first_outcome old.back) x.outcome) (sym b.note)
 
--- when all that were out came back, at most three
-pub outcome_closed : (first second third : Option BackNote) (back came all : List RenderedFrame) → length came ≤ 3 → all ≡ back ++ came → first ∷ second ∷ third ∷ [] ≡ notes_of came
-    → first_outcome all ≡ first_after (first_after (first_after (first_outcome back) first) second) third
-outcome_closed first second third back came all few is notes = ap first_outcome is ∙ first_append back came ∙ by came few notes where
-  o : Outcome
-  o = first_outcome back
+-- when all that were out came back, at most three, as their notes stand in three places
+abbrev after_notes : Outcome → List (Option BackNote) → Outcome
+after_notes o notes = first_after (first_after (first_after o (slice_index_or notes 0 None)) (slice_index_or notes 1 None)) (slice_index_or notes 2 None)
 
-  told : List (Option BackNote) → Outcome
-  told (a ∷ b ∷ c ∷ rest) = first_after (first_after (first_after o a) b) c
-  told _ = o
+notes_told : (o : Outcome) (came : List RenderedFrame) → length came ≤ 3 → after_notes o (notes_of came) ≡ outcome_then o (first_outcome came)
+notes_told o [] few = sym (then_shown o)
+notes_told o (a ∷ []) few = sym (ap (outcome_then o) (then_shown a.outcome))
+notes_told o (a ∷ b ∷ []) few = then_then o a.outcome b.outcome ∙ sym (ap (λ x. outcome_then o (outcome_then a.outcome x)) (then_shown b.outcome))
+notes_told o (a ∷ b ∷ c ∷ []) few =
+    then_then (outcome_then o a.outcome) b.outcome c.outcome ∙ then_then o a.outcome (outcome_then b.outcome c.outcome)
+    ∙ sym (ap (λ x. outcome_then o (outcome_then a.outcome (outcome_then b.outcome x))) (then_shown c.outcome))
+notes_told o (a ∷ b ∷ c ∷ d ∷ rest) few = absurd (omega (arith, few))
 
-  by : (came : List RenderedFrame) → length came ≤ 3 → first ∷ second ∷ third ∷ [] ≡ notes_of came → outcome_then o (first_outcome came) ≡ first_after (first_after (first_after o first) second) third
-  by [] few e = then_shown o ∙ sym (ap told e)
-  by (a ∷ []) few e = ap (outcome_then o) (then_shown a.outcome) ∙ sym (ap told e)
-  by (a ∷ b ∷ []) few e = ap (λ x. outcome_then o (outcome_then a.outcome x)) (then_shown b.outcome) ∙ sym (then_then o a.outcome b.outcome) ∙ sym (ap told e)
-  by (a ∷ b ∷ c ∷ []) few e =
-      ap (λ x. outcome_then o (outcome_then a.outcome (outcome_then b.outcome x))) (then_shown c.outcome)
-      ∙ sym (then_then o a.outcome (outcome_then b.outcome c.outcome)) ∙ sym (then_then (outcome_then o a.outcome) b.outcome c.outcome) ∙ sym (ap told e)
-  by (a ∷ b ∷ c ∷ d ∷ rest) few e = absurd (omega (arith, few))
+pub outcome_closed : (o : Outcome) (notes : List (Option BackNote)) (back came all : List RenderedFrame) → length came ≤ 3 → o ≡ first_outcome back → all ≡ back ++ came → notes ≡ notes_of came → after_notes o notes ≡ first_outcome all
+outcome_closed o notes back came all few told is e =
+    ap (after_notes o) e ∙ notes_told o came few ∙ ap (λ x. outcome_then x (first_outcome came)) told ∙ sym (ap first_outcome is ∙ first_append back came)
 
 -- ---- where no frame was played
 

@@ -5,4 +5,4 @@ use Rattle.scene_playing.proofs.frames.play_named.Goals as goal
 
 pub play_all-is_whole-requires-clause-at : goal.play_all-is_whole-requires-clause-at
 play_all-is_whole-requires-clause-at g c κs within =
-    at_first c.next_law.ensures.first (scene_seen c.args.scene.now) _ c.in-Ok-init.context refl refl c.view_number.ensures refl (ap (λ v. v.book) c.in-Ok-init.ensures) (ap (λ v. v.begun) c.in-Ok-init.ensures) (ap (λ v. v.first) c.in-Ok-init.ensures) _ ?
+    at_first c.next_law.ensures.first (scene_seen c.args.scene.now) _ c.in-Ok-init.context refl refl c.view_number.ensures refl (ap (λ v. v.book) c.in-Ok-init.ensures.begins) (ap (λ v. v.begun) c.in-Ok-init.ensures.begins) (ap (λ v. v.first) c.in-Ok-init.ensures.begins) _ ?
