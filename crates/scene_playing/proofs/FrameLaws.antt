@@ -170,12 +170,11 @@ module _ {L : Type 0} (s : Scene) (frames : FramesMoreLaw) (lawful : LawfulMoreL
       subst (λ (x : Journal). AreEnded s new.given x told false) (sym lists)
       (subst (λ (x : List (ℕ × ℕ)). AreEnded s new.given (j ++ e ∷ []) x false) (sym noted)
       (stopped s frames lawful notes_more k f e note handles old new j notes given
-          (subst (λ (m : ℕ). FrameEnds s m f e note false handles old new) is (subst (λ (t : Bool). FrameEnds s n f e note t handles old new) off ends))))
+      (subst (λ (m : ℕ). FrameEnds s m f e note false handles old new) is (subst (λ (t : Bool). FrameEnds s n f e note t handles old new) off ends))))
 
   pub more_now : (b : Bool) → b ≡ true → slice_get s.frames k ≡ Some f → FrameEnds s n f e note b handles old new → IsAt s (k + 1) handles new × AreGiven s (k + 1) new.given all told
   more_now b on there ends =
-      let here : FrameEnds s k f e note true handles old new = subst (λ (m : ℕ). FrameEnds s m f e note true handles old new) is (subst (λ (t : Bool). FrameEnds s n f e note t handles old new) on ends) in
-      (
+      let here : FrameEnds s k f e note true handles old new = subst (λ (m : ℕ). FrameEnds s m f e note true handles old new) is (subst (λ (t : Bool). FrameEnds s n f e note t handles old new) on ends) in (
         here.gives.next,
         subst (λ (x : Journal). AreGiven s (k + 1) new.given x told) (sym lists)
             (subst (λ (x : List (ℕ × ℕ)). AreGiven s (k + 1) new.given (j ++ e ∷ []) x) (sym noted) (one_more s frames lawful notes_more k f e note handles old new j notes given there here)),

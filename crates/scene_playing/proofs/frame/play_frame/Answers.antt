@@ -15,7 +15,7 @@ play_lines-requires-clause-places g c =
     let f = frame_seen c.args.frame.now in
     let places = places_in c.places_law.ensures s c.args.context.now.book.resources.frame f c.requires.readable c.requires.there in
     subst (λ n. AllByRecursion (LineHasPlace n) (map resource_line_seen c.as_slice.result.now)) (sym c.requires.at.many)
-        (subst (λ ls. AllByRecursion (LineHasPlace (length s.names)) (map resource_line_seen ls)) (sym c.as_slice.ensures) places.before)
+    (subst (λ ls. AllByRecursion (LineHasPlace (length s.names)) (map resource_line_seen ls)) (sym c.as_slice.ensures) places.before)
 
 pub play_lines-requires-clause-few : goal.play_lines-requires-clause-few
 play_lines-requires-clause-few g c =
@@ -77,7 +77,7 @@ returns-clause-ended g c =
     let last = recorded_after s k f c.in_ok-beside.beside c.play_lines.new.handles c.play_beside-beside.new.handles c.play_lines.new.calls c.record_blocks-all.new.context c.play_beside-beside.new.context first.0 begun c.in_ok-beside.ensures.played.1 c.play_beside-beside.ensures.rest first.3 in
     let kept = rest_kept s.encoders c.args.context.now c.play_lines.new.calls c.record_blocks-all.new.context c.play_beside-beside.new.context c.play_lines.ensures.rest begun c.play_beside-beside.ensures.rest in
     ended_since c.end_frame.result s c.play_beside-beside.new.context.book.resources.frame k f c.play_beside-beside.new.handles c.args.context.now c.play_beside-beside.new.context c.end_frame.new.context
-        (number_recorded s k f c.play_beside-beside.new.handles c.play_beside-beside.new.context last.0) kept.0 c.end_frame.ensures.ended
+    (number_recorded s k f c.play_beside-beside.new.handles c.play_beside-beside.new.context last.0) kept.0 c.end_frame.ensures.ended
 
 pub returns-clause-back : goal.returns-clause-back
 returns-clause-back g c =

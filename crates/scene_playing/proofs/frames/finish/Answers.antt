@@ -16,4 +16,4 @@ returns-clause-played g c =
     let first = c.later.ensures in
     let told = third ∙ ap (λ o. first_after o (slice_index_or c.shutdown-closed.result.backs 2 None)) (second ∙ ap (λ o. first_after o (slice_index_or c.shutdown-closed.result.backs 1 None)) first) in
     played_when_back (scene_seen c.args.scene.now) c.args.context.given _ _ _ _ _ _ c.args.is_whole c.requires.ended closes.given_is closes.unchanged (ap (map (map entry_seen)) c.from_vec.ensures)
-        (told ∙ outcome_closed c.args.told.outcome c.shutdown-closed.result.backs c.args.context.back closes.came _ few c.requires.outcome closes.back_is closes.notes_are)
+    (told ∙ outcome_closed c.args.told.outcome c.shutdown-closed.result.backs c.args.context.back closes.came _ few c.requires.outcome closes.back_is closes.notes_are)

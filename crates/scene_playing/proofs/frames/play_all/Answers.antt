@@ -26,7 +26,7 @@ loop-frame-init g c = record {
 pub play_frame-played-requires-clause-there : goal.play_frame-played-requires-clause-there
 play_frame-played-requires-clause-there g c κs within =
     subst (λ n. slice_get (map frame_seen c.args.scene.now.frames) n ≡ Some (frame_seen c.frame-item.result)) (sym (number_at (scene_seen c.args.scene.now) c.loop-frame.frame-index c.loop-frame.handles c.loop-frame.context c.loop-frame.invariant.at))
-        (frame_at c.as_slice-frame-items.result.now c.args.scene.now.frames c.loop-frame.frame-index c.frame-item.result c.as_slice-frame-items.ensures c.loop-frame-test.true c.frame-item.is)
+    (frame_at c.as_slice-frame-items.result.now c.args.scene.now.frames c.loop-frame.frame-index c.frame-item.result c.as_slice-frame-items.ensures c.loop-frame-test.true c.frame-item.is)
 
 pub returns-then-not-add-clause-ended : goal.returns-then-not-add-clause-ended
 returns-then-not-add-clause-ended g c =
@@ -36,8 +36,8 @@ returns-then-not-add-clause-ended g c =
     let lists = one_seen (map entry_seen) c.loop-frame.told.lists.items c.add.new.self.lists.items c.in-Ok.ended.journal.items c.add.ensures.lists.0 in
     let notes = one_seen note_seen c.loop-frame.told.notes.items c.add.new.self.notes.items c.in-Ok.ended.note c.add.ensures.notes.0 in
     stopped_now s c.frames_law.ensures.more c.lawful_law.ensures.more c.noted_law.ensures.more c.loop-frame.context.book.resources.frame k (frame_seen c.frame-item.result) (map entry_seen c.in-Ok.ended.journal.items) (note_seen c.in-Ok.ended.note)
-        c.play_frame-played.new.handles c.loop-frame.context c.play_frame-played.new.context _ _ _ _ (number_at s k c.loop-frame.handles c.loop-frame.context was.at) was.given lists notes
-        c.in-Ok.ended.given (sym c.add.ensures.given ∙ c.if-not-add.true) c.in-Ok.ensures.ended
+    c.play_frame-played.new.handles c.loop-frame.context c.play_frame-played.new.context _ _ _ _ (number_at s k c.loop-frame.handles c.loop-frame.context was.at) was.given lists notes
+    c.in-Ok.ended.given (sym c.add.ensures.given ∙ c.if-not-add.true) c.in-Ok.ensures.ended
 
 pub loop-frame-preserved : goal.loop-frame-preserved
 loop-frame-preserved g c =
@@ -47,8 +47,8 @@ loop-frame-preserved g c =
     let lists = one_seen (map entry_seen) c.loop-frame.told.lists.items c.add.new.self.lists.items c.in-Ok.ended.journal.items c.add.ensures.lists.0 in
     let notes = one_seen note_seen c.loop-frame.told.notes.items c.add.new.self.notes.items c.in-Ok.ended.note c.add.ensures.notes.0 in
     let more = more_now s c.frames_law.ensures.more c.lawful_law.ensures.more c.noted_law.ensures.more c.loop-frame.context.book.resources.frame k (frame_seen c.frame-item.result) (map entry_seen c.in-Ok.ended.journal.items) (note_seen c.in-Ok.ended.note)
-        c.play_frame-played.new.handles c.loop-frame.context c.play_frame-played.new.context _ _ _ _ (number_at s k c.loop-frame.handles c.loop-frame.context was.at) was.given lists notes
-        c.in-Ok.ended.given (sym c.add.ensures.given ∙ c.if-not-add.false) (frame_at c.as_slice-frame-items.result.now c.args.scene.now.frames k c.frame-item.result c.as_slice-frame-items.ensures c.loop-frame-test.true c.frame-item.is) c.in-Ok.ensures.ended in
+    c.play_frame-played.new.handles c.loop-frame.context c.play_frame-played.new.context _ _ _ _ (number_at s k c.loop-frame.handles c.loop-frame.context was.at) was.given lists notes
+    c.in-Ok.ended.given (sym c.add.ensures.given ∙ c.if-not-add.false) (frame_at c.as_slice-frame-items.result.now c.args.scene.now.frames k c.frame-item.result c.as_slice-frame-items.ensures c.loop-frame-test.true c.frame-item.is) c.in-Ok.ensures.ended in
     record {
       at = more.0;
       given = more.1;
