@@ -1,5 +1,6 @@
 pub mod Ring
 pub mod Steps
+pub mod Openings
 pub mod Slots
 pub mod WholeSeat
 pub mod Events

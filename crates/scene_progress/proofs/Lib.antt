@@ -1,0 +1,4 @@
+pub mod Lists
+pub mod Reached
+pub mod Journals
+pub mod Given
