@@ -44,6 +44,7 @@ impl<'t, C: Naming> Job<'t, C> {
         names: Arc<Vec<Option<Handle>>, Global>,
     ) -> Job<'t, C>
         requires ready { IsReady C.admits (record { encoder = encoder; lines = map encoder_line_seen lines.now; names = names.value.items }) }
+        ensures { result ≡ record { encoder = encoder.entry; lines = map encoder_line_seen lines.now; names = names.value.items } }
     {
         Job {
             encoder,
