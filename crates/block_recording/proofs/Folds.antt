@@ -1,14 +1,11 @@
--- What the first lines of a block record, and how many of them put items down, with one line more.
+-- How many of the first lines of a block put items down, with one line more.
 use Rattle.std.proofs.Common.{◌≡◌, ℕ, zero, suc, ◌+◌, ◌<◌, ◌≤◌, Bool, true, false, List, [], ◌∷◌, ◌++◌, length, get_or, take, map, filter, refl, ap, sym, ◌∙◌, arith}
 use Rattle.std.proofs.lemmas.List.{take_more, map-append, length-append}
 use Rattle.std.proofs.lemmas.List.Elements.{filter-append}
-use Rattle.std.proofs.lemmas.List.Sums.{fold-append}
-use Rattle.gfx_model.specs.Recorder.{Recorder}
 use Rattle.scene_model.specs.Scene.{EncoderLine}
-use Rattle.scene_model.specs.Fold.{Progress, after_encoder_line}
 use Rattle.scene_text.specs.declared.scene.EncLine.{EncLine}
 use Rattle.scene_text.specs.Seen.{encoder_line_seen}
-use Rattle.block_recording.specs.Lines.{is_item_line, counted, recorded}
+use Rattle.block_recording.specs.Lines.{is_item_line}
 
 -- how many of some lines put items down
 abbrev pub items_in : List EncoderLine → ℕ
@@ -32,6 +29,3 @@ module _ (lines : List EncLine) (i : ℕ) (x : EncLine) (lt : i < length lines) 
       ap items_in seen_more
       ∙ ap length (filter-append is_item_line (map encoder_line_seen (take i lines)) (encoder_line_seen x ∷ []))
       ∙ length-append (filter is_item_line (map encoder_line_seen (take i lines))) (filter is_item_line (encoder_line_seen x ∷ []))
-
-  pub recorded_more : (p : Progress) (e : Recorder) → recorded p e (map encoder_line_seen (take (i + 1) lines)) ≡ after_encoder_line p (recorded p e (map encoder_line_seen (take i lines))) (encoder_line_seen x)
-  recorded_more p e = ap (recorded p e) seen_more ∙ fold-append (after_encoder_line p) (counted e 0) (map encoder_line_seen (take i lines)) (encoder_line_seen x ∷ [])

@@ -60,6 +60,10 @@ pub record IsLineDone (names : List (Option Handle)) (line : EncoderLine) (old n
   pub frame : new.recorder.frame ≡ old.recorder.frame
   pub one : dropped ≤ 1
 
--- what lines record on an encoder, and how many of them are dropped, by a state of the definition
+-- what lines record on an encoder of which some lines were dropped before, and how many were dropped then, by a state of the definition
+abbrev pub recorded_on : Progress → Recorder → ℕ → List EncoderLine → Recording
+recorded_on p e dropped lines = fold (after_encoder_line p) (counted e dropped) lines
+
+-- the same of an encoder of which no line was dropped
 abbrev pub recorded : Progress → Recorder → List EncoderLine → Recording
-recorded p e lines = fold (after_encoder_line p) (counted e 0) lines
+recorded p e lines = recorded_on p e 0 lines

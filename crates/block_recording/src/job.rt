@@ -1,11 +1,11 @@
 // What a recorder takes: an encoder that recorded nothing, its block, and the handles for the block's names.
-ghost use Rattle.std.specs.Prelude.{◌≡◌, ◌≤◌, ◌+◌, ◌∷◌, [], ℕ, length, map, filter};
+ghost use Rattle.std.specs.Prelude.{◌≡◌, map};
 ghost use Rattle.scene_model.specs.Fold.{lines_of};
 ghost use Rattle.scene_text.specs.Seen.{encoder_line_seen, block_seen};
-ghost use Rattle.block_recording.specs.Lines.{is_item_line};
 ghost use Rattle.block_recording.specs.Jobs.{JobView, IsReady};
 
-use crate::lines::{is_item, record_line};
+use crate::rest::record_rest;
+use crate::steps::Steps;
 use draw_encoder::{Encoder, Naming};
 use gfx_words::Handle;
 use io_edge::Gate;
@@ -44,6 +44,7 @@ impl<'t, C: Naming> Job<'t, C> {
         names: Arc<Vec<Option<Handle>>, Global>,
     ) -> Job<'t, C>
         requires ready { IsReady C.admits (record { encoder = encoder; lines = map encoder_line_seen lines.now; names = names.value.items }) }
+        ensures { result ≡ record { encoder = encoder.entry; lines = map encoder_line_seen lines.now; names = names.value.items } }
     {
         Job {
             encoder,
@@ -60,28 +61,20 @@ impl<'t, C: Naming> Job<'t, C> {
             lines,
             names,
         } = self;
-        let number = encoder.number();
-        let names = names.as_slice();
-        let mut encoder = encoder;
-        let mut item = 0u32;
-        let mut dropped = 0u32;
-        for line in lines {
-            item += pass(gate, number, item, line);
-            dropped += record_line(&mut encoder, names, line);
-        }
-        encoder.end(rt, dropped);
+        record_rest(rt, gate, encoder, names.as_slice(), lines, 0);
     }
-}
 
-// Passes the gate before a line that puts an item down, and answers how many such lines this is.
-fn pass<G: Gate>(gate: &G, number: u8, item: u32, line: &EncLine) -> u32
-    ensures { result ≡ length (filter is_item_line (encoder_line_seen line.now ∷ [])) }
-{
-    if !is_item(line) {
-        return 0;
+    /// The job, to be recorded line by line.
+    pub fn into_steps(self) -> Steps<'t, C>
+        ensures { result ≡ record { encoder = self.entry.encoder; dropped = 0; lines = self.entry.lines; names = self.entry.names } }
+    {
+        let Job {
+            encoder,
+            lines,
+            names,
+        } = self;
+        Steps::of(encoder, lines, names)
     }
-    gate.at(number, item);
-    1
 }
 
 /// The lines of an encoder's block in a frame, and none where it has no block.

@@ -1,17 +1,15 @@
 -- A context is shut down.
-use Rattle.std.proofs.Common.{◌≡◌, ℕ, zero, suc, ◌+◌, ◌≤◌, List, [], ◌∷◌, ◌++◌, length, Option, Some, None, true, refl, sym, ap, ◌∙◌, subst, arith, append_assoc, append-nil}
+use Rattle.std.proofs.Common.{◌≡◌, ℕ, ◌≤◌, List, [], ◌∷◌, ◌++◌, length, Option, Some, None, refl, sym, ap, ◌∙◌, arith, append_assoc, append-nil}
 use Rattle.gfx_model.specs.World.{Item}
-use Rattle.gfx_model.specs.FrameCalls.{shut_down, frame_effect}
 use Rattle.hold_table.specs.Views.{SeatView}
-use Rattle.frame_record.specs.declared.frame.Frame.{Frame}
 use Rattle.frame_record.specs.declared.frame.RenderedFrame.{RenderedFrame}
 use Rattle.frame_record.specs.Links.{frames_of, out_of}
 use Rattle.std.proofs.lemmas.List.{drop_all}
 use Rattle.gfx_context.specs.declared.report.BackNote.{BackNote}
 use Rattle.gfx_context.specs.Gathered.{with_gathered}
 use Rattle.gfx_context.specs.Kept.{IsContext}
-use Rattle.gfx_context.specs.States.{ContextView, state_of}
-use Rattle.gfx_context.specs.Ended.{Collects, note_of, notes_of, TakesNext, Closes}
+use Rattle.gfx_context.specs.States.{ContextView}
+use Rattle.gfx_context.specs.Ended.{Collects, notes_of, TakesNext, Closes}
 
 module _ {L : Type 0} where
   -- what a step leaves

@@ -1,11 +1,10 @@
 -- What an accepted create tells.
 use Rattle.std.proofs.Common.{◌≡◌, ℕ, ◌+◌, ◌<◌, ◌≤◌, Bool, true, false, List, [], ◌∷◌, ◌++◌, map, length, Option, Some, None, if◌then◌else◌, inl, refl, sym, ap, ◌∙◌, subst, arith}
-use Rattle.std.specs.List.{AllByRecursion}
-use Rattle.std.proofs.lemmas.Option.{same_Some, none-some}
-use Rattle.gfx_model.specs.Words.{Kind, layout_kind, vertex_buffer_kind, index_buffer_kind, texture_kind, frame_buffer_kind, program_kind, uniform_kind, Info, plain, texture_info, uniform_info, Handle, Format, ProgramKind, UniformKind, first_place, place_of_handle}
+use Rattle.std.proofs.lemmas.Option.{same_Some}
+use Rattle.gfx_model.specs.Words.{Kind, layout_kind, vertex_buffer_kind, index_buffer_kind, texture_kind, frame_buffer_kind, program_kind, Info, plain, texture_info, Handle, Format, ProgramKind, first_place, place_of_handle}
 use Rattle.gfx_model.specs.Vertex.{Layout}
-use Rattle.gfx_model.specs.World.{Item, Content, Change, layout_content, vertex_content, index_content, texture_content, frame_buffer_content, program_content, uniform_content}
-use Rattle.gfx_model.specs.Resources.{Refusal, Thing, Resources, ResourceCall, TexelSource, Effect, create_layout, create_vertex_buffer, create_index_buffer, create_texture, create_frame_buffer, create_program, create_uniform, refusals, refusal_of, effect, make, lacks_index, lacks_serial, book_of, top_index, layout_of_handle, texels_from, serial_option, zero_value}
+use Rattle.gfx_model.specs.World.{Item, Content, layout_content, vertex_content, index_content, texture_content, frame_buffer_content, program_content}
+use Rattle.gfx_model.specs.Resources.{Resources, ResourceCall, TexelSource, Effect, create_layout, create_vertex_buffer, create_index_buffer, create_texture, create_frame_buffer, create_program, refusals, refusal_of, effect, make, lacks_index, lacks_serial, book_of, top_index, layout_of_handle, texels_from}
 use Rattle.schedule_model.specs.Machine.{free, place_at}
 use Rattle.hold_table.specs.Views.{SeatView, created}
 use Rattle.resource_laws.specs.Bare.{bare_of}
@@ -17,7 +16,6 @@ use Rattle.gfx_model.specs.Views.{View}
 use Rattle.gfx_context.proofs.Targets.{targets_stay}
 use Rattle.gfx_context.specs.States.{ContextView}
 use Rattle.gfx_context.specs.Calls.{IsPlacedBy, Makes}
-use Rattle.gfx_context.specs.Places.{Stays}
 use Rattle.gfx_context.proofs.Stays.{stays_unnamed, free_unnamed}
 use Rattle.gfx_context.proofs.Moves.{kept_moved}
 use Rattle.gfx_context.proofs.Same.{same_after}

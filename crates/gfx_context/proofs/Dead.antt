@@ -1,8 +1,8 @@
 -- A thing that is not kept is dying, of a frame before.
-use Rattle.std.proofs.Common.{◌≡◌, ℕ, ◌+◌, ◌<◌, ◌≤◌, ◌==◌, ◌&&◌, Bool, true, false, not, nat_le, Option, Some, None, refl, sym, ap, ◌∙◌, subst, arith, List}
+use Rattle.std.proofs.Common.{◌≡◌, ℕ, ◌+◌, ◌<◌, ◌≤◌, ◌==◌, ◌&&◌, Bool, true, false, not, nat_le, Option, Some, None, refl, ap, ◌∙◌, arith, List}
 use Rattle.std.proofs.lemmas.Bool.{leb-true, false_from_ne_true}
 use Rattle.gfx_model.specs.Resources.{is_kept_death}
-use Rattle.schedule_model.specs.Machine.{Place, live, dying, place_at, has_usable}
+use Rattle.schedule_model.specs.Machine.{Place, dying, place_at, has_usable}
 use Rattle.gfx_context.specs.Places.{place_by}
 
 not_false : (b : Bool) → not b ≡ false → b ≡ true

@@ -1,5 +1,5 @@
 -- A thing that dies in its place.
-use Rattle.std.proofs.Common.{◌≡◌, ◌≢◌, ℕ, zero, suc, ◌+◌, ◌-◌, ◌<◌, ◌≤◌, ◌==◌, Bool, true, false, ◌&&◌, if◌then◌else◌, List, [], ◌∷◌, length, Option, Some, None, refl, sym, ap, ◌∙◌, subst, arith, slice_set, option_map, eq-eqb, ne_eqb, not, nat_lt, map}
+use Rattle.std.proofs.Common.{◌≡◌, ◌≢◌, ℕ, ◌+◌, ◌-◌, ◌<◌, ◌≤◌, ◌==◌, Bool, true, false, ◌&&◌, if◌then◌else◌, List, [], ◌∷◌, length, Option, Some, None, refl, sym, ap, ◌∙◌, subst, arith, slice_set, option_map, eq-eqb, ne_eqb, not, nat_lt, map}
 use Rattle.std.specs.List.{find}
 use Rattle.std.proofs.lemmas.Bool.{eqb-true}
 use Rattle.std.proofs.lemmas.Option.{same_Some}
@@ -19,7 +19,6 @@ use Rattle.gfx_context.specs.Calls.{destroyed}
 use Rattle.gfx_context.proofs.Stays.{stays_named, dying_named}
 use Rattle.gfx_context.proofs.Moves.{kept_moved, kept_same}
 use Rattle.gfx_context.proofs.Targets.{targets_stay}
-use Rattle.gfx_context.proofs.Same.{same_after}
 use Rattle.resource_book.specs.Written.{BookView, after_in}
 use Rattle.resource_book.specs.Answered.{HasLiveThing}
 use Rattle.resource_laws.specs.Lawful.{IsLawful}

@@ -1,20 +1,20 @@
 -- A thing whose death is over is dropped, and its place freed.
-use Rattle.std.proofs.Common.{◌≡◌, ◌≢◌, ℕ, zero, suc, ◌+◌, ◌<◌, ◌≤◌, ◌==◌, Bool, true, false, ◌&&◌, if◌then◌else◌, List, [], ◌∷◌, ◌++◌, map, filter, take, drop, length, Option, Some, None, refl, sym, ap, ◌∙◌, subst, arith, set, slice_set, slice_index_or, append_assoc}
+use Rattle.std.proofs.Common.{◌≡◌, ◌≢◌, ℕ, zero, suc, ◌+◌, ◌<◌, ◌≤◌, Bool, true, false, if◌then◌else◌, List, [], ◌∷◌, ◌++◌, filter, take, drop, length, Some, None, refl, sym, ap, ◌∙◌, subst, arith, slice_set, slice_index_or, append_assoc}
 use Rattle.std.specs.List.{find, AllByRecursion}
-use Rattle.std.proofs.lemmas.List.{length-set, append-nil, map-append, drop_more, take_more, take-append-drop}
+use Rattle.std.proofs.lemmas.List.{append-nil, map-append, drop_more, take_more, take-append-drop}
 use Rattle.std.proofs.lemmas.List.Elements.{filter-append}
 use Rattle.resource_book.specs.declared.rows.Row.{Row}
 use Rattle.resource_book.specs.Seen.{row_seen, rows_seen}
 use mathlib.Core.Logic.{dite}
 use native.Mathlib.Decide.{ℕ_discrete}
-use Rattle.gfx_model.specs.Words.{Kind, kind_number, greatest, first_place, place_of_handle}
+use Rattle.gfx_model.specs.Words.{Kind, greatest, first_place, place_of_handle}
 use Rattle.gfx_model.specs.Resources.{Thing, is_at}
 use Rattle.schedule_model.specs.Machine.{Place, free, place_at}
 use Rattle.hold_table.proofs.PlaceLaws.{place-set, place-else}
 use Rattle.resource_laws.specs.Lawful.{count_where}
 use Rattle.gfx_model.proofs.Apart.{kind_apart, index_apart, place_below}
 use Rattle.gfx_context.specs.Places.{place_of, IsPlaced}
-use Rattle.gfx_context.proofs.Tied.{found_behind, found_front, none_from_count, at_place, not_true, at_again, itself}
+use Rattle.gfx_context.proofs.Tied.{found_behind, none_from_count, at_place, not_true, at_again, itself}
 
 pub count_append : {A : Type 0} (p : A → Bool) (xs ys : List A) → count_where p (xs ++ ys) ≡ count_where p xs + count_where p ys
 count_append p [] ys = omega arith

@@ -1,11 +1,10 @@
 -- What a context keeps where bundles are collected, a frame comes back and a frame is given.
-use Rattle.std.proofs.Common.{◌≡◌, ℕ, Bool, zero, suc, ◌+◌, ◌-◌, ◌<◌, ◌≤◌, List, [], ◌∷◌, ◌++◌, map, length, refl, sym, ap, ◌∙◌, subst, arith, if◌then◌else◌, nat_lt}
+use Rattle.std.proofs.Common.{◌≡◌, ℕ, Bool, suc, ◌+◌, ◌<◌, ◌≤◌, List, [], ◌∷◌, ◌++◌, map, length, sym, ap, ◌∙◌, subst, arith, if◌then◌else◌, nat_lt}
 use Rattle.std.proofs.lemmas.Bool.{false_from_ne_true, ltb-true}
 use Rattle.gfx_model.specs.Views.{view_count}
 use Rattle.gfx_model.specs.World.{Item}
 use Rattle.gfx_model.specs.Resources as model
 use Rattle.schedule_model.specs.Held.{count_of}
-use Rattle.schedule_model.specs.Machine.{Place}
 use Rattle.hold_table.specs.Views.{SeatView, advanced, once_between}
 use Rattle.draw_encoder.specs.declared.items.Recording.{Recording}
 use Rattle.frame_record.specs.declared.frame.Frame.{Frame}

@@ -1,9 +1,9 @@
 -- The end of a frame, from its parts.
-use Rattle.std.proofs.Common.{◌≡◌, ℕ, suc, ◌+◌, ◌-◌, ◌<◌, ◌≤◌, ◌==◌, nat_le, Bool, true, false, ◌||◌, List, [], ◌∷◌, ◌++◌, map, length, Option, Some, None, MatchOption, if◌then◌else◌, refl, sym, ap, ◌∙◌, subst, arith, eq-eqb, ne_eqb}
+use Rattle.std.proofs.Common.{◌≡◌, ℕ, suc, ◌+◌, ◌-◌, ◌<◌, ◌==◌, nat_le, Bool, true, false, ◌||◌, List, [], map, Option, Some, None, MatchOption, if◌then◌else◌, refl, sym, ap, ◌∙◌, subst, arith, eq-eqb, ne_eqb}
 use Rattle.std.proofs.lemmas.Bool.{false_from_ne_true, leb-true}
 use Rattle.gfx_model.specs.Frames.{collected}
 use Rattle.gfx_model.specs.Resources as model
-use Rattle.gfx_model.specs.FrameCalls.{greatest_frame, end_frame, frame_refusal, frame_effect, backs_at_end, is_given, given, ended}
+use Rattle.gfx_model.specs.FrameCalls.{greatest_frame, end_frame, frame_refusal, backs_at_end, is_given, given, ended}
 use Rattle.resource_book.specs.Written.{BookView}
 use Rattle.resource_book.specs.Works.{with_nothing_written}
 use Rattle.frame_record.specs.declared.frame.RenderedFrame.{RenderedFrame}
@@ -14,7 +14,7 @@ use Rattle.gfx_context.specs.declared.report.FrameReport.{FrameReport}
 use Rattle.gfx_context.specs.declared.ending.Prepared.{Prepared}
 use Rattle.gfx_context.specs.Gathered.{dropped_in}
 use Rattle.gfx_context.specs.States.{ContextView, state_of}
-use Rattle.gfx_context.specs.Ended.{is_shown, MakesWay, IsPrepared, GivesWork, FinishesWhere, Gives, GivesWhere, Ends, started}
+use Rattle.gfx_context.specs.Ended.{is_shown, MakesWay, IsPrepared, GivesWork, FinishesWhere, GivesWhere, Ends, started}
 
 -- what is known of the report before a frame is given or not
 pub record IsReport {L : Type 0} (report : FrameReport) (old : ContextView L) : Type 0 where

@@ -1,13 +1,11 @@
 -- A bundle more is gathered.
-use Rattle.std.proofs.Common.{◌≡◌, ℕ, suc, ◌+◌, ◌-◌, ◌<◌, ◌≤◌, ◌==◌, Bool, true, false, List, [], ◌∷◌, ◌++◌, map, length, refl, ap, ◌∙◌, sym, arith, subst, length-append, if◌then◌else◌, nat_lt, append-nil, slice_index_or, take}
+use Rattle.std.proofs.Common.{◌≡◌, ℕ, ◌+◌, ◌<◌, ◌≤◌, List, [], ◌∷◌, ◌++◌, length, refl, ap, ◌∙◌, sym, arith, subst, length-append, append-nil, slice_index_or, take}
 use Rattle.std.proofs.lemmas.List.Concat.{flat_map-append}
 use Rattle.std.proofs.lemmas.List.{take_more}
 use Rattle.std.proofs.lemmas.List.Sums.{sum_by-append, sum_by-cons}
-use Rattle.std.specs.List.{AllByRecursion}
 use Rattle.schedule_model.proofs.Lists.{all-map, all-snoc}
 use Rattle.gfx_model.specs.Words.{Handle}
 use Rattle.gfx_model.specs.World.{Item}
-use Rattle.schedule_model.specs.Machine.{Place}
 use Rattle.schedule_model.specs.Held.{count_of}
 use Rattle.hold_table.specs.Views.{SeatView, without, more, joined_with, HasNamed}
 use Rattle.hold_table.proofs.Keeps.{count_without, length_without}
@@ -15,12 +13,12 @@ use Rattle.hold_table.specs.declared.table.EncSeat.{EncSeat}
 use Rattle.hold_table.specs.Seats.{enc_view}
 use Rattle.draw_encoder.specs.declared.items.Recording.{Recording}
 use Rattle.draw_encoder.specs.Seen.{numbers_of, uniforms_seen}
-use Rattle.draw_encoder.specs.Names.{FitsUniform, FitsItem}
+use Rattle.draw_encoder.specs.Names.{FitsItem}
 use Rattle.draw_encoder.specs.Bundles.{items_of, BelongTogether}
 use Rattle.draw_encoder.proofs.NameLaws.{item_fits, uniforms_fit}
 use Rattle.frame_record.specs.Kept.{numbers_in}
 use Rattle.gfx_context.specs.Places.{IsUsable}
-use Rattle.gfx_context.specs.Gathered.{encoders_in, once_below, IsCollected, AreCollected, AreGathered, AreOfFrame, with_gathered, dropped_in}
+use Rattle.gfx_context.specs.Gathered.{encoders_in, IsCollected, AreCollected, AreGathered, AreOfFrame, with_gathered, dropped_in}
 
 pub numbers_snoc : (rs : List Recording) (r : Recording) → numbers_in (rs ++ r ∷ []) ≡ numbers_in rs ++ numbers_of r.items
 numbers_snoc rs r = flat_map-append (λ x. numbers_of x.items) rs (r ∷ []) ∙ ap (λ l. numbers_in rs ++ l) (append-nil (numbers_of r.items))

@@ -1,14 +1,14 @@
 -- What encoders recorded names things that live or die in the frame.
-use Rattle.std.proofs.Common.{◌≡◌, ℕ, ◌+◌, ◌<◌, ◌≤◌, ◌==◌, ◌&&◌, nat_le, Bool, true, false, if◌then◌else◌, IsTrue, List, [], ◌∷◌, map, Option, Some, None, IfSome, refl, sym, ap, ◌∙◌, subst, arith, eq-eqb}
+use Rattle.std.proofs.Common.{◌≡◌, ℕ, ◌≤◌, ◌==◌, ◌&&◌, nat_le, Bool, true, false, if◌then◌else◌, IsTrue, List, [], ◌∷◌, map, Option, Some, None, IfSome, refl, sym, ap, ◌∙◌, subst, arith, eq-eqb}
 use Rattle.std.proofs.lemmas.Bool.{leb-true, eqb-true, true≢false}
 use Rattle.std.proofs.lemmas.Option.{none-some}
 use Rattle.std.specs.List.{AllByRecursion, find}
 use Rattle.gfx_words.proofs.NameLaws.{same_kind}
-use Rattle.gfx_model.specs.Words.{Kind, vertex_buffer_kind, index_buffer_kind, layout_kind, texture_kind, frame_buffer_kind, uniform_kind, program_kind, kind_number, is_kind, Format, rgba8, d24s8, is_rgba8, Handle, place_of_handle}
+use Rattle.gfx_model.specs.Words.{Kind, vertex_buffer_kind, index_buffer_kind, layout_kind, texture_kind, frame_buffer_kind, uniform_kind, program_kind, kind_number, is_kind, Format, rgba8, d24s8, Handle, place_of_handle}
 use Rattle.gfx_model.specs.World.{VertexSet, no_vertices, stored_vertices, transient_vertices, IndexSet, no_indices, stored_indices, transient_indices, UniformSet, Item, draw_item, touch_item, blit_item}
 use Rattle.gfx_model.specs.Recorder.{format_of, format_in, is_rgba8_option, same_formats, takes_value}
 use Rattle.gfx_model.specs.Resources.{Thing, Resources, is_at}
-use Rattle.schedule_model.specs.Machine.{Place, free, place_at, has_usable}
+use Rattle.schedule_model.specs.Machine.{Place, place_at, has_usable}
 use Rattle.resource_laws.specs.Bare.{bare}
 use Rattle.resource_laws.specs.Lawful.{IsLawful}
 use Rattle.resource_laws.proofs.LiveLaws.{all_found}

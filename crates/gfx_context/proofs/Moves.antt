@@ -1,5 +1,5 @@
 -- What a context keeps where places and the state of the calls change.
-use Rattle.std.proofs.Common.{◌≡◌, ℕ, ◌+◌, ◌-◌, ◌<◌, ◌≤◌, List, refl, sym, ap, ◌∙◌, subst, arith}
+use Rattle.std.proofs.Common.{◌≡◌, ℕ, ◌+◌, ◌-◌, ◌<◌, ◌≤◌, List, sym, ◌∙◌, subst, arith}
 use Rattle.gfx_model.specs.Views.{view_count}
 use Rattle.gfx_model.specs.World.{Item}
 use Rattle.schedule_model.specs.Machine.{Place}

@@ -1,10 +1,10 @@
 -- What a new context keeps.
-use Rattle.std.proofs.Common.{◌≡◌, ℕ, zero, suc, ◌+◌, ◌<◌, ◌≤◌, List, [], ◌∷◌, ◌++◌, map, length, drop, replicate, false, inr, refl, sym, ap, ◌∙◌, subst, arith, append-nil}
+use Rattle.std.proofs.Common.{◌≡◌, ℕ, zero, suc, ◌+◌, ◌≤◌, List, [], ◌++◌, map, length, replicate, false, inr, refl, sym, ap, ◌∙◌, subst, arith, append-nil}
 use Rattle.std.proofs.lemmas.List.{length-map, length-replicate, drop_all}
 use Rattle.gfx_model.specs.Words.{first_place}
 use Rattle.gfx_model.specs.Views.{plain_view}
 use Rattle.gfx_model.specs.World.{Item}
-use Rattle.schedule_model.specs.Machine.{Place, free, place_at, place_count}
+use Rattle.schedule_model.specs.Machine.{free, place_at, place_count}
 use Rattle.hold_table.specs.Views.{SeatView, first_view}
 use Rattle.frame_record.specs.declared.frame.Frame.{Frame}
 use Rattle.frame_record.specs.declared.frame.RenderedFrame.{RenderedFrame}
@@ -13,7 +13,7 @@ use Rattle.resource_book.specs.declared.opening.Start.{Start}
 use Rattle.resource_book.specs.Written.{BookView}
 use Rattle.draw_encoder.specs.declared.items.Recording.{Recording}
 use Rattle.resource_book.specs.Opened.{opened}
-use Rattle.gfx_context.specs.Kept.{KeepsNames, AreOut, IsContext}
+use Rattle.gfx_context.specs.Kept.{KeepsNames, IsContext}
 use Rattle.gfx_context.specs.States.{ContextView}
 use Rattle.gfx_context.proofs.Ends.{none_begun}
 use Rattle.gfx_context.proofs.Targets.{new_targets}

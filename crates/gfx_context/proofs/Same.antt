@@ -1,5 +1,5 @@
 -- Calls that make nothing and let nothing die.
-use Rattle.std.proofs.Common.{◌≡◌, ℕ, ◌<◌, Bool, true, false, not, List, [], ◌∷◌, Option, Some, None, Result, Ok, Err, ◌-◌, if◌then◌else◌, refl, sym, ap, ◌∙◌, subst, arith, set, slice_set, nat_lt}
+use Rattle.std.proofs.Common.{◌≡◌, ℕ, Bool, true, false, not, List, Option, Some, None, Result, Ok, Err, ◌-◌, if◌then◌else◌, refl, sym, ◌∙◌, subst, arith, slice_set, nat_lt}
 use Rattle.std.specs.List.{find}
 use Rattle.std.proofs.lemmas.List.{length-set}
 use Rattle.gfx_model.specs.Views.{View, Clear, ViewMode, plain_view, view_count, view_at}
@@ -12,12 +12,11 @@ use Rattle.gfx_context.specs.Kept.{IsTarget, AreTargets}
 use Rattle.gfx_context.proofs.Targets.{same_targets, other_target, live_is_target}
 use Rattle.gfx_model.specs.Resources.{Thing, Resources, ResourceCall, create_layout, create_vertex_buffer, create_index_buffer, create_texture, create_frame_buffer, create_program, create_uniform, update_buffer, update_texture, destroy, set_view_rect, set_view_scissor, set_view_clear, set_view_mode, set_view_transform, set_view_target, set_view_order, reset_view, effect, refusals, refusal_of, is_live_handle, named_uniform, uniform_effect, no_change, die, on_thing, with_references, references_of, is_at}
 use Rattle.hold_table.specs.Views.{SeatView}
-use Rattle.resource_laws.specs.Bare.{bare_of}
 use Rattle.resource_book.specs.Written.{BookView, after_in}
 use Rattle.resource_book.specs.Answered as books
 use Rattle.gfx_words.specs.declared.refusals.Refusal.{Refusal}
 use Rattle.gfx_context.specs.Places.{IsPlaced}
-use Rattle.gfx_context.specs.Kept.{IsTied, IsContext}
+use Rattle.gfx_context.specs.Kept.{IsContext}
 use Rattle.gfx_context.specs.Calls.{updated, Changes, Updates}
 use Rattle.gfx_context.specs.States.{ContextView}
 use Rattle.gfx_context.proofs.Moves.{kept_same}

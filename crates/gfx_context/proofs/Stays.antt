@@ -1,17 +1,17 @@
 -- What can be named stays so.
-use Rattle.std.proofs.Common.{◌≡◌, ◌≢◌, ℕ, zero, suc, length, ◌+◌, ◌<◌, ◌≤◌, ◌==◌, ◌&&◌, nat_le, Bool, true, false, List, [], ◌∷◌, refl, sym, ap, ◌∙◌, subst, arith, IsTrue, map, slice_set}
+use Rattle.std.proofs.Common.{◌≡◌, ◌≢◌, ℕ, zero, suc, length, ◌+◌, ◌<◌, ◌≤◌, ◌==◌, ◌&&◌, Bool, true, false, List, [], ◌∷◌, refl, sym, ap, ◌∙◌, subst, arith, IsTrue, map, slice_set}
 use Rattle.std.proofs.lemmas.Bool.{le-leb, true≢false}
 use Rattle.std.specs.List.{AllByRecursion, range_with_len}
 use mathlib.Core.Logic.{dite}
 use native.Mathlib.Decide.{ℕ_discrete}
 use Rattle.schedule_model.proofs.Lists.{all-map}
 use Rattle.gfx_model.specs.Words.{Handle, place_of_handle}
-use Rattle.gfx_model.specs.World.{Item, UniformSet}
+use Rattle.gfx_model.specs.World.{Item}
 use Rattle.schedule_model.specs.Machine.{Place, free, live, dying, place_at, has_usable}
 use Rattle.hold_table.proofs.PlaceLaws.{place-set, place-else}
 use Rattle.draw_encoder.specs.declared.items.Recording.{Recording}
 use Rattle.draw_encoder.specs.Seen.{uniforms_seen}
-use Rattle.draw_encoder.specs.Names.{FitsItem, FitsUniform}
+use Rattle.draw_encoder.specs.Names.{FitsItem}
 use Rattle.draw_encoder.specs.Bundles.{items_of}
 use Rattle.draw_encoder.proofs.NameLaws.{item_fits, uniforms_fit}
 use Rattle.frame_record.specs.declared.frame.Frame.{Frame}

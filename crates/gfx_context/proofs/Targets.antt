@@ -1,6 +1,6 @@
 -- The targets of views.
-use Rattle.std.proofs.Common.{◌≡◌, ℕ, zero, suc, ◌+◌, ◌<◌, ◌≤◌, ◌==◌, Bool, true, false, not, IsTrue, List, [], ◌∷◌, map, length, replicate, Option, Some, None, if◌then◌else◌, slice_set, slice_index_or, refl, sym, ap, ◌∙◌, subst, arith, eq-eqb}
-use Rattle.std.specs.List.{AllByRecursion, find}
+use Rattle.std.proofs.Common.{◌≡◌, ℕ, zero, suc, ◌<◌, ◌==◌, Bool, true, false, IsTrue, List, [], ◌∷◌, map, replicate, Option, Some, None, if◌then◌else◌, slice_set, slice_index_or, refl, sym, ap, ◌∙◌, subst, arith, eq-eqb}
+use Rattle.std.specs.List.{find}
 use Rattle.schedule_model.proofs.Lists.{all-map, all-set}
 use Rattle.gfx_model.specs.Words.{Handle, frame_buffer_kind, is_kind, kind_number, greatest, place_of_handle}
 use Rattle.gfx_model.specs.Views.{View, Views, plain_view, view_at}

@@ -1,21 +1,21 @@
 -- Places and things agree, call by call.
-use Rattle.std.proofs.Common.{◌≡◌, ◌≢◌, ℕ, zero, suc, ◌+◌, ◌<◌, ◌≤◌, ◌==◌, Bool, true, false, ◌&&◌, if◌then◌else◌, List, [], ◌∷◌, ◌++◌, map, length, Option, Some, None, refl, sym, ap, ◌∙◌, subst, arith, set, slice_set, eq-eqb, ne_eqb}
+use Rattle.std.proofs.Common.{◌≡◌, ◌≢◌, ℕ, zero, suc, ◌+◌, ◌<◌, ◌==◌, Bool, true, false, ◌&&◌, if◌then◌else◌, List, [], ◌∷◌, ◌++◌, map, length, Some, None, refl, sym, ap, ◌∙◌, arith, slice_set, eq-eqb}
 use Rattle.std.specs.List.{find}
 use Rattle.std.proofs.lemmas.List.{length-set}
 use Rattle.std.proofs.lemmas.Bool.{eqb-true}
 use mathlib.Core.Logic.{dite}
 use native.Mathlib.Decide.{ℕ_discrete}
-use Rattle.gfx_model.specs.Words.{Kind, Info, plain, kind_number, greatest, first_place, is_kind, place_of_handle}
+use Rattle.gfx_model.specs.Words.{Kind, Info, plain, kind_number, greatest, first_place, place_of_handle}
 use Rattle.gfx_model.specs.World.{Content, layout_content}
 use Rattle.gfx_model.specs.Resources.{Thing, Resources, is_at, book_of, make, lacks_index, lacks_serial, top_index, no_layout}
-use Rattle.schedule_model.specs.Machine.{Place, free, live, dying, place_at}
+use Rattle.schedule_model.specs.Machine.{Place, free, live, place_at}
 use Rattle.hold_table.specs.Views.{SeatView, created}
 use Rattle.hold_table.proofs.PlaceLaws.{place-set, place-else}
 use Rattle.resource_laws.specs.Bare.{bare, bare_of}
 use Rattle.resource_laws.specs.Lawful.{count_where, IsLawful}
 use Rattle.gfx_model.proofs.Apart.{kind_apart, index_apart, first_by_number, place_below}
 use Rattle.resource_laws.proofs.LawfulLaws.{top_below, none_before}
-use Rattle.gfx_context.specs.Places.{place_by, place_of, IsPlaced}
+use Rattle.gfx_context.specs.Places.{place_of, IsPlaced}
 use Rattle.gfx_context.specs.Kept.{IsTied}
 
 -- ---- finding

@@ -1,5 +1,5 @@
 -- How the calls are answered.
-use Rattle.std.specs.Prelude.{◌≡◌, ℕ, ◌+◌, true, List, [], ◌∷◌, Option, Some, None, Result, MatchResult, if◌then◌else◌, not, nat_lt}
+use Rattle.std.specs.Prelude.{◌≡◌, ◌+◌, true, List, [], ◌∷◌, Some, None, Result, MatchResult, if◌then◌else◌, not, nat_lt}
 use Rattle.std.specs.List.{find}
 use Rattle.gfx_model.specs.Words.{Handle, place_of_handle}
 use Rattle.gfx_model.specs.World.{Change}

@@ -11,6 +11,8 @@ mod freeing;
 mod gathering;
 mod marks;
 mod report;
+#[cfg(test)]
+mod tests;
 mod updates;
 mod views;
 

@@ -76,7 +76,7 @@ length_by_index h [] = refl
 length_by_index h (f ∷ fs) = ap suc (length_by_index (frame_by_index h f) fs)
 
 -- there are as many pictures as frames
-length_pictures : (h : Stores) (rs : List RenderedFrame) → length (pictures_seen h rs) ≡ length rs
+pub length_pictures : (h : Stores) (rs : List RenderedFrame) → length (pictures_seen h rs) ≡ length rs
 length_pictures h rs = length_by_index h (frames_seen rs) ∙ length-map rs (λ r. frame_seen r.frame)
 
 -- ---- one frame more

@@ -2,6 +2,7 @@ mod Counts
 mod EndedFrames
 mod Found
 mod OneItem
+mod OneWay
 mod Parts
 mod Pieces
 mod Runs

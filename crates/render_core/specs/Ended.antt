@@ -57,3 +57,14 @@ EndedLaw = (old new : Rendering) (rs : List RenderedFrame) → AreRendered old r
 -- however frames ended, the sink's faults did not become fewer, and it is sure of just what it was
 abbrev pub KeptLaw : Type 0
 KeptLaw = (old new : Rendering) (rs : List RenderedFrame) → AreRendered old rs new → (old.faults ≤ new.faults) × (new.sure ≡ old.sure)
+
+-- what a sink has of rendered frames, by how they ended
+abbrev pub HasTexts : Outcome → (old : Rendering) → List RenderedFrame → (new : Rendering) → Type 0
+HasTexts outcomes.Shown old rs new = (new.held ≡ with_back old.held (texts_seen old.stores rs)) × (new.tally ≡ counted_with old.tally (texts_seen old.stores rs))
+HasTexts outcomes.PictureFault old rs new = EndsAs outcomes.PictureFault old rs new
+HasTexts outcomes.OutOfMemory old rs new = EndsAs outcomes.OutOfMemory old rs new
+HasTexts outcomes.Skipped old rs new = ⊥
+
+-- a sink has what the end says too where it is only known that frames were rendered one after another, as of a link that renders in place
+abbrev pub TextsLaw : Type 0
+TextsLaw = (old new : Rendering) (rs : List RenderedFrame) → ∥ AreRendered old rs new ∥₁ → has_ended old.outcomes ≡ false → HasTexts (first_outcome rs) old rs new

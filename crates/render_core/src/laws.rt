@@ -1,5 +1,5 @@
 // Laws of rendered frames.
-ghost use Rattle.render_core.specs.Ended.{EndedLaw, KeptLaw};
+ghost use Rattle.render_core.specs.Ended.{EndedLaw, KeptLaw, TextsLaw};
 ghost use Rattle.render_core.specs.Laws.{ShownLaw};
 
 /// Where frames were rendered one after another and all were shown, the stores are those after these frames by index, and the sink holds
@@ -18,4 +18,10 @@ pub fn ended_law()
 /// However frames that were rendered one after another ended, the sink counted no fewer faults, and is sure of just what it was.
 pub fn kept_law()
     ensures { KeptLaw }
+{}
+
+/// What the sink has of frames of which it is only known that they were rendered one after another, as of those of a link that renders in
+/// place: all texts, held and counted, a front of them, or the whole texts of the first ones, as `ended_law` has it.
+pub fn texts_law()
+    ensures { TextsLaw }
 {}

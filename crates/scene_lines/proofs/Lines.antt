@@ -1,15 +1,13 @@
 -- Lines as the code answers them are the definition's.
-use Rattle.std.proofs.Common.{◌≡◌, ◌≢◌, ℕ, zero, suc, ◌+◌, ◌<◌, ◌≤◌, ◌==◌, Bool, true, false, if◌then◌else◌, List, [], ◌∷◌, ◌++◌, length, map, take, fold, Option, Some, None, Ok, Err, is_some, refl, sym, ap, ◌∙◌, subst, arith, slice_index_or, slice_set, eq-eqb, ne_eqb}
+use Rattle.std.proofs.Common.{◌≡◌, ◌≢◌, ℕ, zero, suc, ◌+◌, ◌<◌, Bool, true, false, if◌then◌else◌, List, [], ◌∷◌, ◌++◌, length, map, take, fold, Option, Some, None, Ok, is_some, refl, sym, ap, ◌∙◌, subst, arith, slice_index_or, slice_set, eq-eqb, ne_eqb}
 use Rattle.std.proofs.lemmas.List.{get_or-set_same, get_or-set_other, length-set, append-nil, append_assoc}
 use Rattle.std.specs.List.{AllByRecursion}
 use Rattle.std.proofs.lemmas.List.Sums.{fold-append}
-use Rattle.std.proofs.lemmas.Option.{same_Some}
 use native.Mathlib.Decide.{ℕ_discrete}
 use mathlib.Core.Logic.{dite}
 use Rattle.gfx_model.specs.Words.{Handle}
 use Rattle.gfx_model.specs.Resources.{Refusal, or_refusal, Resources, ResourceCall, refusal_of, effect}
 use Rattle.call_laws.specs.Calls.{Written, after_call}
-use Rattle.resource_laws.specs.Bare.{bare_of}
 use Rattle.resource_laws.proofs.RunLaws.{bare_law}
 use Rattle.scene_model.specs.Scene.{Name, ResourceLine}
 use Rattle.scene_model.specs.Fold.{Bindings, thing_named, resource_call, created_name, Progress, drop_line, bound_by, after_answer, after_line, after_lines}
@@ -18,8 +16,8 @@ use Rattle.resource_book.specs.Written.{BookView, after_in}
 use Rattle.resource_book.specs.Laws.{bared, WrittenLaw}
 use Rattle.resource_book.proofs.WrittenLaws.{written_law}
 use Rattle.scene_laws.specs.SceneFrames.{unless_refused, accepted_call, calls_of}
-use Rattle.scene_lines.specs.Names.{handle_of, AreNamed, with_bound, HasPlace, LineHasPlace}
-use Rattle.scene_lines.specs.Played.{IsAccepted, IsSame, IsCalled, LineCalled, one_if, StandsFor, LinesPlayed, FrontPlayed}
+use Rattle.scene_lines.specs.Names.{AreNamed, with_bound, HasPlace, LineHasPlace}
+use Rattle.scene_lines.specs.Played.{IsAccepted, IsSame, IsCalled, LineCalled, one_if, StandsFor, LinesPlayed}
 
 -- ---- names
 
@@ -139,11 +137,3 @@ placed P f (y ∷ ys) (suc i) x lt e a = placed P f ys i x (omega (arith, lt)) e
 pub all_taken : {A B : Type 0} (f : A → B) (xs : List A) → take (length xs) (map f xs) ≡ map f xs
 all_taken f [] = refl
 all_taken f (x ∷ xs) = ap (λ ys. f x ∷ ys) (all_taken f xs)
-
-pub front_played : (names : List (List ℕ)) (lines : List ResourceLine) (i count : ℕ) (old half new : BookView) (before between after : List (Option Handle)) → i ≤ length lines → LinesPlayed names (take i lines) count old half before between → IsSame half new between after → FrontPlayed names lines old new before after
-front_played names lines i count old half new before between after le played same = record {
-  count = i;
-  few = le;
-  dropped = count;
-  played = subst (λ (v : BookView). LinesPlayed names (take i lines) count old v before after) (sym same.0) (subst (λ (hs : List (Option Handle)). LinesPlayed names (take i lines) count old half before hs) (sym same.1) played);
-}

@@ -1,10 +1,10 @@
 -- Each name that a line of a readable scene binds is one of the scene's names.
-use Rattle.std.proofs.Common.{◌≡◌, ℕ, zero, suc, ◌+◌, ◌<◌, ◌≤◌, nat_lt, ◌⊎◌, inl, inr, Bool, true, false, if◌then◌else◌, List, [], ◌∷◌, ◌++◌, length, Option, Some, None, refl, sym, ap, ◌∙◌, subst, arith, slice_get}
+use Rattle.std.proofs.Common.{◌≡◌, ℕ, zero, suc, ◌+◌, ◌<◌, ◌≤◌, nat_lt, inl, inr, Bool, true, false, if◌then◌else◌, List, [], ◌∷◌, ◌++◌, length, Some, refl, arith, slice_get}
 use Rattle.std.specs.List.{AllByRecursion}
 use Rattle.std.proofs.lemmas.List.{length-append}
 use Rattle.std.proofs.lemmas.Bool.{ltb-true}
 use Rattle.scene_model.specs.Scene.{ResourceLine, layout_line, vertex_buffer_line, index_buffer_line, texture_line, frame_buffer_line, program_line, uniform_line, update_line, texel_update_line, destroy_line, rect_line, view_scissor_line, clear_line, mode_line, target_line, view_transform_line, reset_line, order_line, SceneFrame, Scene, views_of}
-use Rattle.spelling_model.specs.Readable.{IsOfUniform, IsResourceLine, AreResourceLines, bound_by, bound_by_lines, IsFrame, AreFrames, bound_by_frame, bound_by_frames, IsReadable}
+use Rattle.spelling_model.specs.Readable.{IsOfUniform, IsResourceLine, AreResourceLines, bound_by, bound_by_lines, AreFrames, bound_by_frame, bound_by_frames, IsReadable}
 use Rattle.scene_lines.specs.Names.{LineHasPlace, FrameHasPlaces}
 
 -- ---- the bound names become more

@@ -1,15 +1,15 @@
 -- What a line of the API thread does.
-use Rattle.std.specs.Prelude.{◌≡◌, ℕ, ◌+◌, ◌≤◌, Bool, true, false, if◌then◌else◌, List, map, length, take, fold, Option, Some, None, Result, Ok, Err, MatchResult, is_some, ⊤}
+use Rattle.std.specs.Prelude.{◌≡◌, ℕ, ◌+◌, Bool, true, false, List, length, take, fold, Option, Some, None, Result, Ok, Err, MatchResult, is_some, slice_get}
 use Rattle.gfx_model.specs.Words.{Handle}
 use Rattle.gfx_model.specs.Resources.{ResourceCall, refusal_of, effect}
 use Rattle.gfx_words.specs.declared.refusals.Refusal as code
 use Rattle.gfx_words.specs.Seen.{refusal_seen}
 use Rattle.call_laws.specs.Calls.{Written, after_call}
-use Rattle.scene_model.specs.Scene.{Name, ResourceLine}
-use Rattle.scene_model.specs.Fold.{Bindings, resource_call, created_name, Progress, after_line, after_lines}
+use Rattle.scene_model.specs.Scene.{Name, ResourceLine, destroy_line, rect_line, view_scissor_line, clear_line, mode_line, target_line, view_transform_line, reset_line, order_line}
+use Rattle.scene_model.specs.Fold.{Bindings, resource_call, created_name, Progress, after_lines}
 use Rattle.resource_book.specs.Written.{BookView, after_in}
 use Rattle.resource_book.specs.Laws.{bared}
-use Rattle.scene_laws.specs.SceneFrames.{accepted_call, calls_of}
+use Rattle.scene_laws.specs.SceneFrames.{calls_of}
 use Rattle.scene_lines.specs.Names.{AreNamed, with_bound}
 
 -- ---- one line, as the code answers it
@@ -18,10 +18,10 @@ use Rattle.scene_lines.specs.Names.{AreNamed, with_bound}
 abbrev pub IsRefusal : code.Refusal → Type 0
 IsRefusal r = is_some (refusal_seen r) ≡ true
 
--- a refused line is dropped; without memory there is no answer
+-- a refused line is dropped; without memory, which is no refusal of the definitions, there is no answer
 abbrev pub IsDropping : {E : Type 0} → Result Bool E → code.Refusal → Type 0
 IsDropping (Ok dropped) r = (dropped ≡ true) × IsRefusal r
-IsDropping (Err _) r = ⊤
+IsDropping (Err _) r = refusal_seen r ≡ None
 
 -- an accepted create binds the name, a refused one is dropped
 abbrev pub IsBound : {E : Type 0} → Name → Result Handle code.Refusal → Result Bool E → (before after : List (Option Handle)) → Type 0
@@ -59,10 +59,23 @@ abbrev pub LineCalled : (dropped : Bool) → (names : List (List ℕ)) → Resou
 LineCalled dropped names line old new before after =
     (bs : Bindings) → AreNamed before bs → IsCalled dropped (resource_call bs names line) (created_name line) old new before after
 
--- a line is done or dropped; without memory nothing has changed
+-- the lines whose calls take memory: those that create and those that write contents
+abbrev pub takes_memory : ResourceLine → Bool
+takes_memory (destroy_line name) = false
+takes_memory (rect_line view rect) = false
+takes_memory (view_scissor_line view rect) = false
+takes_memory (clear_line view clear) = false
+takes_memory (mode_line view mode) = false
+takes_memory (target_line view target) = false
+takes_memory (view_transform_line view transform) = false
+takes_memory (reset_line view) = false
+takes_memory (order_line views) = false
+takes_memory _ = true
+
+-- a line is done or dropped; without memory, which only some lines take, nothing has changed
 abbrev pub LineAnswered : {E : Type 0} → Result Bool E → (names : List (List ℕ)) → ResourceLine → (old new : BookView) → (before after : List (Option Handle)) → Type 0
 LineAnswered result names line old new before after =
-    MatchResult result (λ dropped. LineCalled dropped names line old new before after) (λ _. IsSame old new before after)
+    MatchResult result (λ dropped. LineCalled dropped names line old new before after) (λ _. (takes_memory line ≡ true) × IsSame old new before after)
 
 -- ---- lines, as the definition has them
 
@@ -84,9 +97,9 @@ pub record LinesPlayed (names : List (List ℕ)) (lines : List ResourceLine) (dr
   pub dropped_are : (w : Written) (p : Progress) → StandsFor w p old before → (after_lines names p lines).dropped ≡ p.dropped + dropped
   pub many : length after ≡ length before
 
--- without memory, lines were played up to one that was not
+-- without memory, lines were played up to one that takes some and was not
 pub record FrontPlayed (names : List (List ℕ)) (lines : List ResourceLine) (old new : BookView) (before after : List (Option Handle)) : Type 0 where
   pub count : ℕ
-  pub few : count ≤ length lines
+  pub stopped : (line : ResourceLine) × (slice_get lines count ≡ Some line) × (takes_memory line ≡ true)
   pub dropped : ℕ
   pub played : LinesPlayed names (take count lines) dropped old new before after

@@ -92,7 +92,7 @@ fn counted(dropped: bool) -> u32
 /// stands for nothing.
 ///
 /// `handles` has what each name stands for, and each name of the scene has its place there. Where memory is wanting, the lines in
-/// front of some line were played, and no other.
+/// front of some line whose call takes memory were played, and no other.
 pub fn play_lines<B: ResourceCalls>(
     alloc: Global,
     calls: &mut B,

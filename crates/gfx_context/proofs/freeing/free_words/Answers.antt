@@ -1,5 +1,4 @@
-use Rattle.std.proofs.Common.{rules, ◌≡◌, ap, ◌∙◌, sym, if◌then◌else◌, Bool, true, false, List, length, refl, ℕ}
-use Rattle.std.proofs.lemmas.List.{length-set}
+use Rattle.std.proofs.Common.{◌≡◌, ap, ◌∙◌, sym, if◌then◌else◌, Bool, true, false, refl, ℕ}
 use Rattle.gfx_model.specs.Words.{place_of_handle}
 use Rattle.gfx_model.specs.Resources.{is_kept_thing}
 use Rattle.schedule_model.specs.Machine.{Place, free}

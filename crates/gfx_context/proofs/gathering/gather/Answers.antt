@@ -1,4 +1,4 @@
-use Rattle.std.proofs.Common.{rules, ◌≡◌, sym, subst}
+use Rattle.std.proofs.Common.{sym, subst}
 use Rattle.hold_table.specs.Seats.{api_view}
 use Rattle.gfx_context.specs.Gathered.{AreGathered}
 use Rattle.gfx_context.proofs.Gathers.{gathered_more}

@@ -1,7 +1,5 @@
-use Rattle.std.proofs.Common.{rules, ◌≡◌, ◌≤◌, ◌+◌, length, arith, ap, ◌∙◌}
+use Rattle.std.proofs.Common.{arith, ◌∙◌}
 use Rattle.hold_table.specs.Seats.{api_view}
-use Rattle.hold_table.specs.Views.{SeatView}
-use Rattle.gfx_context.specs.Gathered.{with_gathered}
 use Rattle.gfx_context.proofs.Gathers.{none_off_when, same_still}
 use Rattle.gfx_context.proofs.gathering.gather_all.Goals as goal
 

@@ -1,4 +1,4 @@
-use Rattle.std.proofs.Common.{rules, ◌≡◌, ap, ◌∙◌, sym, ◌+◌, arith}
+use Rattle.std.proofs.Common.{rules, ap, ◌∙◌, sym, ◌+◌}
 use Rattle.gfx_context.proofs.Gathers.{dropped_more}
 use Rattle.gfx_context.proofs.gathering.total_dropped.Goals as goal
 

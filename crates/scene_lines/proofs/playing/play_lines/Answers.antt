@@ -1,8 +1,8 @@
-use Rattle.std.proofs.Common.{◌≡◌, map, take, length, ℕ, List, [], ◌∷◌, ◌++◌, ◌+◌, sym, ap, ◌∙◌, subst, arith}
+use Rattle.std.proofs.Common.{map, take, length, ℕ, List, [], ◌∷◌, ◌++◌, ◌+◌, sym, ◌∙◌, subst, arith}
 use Rattle.scene_model.specs.Scene.{ResourceLine}
 use Rattle.scene_text.specs.Seen.{name_seen, resource_line_seen}
 use Rattle.scene_lines.specs.Names.{LineHasPlace}
-use Rattle.scene_lines.specs.Played.{one_if, LinesPlayed}
+use Rattle.scene_lines.specs.Played.{LinesPlayed}
 use Rattle.scene_lines.proofs.Lines.{taken, placed, more_played}
 use Rattle.scene_lines.proofs.playing.play_lines.Goals as goal
 

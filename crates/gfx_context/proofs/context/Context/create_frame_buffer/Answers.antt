@@ -1,8 +1,6 @@
-use Rattle.std.proofs.Common.{rules, ◌≡◌, ap, subst, sym, Some, refl}
+use Rattle.std.proofs.Common.{rules}
 use Rattle.gfx_model.specs.Resources.{create_frame_buffer}
 use Rattle.hold_table.specs.Seats.{api_view}
-use Rattle.gfx_context.specs.States.{ContextView}
-use Rattle.gfx_context.specs.Calls.{Makes}
 use Rattle.gfx_context.proofs.Created.{make_target, place_was_free, serial_is_new, kept_after, makes_after}
 use Rattle.gfx_context.proofs.context.Context.create_frame_buffer.Goals as goal
 

@@ -1,9 +1,7 @@
-use Rattle.std.proofs.Common.{rules, ◌≡◌, ap, subst, sym, Some, refl}
+use Rattle.std.proofs.Common.{rules}
 use Rattle.gfx_model.specs.Resources.{create_program}
 use Rattle.gfx_words.specs.Kinds.{program_seen}
 use Rattle.hold_table.specs.Seats.{api_view}
-use Rattle.gfx_context.specs.States.{ContextView}
-use Rattle.gfx_context.specs.Calls.{Makes}
 use Rattle.gfx_context.proofs.Created.{make_program, place_was_free, serial_is_new, kept_after, makes_after}
 use Rattle.gfx_context.proofs.context.Context.create_program.Goals as goal
 

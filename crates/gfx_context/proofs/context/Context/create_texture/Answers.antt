@@ -1,10 +1,8 @@
-use Rattle.std.proofs.Common.{rules, ◌≡◌, ap, subst, sym, Some, refl}
+use Rattle.std.proofs.Common.{rules}
 use Rattle.gfx_model.specs.Resources.{create_texture}
 use Rattle.gfx_words.specs.Kinds.{format_seen}
 use Rattle.texture_store.specs.Seen.{own_source_seen}
 use Rattle.hold_table.specs.Seats.{api_view}
-use Rattle.gfx_context.specs.States.{ContextView}
-use Rattle.gfx_context.specs.Calls.{Makes}
 use Rattle.gfx_context.proofs.Created.{make_texture, place_was_free, serial_is_new, kept_after, makes_after}
 use Rattle.gfx_context.proofs.context.Context.create_texture.Goals as goal
 

@@ -1,4 +1,4 @@
-use Rattle.std.proofs.Common.{rules, ◌≡◌, ap, sym, ◌∙◌, length}
+use Rattle.std.proofs.Common.{rules, ap, sym, ◌∙◌, length}
 use Rattle.std.proofs.lemmas.List.{length-map}
 use Rattle.gfx_words.specs.Kinds.{uniform_seen}
 use Rattle.hold_table.specs.Seats.{api_view}

@@ -1,4 +1,4 @@
-use Rattle.std.proofs.Common.{rules, ◌≡◌, ◌<◌, ap, sym, subst, ◌∙◌, map, List}
+use Rattle.std.proofs.Common.{rules, ◌≡◌, ◌<◌, ap, subst, ◌∙◌, map, List}
 use Rattle.draw_encoder.specs.declared.items.Recording.{Recording}
 use Rattle.frame_record.specs.Seen.{entry_seen}
 use Rattle.hold_table.specs.Seats.{api_view}

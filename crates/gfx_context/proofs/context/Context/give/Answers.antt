@@ -1,4 +1,4 @@
-use Rattle.std.proofs.Common.{rules, ◌≡◌, ◌+◌, ◌<◌, ℕ, [], ap, sym, subst, ◌∙◌, map, List}
+use Rattle.std.proofs.Common.{rules, ◌≡◌, ◌<◌, [], ap, sym, subst, ◌∙◌, map, List}
 use Rattle.gfx_model.specs.Frames.{collected}
 use Rattle.hold_table.specs.Seats.{api_view}
 use Rattle.draw_encoder.specs.declared.items.Recording.{Recording}

@@ -1,4 +1,4 @@
-use Rattle.std.proofs.Common.{rules, ◌≡◌, ap, sym, ◌∙◌}
+use Rattle.std.proofs.Common.{ap, sym, ◌∙◌}
 use Rattle.hold_table.specs.Seats.{api_view}
 use Rattle.resource_book.specs.Written.{BookView}
 use Rattle.gfx_context.proofs.Openings.{kept_new_at}

@@ -1,4 +1,4 @@
-use Rattle.std.proofs.Common.{rules, ◌≡◌, refl}
+use Rattle.std.proofs.Common.{rules}
 use Rattle.gfx_model.specs.Resources.{reset_view}
 use Rattle.hold_table.specs.Seats.{api_view}
 use Rattle.gfx_context.proofs.Same.{kept_changes, changes_told, quiet_reset_view}

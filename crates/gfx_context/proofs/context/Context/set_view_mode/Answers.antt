@@ -1,4 +1,4 @@
-use Rattle.std.proofs.Common.{rules, ◌≡◌, refl}
+use Rattle.std.proofs.Common.{rules}
 use Rattle.gfx_model.specs.Resources.{set_view_mode}
 use Rattle.gfx_words.specs.Seen.{mode_seen}
 use Rattle.hold_table.specs.Seats.{api_view}

@@ -1,4 +1,4 @@
-use Rattle.std.proofs.Common.{rules, ◌≡◌, ap, ◌∙◌, arith}
+use Rattle.std.proofs.Common.{ap, ◌∙◌, arith}
 use Rattle.gfx_context.specs.States.{ContextView}
 use Rattle.gfx_context.proofs.Closings.{closes_told, latency_told}
 use Rattle.gfx_context.proofs.context.Context.shutdown.Goals as goal

@@ -1,4 +1,4 @@
-use Rattle.std.proofs.Common.{rules, ◌≡◌, ◌+◌, ◌-◌, ◌<◌, ℕ, ap, sym, subst, refl, arith}
+use Rattle.std.proofs.Common.{rules, ◌-◌, ◌<◌, sym, subst, refl, arith}
 use Rattle.gfx_context.specs.States.{ContextView}
 use Rattle.gfx_context.specs.Ended.{IsBack, note_of}
 use Rattle.gfx_context.proofs.Ends.{kept_back}

@@ -1,4 +1,4 @@
-use Rattle.std.proofs.Common.{rules, ◌≡◌, refl}
+use Rattle.std.proofs.Common.{rules}
 use Rattle.gfx_model.specs.Resources.{update_buffer}
 use Rattle.hold_table.specs.Seats.{api_view}
 use Rattle.gfx_context.proofs.Same.{kept_updates, updates_told, quiet_update_buffer}

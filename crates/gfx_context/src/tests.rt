@@ -1,0 +1,263 @@
+// What no clause says at once: when an index comes again, the limits, and a thread that records while a frame ends.
+ghost use Rattle.std.specs.Prelude.{◌≡◌, ◌≤◌, ◌+◌, ◌++◌, ℕ, List, [], map};
+ghost use Rattle.gfx_model.specs.Views.{fewest_views};
+ghost use Rattle.gfx_model.specs.World.{Item as SeenItem};
+ghost use Rattle.hold_table.specs.Seats.{table_of, api_table, api_view};
+ghost use Rattle.hold_table.specs.Views.{first_view};
+ghost use Rattle.frame_record.specs.Links.{frames_of};
+
+use super::*;
+use frame_record::{Frame, FrameLink, Outcome, RenderedFrame};
+use gfx_words::{Format, Handle, ProgramKind, Refusal};
+use hold_table::{ApiSeat, HoldTable};
+use resource_book::ResourceCalls;
+use std::alloc::{AllocError, Global};
+use std::marker::Brand;
+use std::snapshot::Snapshot;
+use std::sync::Wait;
+use std::test::Fail;
+use std::thread;
+use std::thread::Threads;
+
+const VIEWS: u16 = 256;
+
+const ROOM: Room = Room {
+    items: 2,
+    bytes: 0,
+    uniforms: 0,
+};
+
+// Frames wait in a list, and come back as shown, the oldest first.
+#[derive(Drop)]
+struct ListLink {
+    latency: u8,
+    out: Vec<Frame>,
+    backs: Vec<Snapshot<RenderedFrame>>,
+}
+
+// Where memory is wanting it waits for ever.
+fn wait<R: Wait>(rt: &R)
+    ensures { ⊥ }
+{
+    for _ in rt.forever() {}
+    unreachable!()
+}
+
+impl FrameLink for ListLink {
+    ghost use Rattle.std.specs.Prelude.{map, ◌++◌};
+    ghost use Rattle.frame_record.specs.Links.{frames_of};
+
+    ghost given = { λ l. frames_of (map (λ s. s.value) l.backs.items) ++ l.out.items };
+
+    ghost back = { λ l. map (λ s. s.value) l.backs.items };
+
+    ghost latency = { λ l. l.latency };
+
+    ghost Origin = { Unit {0} };
+
+    ghost origin = { λ l. tt };
+
+    fn give<R: Threads + Wait + Sync>(&mut self, rt: &R, frame: Frame) {
+        if self.out.push(frame).is_err() {
+            wait(rt);
+        }
+    }
+
+    fn try_take_back<R: Wait>(&mut self, rt: &R) -> Option<RenderedFrame> {
+        let _ = rt;
+        None
+    }
+
+    fn take_back<R: Threads + Wait + Sync>(&mut self, rt: &R) -> RenderedFrame {
+        let frame = self.out.remove(0);
+        let rendered = RenderedFrame {
+            frame,
+            outcome: Outcome::Shown,
+        };
+        if self.backs.push(Snapshot::of(&rendered)).is_err() {
+            wait(rt);
+        }
+        rendered
+    }
+}
+
+fn begun<'t, C: Naming>(
+    alloc: Global,
+    shared: &'t Shared<C>,
+    seat: ApiSeat,
+    frame: u32,
+    serial: u32,
+    latency: u8,
+) -> Option<Context<'t, C, ListLink>>
+    requires table { api_table seat ≡ C.table }
+    requires seat { api_view seat ≡ first_view frame }
+    requires frame { frame ≤ 1073741823 }
+    requires serial { 1 ≤ serial }
+    requires views { C.views ≡ fewest_views }
+    requires latency { (1 ≤ latency) × (latency ≤ 3) }
+{
+    let start = Start {
+        frame,
+        serial,
+        views: VIEWS,
+        latency,
+    };
+    let link = ListLink {
+        latency,
+        out: Vec::new(alloc),
+        backs: Vec::new(alloc),
+    };
+    Context::init(alloc, shared, seat, link, start).ok()
+}
+
+// A program is made and destroyed in frame 0. The indices of the programs that are made in frames 1 to 4.
+fn made_again<C: Naming, R: Threads + Wait + Sync>(
+    rt: &R,
+    alloc: Global,
+    table: HoldTable,
+    seat: ApiSeat,
+    latency: u8,
+) -> Option<[u16; 4]>
+    requires table { (table_of table ≡ C.table) × (api_table seat ≡ C.table) × (api_view seat ≡ first_view 0) }
+    requires views { C.views ≡ fewest_views }
+    requires latency { (1 ≤ latency) × (latency ≤ 3) }
+{
+    let shared = Shared::<C>::new(alloc, table).ok()?;
+    let mut context = begun(alloc, &shared, seat, 0, 1, latency)?;
+    let first = context.create_program(ProgramKind::Solid).ok()?;
+    context.destroy(first).ok()?;
+    let mut indices = [0u16; 4];
+    for place in &mut indices {
+        context.frame(rt).ok()?;
+        *place = context.create_program(ProgramKind::Solid).ok()?.index();
+    }
+    Some(indices)
+}
+
+fn again<R: Threads + Wait + Sync>(
+    rt: &R,
+    alloc: Global,
+    latency: u8,
+) -> Result<Option<[u16; 4]>, AllocError>
+    requires { (1 ≤ latency) × (latency ≤ 3) }
+{
+    let (table, seat) = HoldTable::new(alloc, 0)?;
+    Ok(made_again::<Brand, R>(rt, alloc, table, seat, latency))
+}
+
+#[test]
+fn an_index_comes_again(rt: HostRuntime) -> Result<(), Fail> {
+    let one = again(&rt, rt.alloc(), 1)?;
+    assert_eq!(rt; one, Some([1, 0, 2, 3]));
+    let two = again(&rt, rt.alloc(), 2)?;
+    assert_eq!(rt; two, Some([1, 2, 0, 3]));
+    let three = again(&rt, rt.alloc(), 3)?;
+    assert_eq!(rt; three, Some([1, 2, 3, 0]));
+    Ok(())
+}
+
+// The refusal of a program, by whatever answers the calls.
+fn refused<B: ResourceCalls>(calls: &mut B) -> Option<Refusal> {
+    calls.create_program(ProgramKind::Solid).err()
+}
+
+// In the last frame: the refusals of a second program where one serial is left, of a ninth encoder, and of the frame's end.
+fn limits<C: Naming, R: Threads + Wait + Sync>(
+    rt: &R,
+    alloc: Global,
+    table: HoldTable,
+    seat: ApiSeat,
+) -> Option<[Option<Refusal>; 3]>
+    requires table { (table_of table ≡ C.table) × (api_table seat ≡ C.table) × (api_view seat ≡ first_view 1073741823) }
+    requires views { C.views ≡ fewest_views }
+    requires admits { (e f d : ℕ) (items : List SeenItem) → C.admits e f items d }
+{
+    let shared = Shared::<C>::new(alloc, table).ok()?;
+    let mut context = begun(alloc, &shared, seat, 1_073_741_823, 4_294_967_295, 1)?;
+    context.create_program(ProgramKind::Solid).ok()?;
+    let serials = refused(&mut context);
+    for _ in 0..8u8 {
+        context.begin(ROOM).ok()?.end(rt, 0);
+    }
+    let ninth = context.begin(ROOM).err();
+    let frames = context.frame(rt).err();
+    Some([serials, ninth, frames])
+}
+
+#[test]
+fn the_limits(rt: HostRuntime) -> Result<(), Fail> {
+    let (table, seat) = HoldTable::new(rt.alloc(), 1_073_741_823)?;
+    let refusals = limits::<Brand, _>(&rt, rt.alloc(), table, seat);
+    assert_eq!(rt;
+        refusals,
+        Some([
+            Some(Refusal::SerialsSpent),
+            Some(Refusal::NoEncoder),
+            Some(Refusal::FramesSpent)
+        ])
+    );
+    Ok(())
+}
+
+// The answer to the destroy of a texture that a frame buffer holds, and the frame buffer.
+fn held<C: Naming>(
+    alloc: Global,
+    table: HoldTable,
+    seat: ApiSeat,
+) -> Option<(Result<(), Refusal>, Handle)>
+    requires table { (table_of table ≡ C.table) × (api_table seat ≡ C.table) × (api_view seat ≡ first_view 0) }
+    requires views { C.views ≡ fewest_views }
+{
+    let shared = Shared::<C>::new(alloc, table).ok()?;
+    let mut context = begun(alloc, &shared, seat, 0, 1, 1)?;
+    let texture = context
+        .create_texture(1, 1, Format::Rgba8, false, TexSource::Fill([0; 4]))
+        .ok()?;
+    let holder = context.create_frame_buffer(texture, None).ok()?;
+    Some((context.destroy(texture), holder))
+}
+
+#[test]
+fn a_texture_is_held(rt: HostRuntime) -> Result<(), Fail> {
+    let (table, seat) = HoldTable::new(rt.alloc(), 0)?;
+    let (answer, holder) = held::<Brand>(rt.alloc(), table, seat).ok_or("memory")?;
+    assert_eq!(rt; answer, Err(Refusal::Attached { holder }));
+    Ok(())
+}
+
+// A thread records and ends its encoder while this one ends the frame. The number of items, and the sum of the dropped.
+fn beside<C: Naming + Send + Sync, R: Threads + Wait + Sync>(
+    rt: &R,
+    alloc: Global,
+    table: HoldTable,
+    seat: ApiSeat,
+) -> Option<(usize, u64)>
+    requires table { (table_of table ≡ C.table) × (api_table seat ≡ C.table) × (api_view seat ≡ first_view 0) }
+    requires views { C.views ≡ fewest_views }
+    requires admits { (e f d : ℕ) (items : List SeenItem) → C.admits e f items d }
+{
+    let shared = Shared::<C>::new(alloc, table).ok()?;
+    let mut context = begun(alloc, &shared, seat, 0, 1, 1)?;
+    let mut encoder = context.begin(ROOM).ok()?;
+    let (_, report) = thread::join(
+        rt,
+        || -> ()
+            requires admits { (e f d : ℕ) (items : List SeenItem) → C.admits e f items d }
+        {
+            let _ = encoder.touch(0);
+            let _ = encoder.touch(1);
+            encoder.end(rt, 5);
+        },
+        || context.frame(rt),
+    );
+    let report = report.ok()?;
+    Some((report.journal.len(), report.dropped))
+}
+
+#[test]
+fn a_thread_records(rt: HostRuntime) -> Result<(), Fail> {
+    let (table, seat) = HoldTable::new(rt.alloc(), 0)?;
+    let told = beside::<Brand, _>(&rt, rt.alloc(), table, seat);
+    assert_eq!(rt; told, Some((2, 5)));
+    Ok(())
+}
