@@ -68,6 +68,7 @@ pub(crate) fn total_dropped(recordings: &[Recording]) -> u64
 }
 
 impl<'t, C: Naming, L: FrameLink + Drop> Context<'t, C, L> {
+    ghost use Rattle.frame_record.specs.Kept.{IsCollectable};
     ghost use Rattle.gfx_context.specs.Ended.{Collects};
 
     /// Collects the bundle of each encoder that was begun in this frame and was not collected, and waits for those that have
@@ -82,5 +83,13 @@ impl<'t, C: Naming, L: FrameLink + Drop> Context<'t, C, L> {
             &mut self.gathered,
             self.begun,
         );
+    }
+
+    /// The recordings of this frame's encoders that were collected. Their journal can be collected.
+    pub fn gathered(&self) -> &[Recording]
+        ensures same { result.now ≡ self.now.gathered }
+        ensures collectable { IsCollectable result.now }
+    {
+        self.gathered.as_slice()
     }
 }

@@ -3,5 +3,6 @@ mod Jobs
 mod Begun
 mod EndLaws
 mod LineLaws
+mod Entries
 mod FrameLaws
 mod OpeningLaws

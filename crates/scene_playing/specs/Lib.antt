@@ -1,3 +1,4 @@
 pub mod Recording
 pub mod Steps
+pub mod Order
 pub mod Frames

@@ -7,13 +7,14 @@ ghost use Rattle.scene_text.specs.Seen.{frame_seen, scene_seen};
 ghost use Rattle.block_recording.specs.Promised.{IsAccepted};
 ghost use Rattle.scene_playing.specs.Recording.{IsRecording, BeginsMore, HasBegun};
 
+use crate::ordered::record_in_order;
 use block_recording::{Desk, Job, block_lines};
 use frame_record::FrameLink;
 use gfx_context::{Context, Naming};
 use gfx_words::Handle;
 use io_edge::Gate;
 use scene_progress::{given_law, plan_law};
-use scene_text::{Scene, SceneFrame};
+use scene_text::{Journal, Scene, SceneFrame};
 use std::alloc::{AllocError, Global};
 use std::sync::{Arc, Wait};
 
@@ -21,7 +22,7 @@ use std::sync::{Arc, Wait};
 pub(crate) type Names = Arc<Vec<Option<Handle>>, Global>;
 
 /// Begins the next encoder of the frame, and makes its job. `Err` where it is not begun.
-fn begin<'t, C: Naming, L: FrameLink + Drop>(
+pub(crate) fn begin<'t, C: Naming, L: FrameLink + Drop>(
     scene: &'t Scene,
     frame: &'t SceneFrame,
     context: &mut Context<'t, C, L>,
@@ -79,7 +80,7 @@ fn hand_out<'t, C: Naming, L: FrameLink + Drop, R: Wait>(
 }
 
 /// Begins all encoders of the frame, and records the first; the others record beside it. Answers whether all were begun.
-pub(crate) fn record_blocks<'t, C: Naming, L: FrameLink + Drop, R: Wait, G: Gate>(
+fn record_beside<'t, C: Naming, L: FrameLink + Drop, R: Wait, G: Gate>(
     rt: &R,
     gate: &G,
     desk: &Desk<'t, C>,
@@ -102,4 +103,31 @@ pub(crate) fn record_blocks<'t, C: Naming, L: FrameLink + Drop, R: Wait, G: Gate
     let all = hand_out(rt, desk, scene, frame, context, names);
     mine.record(rt, gate);
     all
+}
+
+/// Begins all encoders of the frame and records them: the first on this thread and the others beside it, or all here in the order of
+/// a journal. Answers whether all were begun.
+pub(crate) fn record_blocks<'t, C: Naming, L: FrameLink + Drop, R: Wait, G: Gate>(
+    rt: &R,
+    gate: &G,
+    alloc: Global,
+    desk: &Desk<'t, C>,
+    order: Option<&Journal>,
+    scene: &'t Scene,
+    frame: &'t SceneFrame,
+    context: &mut Context<'t, C, L>,
+    names: &Names,
+) -> bool
+    requires admits { (e n : ℕ) (items : List Item) (dropped : ℕ) → IsAccepted (scene_seen scene.now) e n items dropped → C.admits e n items dropped }
+    requires views { C.views ≡ views_of (scene_seen scene.now) }
+    requires bounded { IsBounded (scene_seen scene.now) }
+    requires recording { IsRecording (scene_seen scene.now) context.old.book.resources.frame (frame_seen frame.now) names.now.value.items context.old }
+    requires none { context.old.begun ≡ 0 }
+    ensures same { HasBegun context.new.begun context.old context.new }
+    ensures all { result ≡ true → context.new.begun ≡ scene.now.encoders }
+{
+    match order {
+        None => record_beside(rt, gate, desk, scene, frame, context, names),
+        Some(journal) => record_in_order(rt, alloc, journal, scene, frame, context, names),
+    }
 }

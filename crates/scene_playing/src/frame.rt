@@ -14,10 +14,12 @@ ghost use Rattle.scene_lines.specs.Played.{LinesPlayed};
 ghost use Rattle.scene_progress.specs.Progress.{all_of};
 ghost use Rattle.gfx_context.specs.States.{untouched};
 ghost use Rattle.scene_playing.specs.Recording.{IsAt, IsRecorded};
+ghost use Rattle.scene_playing.specs.Order.{order_seen, Allows};
 ghost use Rattle.scene_playing.specs.Frames.{note_seen};
 ghost use Rattle.scene_playing.specs.Steps.{FrameEnds, first_after};
 
 use crate::beginning::{Names, record_blocks};
+use crate::ordered::is_in_order;
 use crate::played::FrameNote;
 use block_recording::{Desk, help};
 use context_frames::{frame_law, recorded_law};
@@ -28,7 +30,7 @@ use io_edge::Gate;
 use resource_laws::bare_start_law;
 use scene_lines::{places_law, play_lines};
 use scene_progress::{next_law, plan_law};
-use scene_text::{Scene, SceneFrame};
+use scene_text::{Journal, Scene, SceneFrame};
 use std::alloc::{AllocError, Global};
 use std::sync::{Arc, Wait};
 use std::thread::Threads;
@@ -75,6 +77,8 @@ fn play_beside<'t, C: Naming, L: FrameLink + Drop>(
 /// Ends a frame whose lines were played, and of which so many were dropped.
 fn end_frame<'t, C: Naming, L: FrameLink + Drop, R: Threads + Wait + Sync>(
     rt: &R,
+    alloc: Global,
+    order: Option<&Journal>,
     scene: &'t Scene,
     frame: &'t SceneFrame,
     context: &mut Context<'t, C, L>,
@@ -89,6 +93,7 @@ fn end_frame<'t, C: Naming, L: FrameLink + Drop, R: Threads + Wait + Sync>(
         (λ e. FrameEnds (scene_seen scene.now) context.old.book.resources.frame (frame_seen frame.now) (map entry_seen e.journal.items) (note_seen e.note) e.given handles.now context.old context.new)
         (λ _. context.new.given ≡ context.old.given) }
     ensures back { MatchResult result (λ e. first_outcome context.new.back ≡ first_after (first_outcome context.old.back) e.back) (λ _. context.new.back ≡ context.old.back) }
+    ensures allowed { IfOk result (λ e. Allows (order_seen order.entry) context.old.book.resources.frame (map entry_seen e.journal.items)) }
     ensures origin { L.origin context.new.link ≡ L.origin context.old.link }
 {
     let _ = scene;
@@ -100,7 +105,12 @@ fn end_frame<'t, C: Naming, L: FrameLink + Drop, R: Threads + Wait + Sync>(
     next_law();
     bare_start_law();
     context.tell_facts();
-    let Ok(report) = context.frame(rt) else {
+    let number = context.frame_number();
+    context.collect(rt);
+    if !is_in_order(alloc, order, number, context.gathered()) {
+        return Err(AllocError);
+    }
+    let Ok(report) = context.end(rt) else {
         return Err(AllocError);
     };
     let FrameReport {
@@ -129,6 +139,7 @@ pub(crate) fn play_frame<'t, C: Naming, L: FrameLink + Drop, R: Threads + Wait +
     gate: &G,
     alloc: Global,
     desk: &Desk<'t, C>,
+    order: Option<&Journal>,
     scene: &'t Scene,
     frame: &'t SceneFrame,
     context: &mut Context<'t, C, L>,
@@ -145,16 +156,17 @@ pub(crate) fn play_frame<'t, C: Naming, L: FrameLink + Drop, R: Threads + Wait +
         (λ e. FrameEnds (scene_seen scene.now) context.old.book.resources.frame (frame_seen frame.now) (map entry_seen e.journal.items) (note_seen e.note) e.given handles.new context.old context.new)
         (λ _. context.new.given ≡ context.old.given) }
     ensures back { MatchResult result (λ e. first_outcome context.new.back ≡ first_after (first_outcome context.old.back) e.back) (λ _. context.new.back ≡ context.old.back) }
+    ensures allowed { IfOk result (λ e. Allows (order_seen order.entry) context.old.book.resources.frame (map entry_seen e.journal.items)) }
     ensures origin { L.origin context.new.link ≡ L.origin context.old.link }
 {
     places_law();
     let names = scene.names.as_slice();
     let before = play_lines(alloc, context, handles, names, frame.before.as_slice())?;
     let shared = shared_names(alloc, handles)?;
-    let all = record_blocks(rt, gate, desk, scene, frame, context, &shared);
+    let all = record_blocks(rt, gate, alloc, desk, order, scene, frame, context, &shared);
     let beside = play_beside(alloc, scene, frame, context, handles, all);
     help(rt, gate, desk);
     let beside = beside?;
     let dropped = u64::from(before) + u64::from(beside);
-    end_frame(rt, scene, frame, context, handles, dropped)
+    end_frame(rt, alloc, order, scene, frame, context, handles, dropped)
 }

@@ -11,6 +11,7 @@ ghost use Rattle.scene_text.specs.Seen.{journal_seen, scene_seen};
 ghost use Rattle.render_core.specs.Ended.{first_outcome};
 ghost use Rattle.block_recording.specs.Promised.{IsAccepted};
 ghost use Rattle.scene_playing.specs.Recording.{IsAt};
+ghost use Rattle.scene_playing.specs.Order.{order_seen, Follows};
 ghost use Rattle.scene_playing.specs.Frames.{note_seen, AreEnded, ArePlayed};
 ghost use Rattle.scene_playing.specs.Steps.{first_after};
 
@@ -91,6 +92,7 @@ fn play_all<'t, C: Naming, L: FrameLink + Drop, R: Threads + Wait + Sync, G: Gat
     gate: &G,
     alloc: Global,
     desk: &Desk<'t, C>,
+    order: Option<&Journal>,
     scene: &'t Scene,
     context: &mut Context<'t, C, L>,
     handles: &mut [Option<Handle>],
@@ -106,6 +108,7 @@ fn play_all<'t, C: Naming, L: FrameLink + Drop, R: Threads + Wait + Sync, G: Gat
     requires told { (told.old.lists.items ≡ []) × (told.old.notes.items ≡ []) × (told.old.outcome ≡ Outcome.Shown) }
     requires room { (length scene.now.frames ≤ vec_capacity told.old.lists) × (length scene.now.frames ≤ vec_capacity told.old.notes) }
     ensures ended { AreEnded (scene_seen scene.now) context.new.given (map (map entry_seen) told.new.lists.items) (map note_seen told.new.notes.items) result }
+    ensures follows { Follows (order_seen order.entry) (map (map entry_seen) told.new.lists.items) }
     ensures outcome { told.new.outcome ≡ first_outcome context.new.back }
     ensures origin { L.origin context.new.link ≡ L.origin context.old.link }
 {
@@ -113,7 +116,7 @@ fn play_all<'t, C: Naming, L: FrameLink + Drop, R: Threads + Wait + Sync, G: Gat
     lawful_law();
     noted_law();
     for frame in scene.frames.as_slice() {
-        let played = play_frame(rt, gate, alloc, desk, scene, frame, context, handles);
+        let played = play_frame(rt, gate, alloc, desk, order, scene, frame, context, handles);
         let Ok(ended) = played else {
             return false;
         };
@@ -135,6 +138,7 @@ fn finish<'t, C: Naming, L: FrameLink + Drop, R: Threads + Wait + Sync>(
     requires ended { AreEnded (scene_seen scene.now) context.given (map (map entry_seen) told.lists.items) (map note_seen told.notes.items) is_whole }
     requires outcome { told.outcome ≡ first_outcome context.back }
     ensures played { ArePlayed (scene_seen scene.now) (L.given result.link) (L.back result.link) (journal_seen result.journal) (map note_seen result.notes.items) result.outcome result.is_whole }
+    ensures journal { journal_seen result.journal ≡ map (map entry_seen) told.lists.items }
     ensures origin { L.origin result.link ≡ L.origin context.entry.link }
 {
     let _ = scene;
@@ -162,6 +166,7 @@ fn finish<'t, C: Naming, L: FrameLink + Drop, R: Threads + Wait + Sync>(
 pub(crate) fn nothing<L: FrameLink + Drop>(alloc: Global, scene: &Scene, link: L) -> Played<L>
     requires none { (L.given link ≡ []) × (L.back link ≡ []) }
     ensures played { ArePlayed (scene_seen scene.now) (L.given result.link) (L.back result.link) (journal_seen result.journal) (map note_seen result.notes.items) result.outcome result.is_whole }
+    ensures journal { journal_seen result.journal ≡ [] }
     ensures origin { L.origin result.link ≡ L.origin link }
 {
     let _ = scene;
@@ -207,6 +212,7 @@ pub(crate) fn play_named<'t, C: Naming, L: FrameLink + Drop, R: Threads + Wait +
     alloc: Global,
     shared: &'t Shared<C>,
     desk: &Desk<'t, C>,
+    order: Option<&Journal>,
     scene: &'t Scene,
     seat: ApiSeat,
     link: L,
@@ -221,6 +227,7 @@ pub(crate) fn play_named<'t, C: Naming, L: FrameLink + Drop, R: Threads + Wait +
     requires latency { L.latency link ≡ scene.now.latency }
     requires none { (L.given link ≡ []) × (L.back link ≡ []) }
     ensures played { ArePlayed (scene_seen scene.now) (L.given result.link) (L.back result.link) (journal_seen result.journal) (map note_seen result.notes.items) result.outcome result.is_whole }
+    ensures follows { Follows (order_seen order.entry) (journal_seen result.journal) }
     ensures origin { L.origin result.link ≡ L.origin link }
 {
     next_law();
@@ -243,6 +250,7 @@ pub(crate) fn play_named<'t, C: Naming, L: FrameLink + Drop, R: Threads + Wait +
                 gate,
                 alloc,
                 desk,
+                order,
                 scene,
                 &mut context,
                 handles.as_mut_slice(),

@@ -7,6 +7,7 @@
 mod beginning;
 mod frame;
 mod frames;
+mod ordered;
 mod played;
 mod threads;
 

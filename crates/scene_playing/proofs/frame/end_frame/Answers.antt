@@ -16,13 +16,13 @@ returns-clause-ended g c =
     let report = c.in-Ok.report in
     let handles = c.args.handles.now in
     let old = c.args.context.now in
-    let new = c.frame.new.self in
-    let a = c.in-Ok.ensures.answer in
+    let new = c.end.new.self in
+    let mid = c.collect.new.self in
     let planned = c.plan_law.ensures.plan s k f c.requires.recorded.there in
     let kept = subst (λ n. IsContext g.C.Naming.admits n old) c.requires.views c.tell_facts.ensures.keeps in
-    let collects = subst (λ n. Collects g.C.Naming.admits n old a.collected) c.requires.views a.collects in
-    let ends = frame_ends g.C.Naming.admits s k f handles old a.collected new report c.args.dropped c.requires.admitted c.next_law.ensures.next c.bare_start_law.ensures c.recorded_law.ensures c.frame_law.ensures
-    planned.0 planned.1 kept refl c.requires.recorded c.requires.dropped collects a.ends in
+    let collects = subst (λ n. Collects g.C.Naming.admits n old mid) c.requires.views c.collect.ensures in
+    let ends = frame_ends g.C.Naming.admits s k f handles old mid new report c.args.dropped c.requires.admitted c.next_law.ensures.next c.bare_start_law.ensures c.recorded_law.ensures c.frame_law.ensures
+    planned.0 planned.1 kept refl c.requires.recorded c.requires.dropped collects c.in-Ok.ensures.answer in
     let items : c.len.result ≡ length report.journal.items = c.len.ensures ∙ report.journal.ok.0 in
     let dropped : c.from.result + c.from-2.result ≡ report.dropped + c.args.dropped = λ i. c.from.ensures i + c.from-2.ensures i in
     subst (λ (n : ℕ). FrameEnds s k f (map entry_seen report.journal.items) (n, c.from.result + c.from-2.result) report.given handles old new) (sym items)
@@ -34,11 +34,11 @@ returns-clause-back g c =
     let k = c.args.context.now.book.resources.frame in
     let f = frame_seen c.args.frame.now in
     let old = c.args.context.now in
-    let new = c.frame.new.self in
-    let a = c.in-Ok.ensures.answer in
+    let new = c.end.new.self in
+    let mid = c.collect.new.self in
     let planned = c.plan_law.ensures.plan s k f c.requires.recorded.there in
     let kept = subst (λ n. IsContext g.C.Naming.admits n old) c.requires.views c.tell_facts.ensures.keeps in
-    let collects = subst (λ n. Collects g.C.Naming.admits n old a.collected) c.requires.views a.collects in
+    let collects = subst (λ n. Collects g.C.Naming.admits n old mid) c.requires.views c.collect.ensures in
     outcome_after c.in-Ok.report.back old new.back
-    (frame_back g.C.Naming.admits s k f c.args.handles.now old a.collected new c.in-Ok.report c.args.dropped c.requires.admitted c.next_law.ensures.next c.bare_start_law.ensures c.recorded_law.ensures c.frame_law.ensures
-    planned.0 planned.1 kept refl c.requires.recorded c.requires.dropped collects a.ends)
+    (frame_back g.C.Naming.admits s k f c.args.handles.now old mid new c.in-Ok.report c.args.dropped c.requires.admitted c.next_law.ensures.next c.bare_start_law.ensures c.recorded_law.ensures c.frame_law.ensures
+    planned.0 planned.1 kept refl c.requires.recorded c.requires.dropped collects c.in-Ok.ensures.answer)

@@ -5,8 +5,9 @@ use Rattle.scene_text.specs.Seen.{frame_seen, scene_seen, name_seen, resource_li
 use Rattle.scene_lines.specs.Played.{LinesPlayed}
 use Rattle.scene_lines.specs.Names.{LineHasPlace}
 use Rattle.scene_playing.specs.Recording.{HasBegun}
+use Rattle.scene_playing.specs.Order.{order_seen}
 use Rattle.scene_playing.proofs.Jobs.{few_in}
-use Rattle.scene_playing.proofs.LineLaws.{number_recorded, places_in, recording_after, recorded_after, recording_now, recorded_now, dropped_now, ended_since, back_since, rest_kept}
+use Rattle.scene_playing.proofs.LineLaws.{number_recorded, places_in, recording_after, recorded_after, recording_now, recorded_now, dropped_now, ended_since, back_since, rest_kept, allowed_since}
 use Rattle.scene_playing.proofs.frame.play_frame.Goals as goal
 
 pub play_lines-requires-clause-places : goal.play_lines-requires-clause-places
@@ -90,3 +91,14 @@ returns-clause-back g c =
     let last = recorded_after s k f c.in_ok-beside.beside c.play_lines.new.handles c.play_beside-beside.new.handles c.play_lines.new.calls c.record_blocks-all.new.context c.play_beside-beside.new.context first.0 begun c.in_ok-beside.ensures.played.1 c.play_beside-beside.ensures.rest first.3 in
     let kept = rest_kept s.encoders c.args.context.now c.play_lines.new.calls c.record_blocks-all.new.context c.play_beside-beside.new.context c.play_lines.ensures.rest begun c.play_beside-beside.ensures.rest in
     back_since c.end_frame.result c.args.context.now c.play_beside-beside.new.context c.end_frame.new.context kept.1 c.end_frame.ensures.back
+
+pub returns-clause-allowed : goal.returns-clause-allowed
+returns-clause-allowed g c =
+    let s = scene_seen c.args.scene.now in
+    let k = c.args.context.now.book.resources.frame in
+    let f = frame_seen c.args.frame.now in
+    let first = recording_after s k f c.in_ok-before.before c.args.handles.now c.play_lines.new.handles c.args.context.now c.play_lines.new.calls c.requires.at c.requires.there (subst (λ (ls : List _). LinesPlayed s.names (map resource_line_seen ls) c.in_ok-before.before c.args.context.now.book c.play_lines.new.calls.book c.args.handles.now c.play_lines.new.handles) c.as_slice.ensures (subst (λ (ns : List _). LinesPlayed (map name_seen ns) (map resource_line_seen c.as_slice.result.now) c.in_ok-before.before c.args.context.now.book c.play_lines.new.calls.book c.args.handles.now c.play_lines.new.handles) c.as_slice-names.ensures c.in_ok-before.ensures.played)) c.play_lines.ensures.rest in
+    let all : c.record_blocks-all.new.context.begun ≡ s.encoders = c.record_blocks-all.ensures.all c.in_ok-beside.ensures.played.0 in
+    let begun : HasBegun s.encoders c.play_lines.new.calls c.record_blocks-all.new.context = subst (λ n. HasBegun n c.play_lines.new.calls c.record_blocks-all.new.context) all c.record_blocks-all.ensures.same in
+    let last = recorded_after s k f c.in_ok-beside.beside c.play_lines.new.handles c.play_beside-beside.new.handles c.play_lines.new.calls c.record_blocks-all.new.context c.play_beside-beside.new.context first.0 begun c.in_ok-beside.ensures.played.1 c.play_beside-beside.ensures.rest first.3 in
+    allowed_since c.end_frame.result (order_seen c.args.order) c.play_beside-beside.new.context.book.resources.frame k (number_recorded s k f c.play_beside-beside.new.handles c.play_beside-beside.new.context last.0) c.end_frame.ensures.allowed
