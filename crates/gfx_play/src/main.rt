@@ -1,7 +1,8 @@
-//! Plays the scene on standard input: its pictures go to standard output, the notes to standard error.
+//! `gfx_play MODE [--journal] [--count N]`: shows the scene on standard input (`play`), by the journal that follows it (`replay`), or draws
+//! a generated scene of N frames (`make`). The pictures go to standard output, the notes to standard error.
 //!
-//! The exit status is the number of the play's status: 0 done, 1 refused words, 2 no scene, 3 a read failed, 4 a write
-//! of the pictures failed, 5 a write of the notes failed, 6 an input that is too long, 8 memory ran out.
+//! The exit status is the number of the run's status: 0 done, 1 refused words, 2 no scene, 3 a read failed, 4 a write of the pictures
+//! failed, 5 a write of the notes failed, 6 an input that is too long, 7 no lawful journal, 8 memory ran out.
 #![tactic(auto)]
 
 use io_edge::{NoGate, StdSink, StdSource};

@@ -1,127 +1,146 @@
--- What is known after a play, for each status with which it may end.
-use Rattle.std.specs.Prelude.{◌≡◌, ◌⊎◌, ℕ, ◌≤◌, List, [], ◌∷◌, length, take, flat_map, Option, Some, None, Ok, Err, codes}
-use Rattle.io_edge.specs.Edge.{with_back, IsSpent}
+-- What is known after a run, for each status with which it may end.
+use Rattle.std.specs.Prelude.{◌≡◌, ◌⊎◌, ℕ, ◌≤◌, false, List, [], length, take, Option, Some, None, Ok, ⊤}
+use Rattle.io_edge.specs.Edge.{IsSpent}
 use Rattle.scene_model.specs.Scene.{Scene}
-use Rattle.scene_model.specs.Grammar.{Fault, scene_of}
-use Rattle.scene_model.specs.Journal.{Journal, IsLawful, IsLawfulFront, pictures}
-use Rattle.scene_model.specs.Output.{picture_text, pictures_text, report, usage_line, length_line, scene_line}
-use Rattle.triangle_text.specs.Spoken.{spoken}
+use Rattle.scene_model.specs.Grammar.{scene_of, front_of, whole_language}
+use Rattle.scene_model.specs.Journal.{Journal, IsLawful, IsLawfulFront, shares_key, serial}
+use Rattle.scene_model.specs.Journal as journals
+use Rattle.scene_model.specs.Output.{pictures_text}
+use Rattle.scene_model.specs.Generated.{generated}
+use Rattle.scene_model.specs.Run.{Ending, Run, all_done, longest_input, unused}
+use Rattle.command_line_model.specs.Taken.{Mode, play, replay, make, Command}
+use Rattle.command_line_model.specs.Answer.{in_mode}
+use Rattle.scene_showing.specs.Showing.{HasFirst}
 use Rattle.scene_player.specs.declared.status.Status.{Status}
 use Rattle.scene_player.specs.declared.status.Status.TheVariants as status
-use Rattle.scene_player.specs.Io.{IsLong, HasFront}
+use Rattle.scene_player.specs.Io.{Reading, HasFailedToGive, IsUnread, AreLeft, Putting, HasFailedToTake, IsUntouched, HasPut, HasPutFront, HasTried}
+use Rattle.scene_player.specs.Numbers.{ending_of}
 
--- the bytes that the source gave are this scene, where it tells
-abbrev pub IsSceneOf : Option (List ℕ) → Scene → Type 0
-IsSceneOf None s = Unit {0}
-IsSceneOf (Some bytes) s = (length bytes ≤ 16777216) × (scene_of spoken bytes ≡ Ok s)
+-- ---- the scene of a run, and the definition's answer
 
--- the bytes that the source gave are no scene, and this line fails for this cause, where it tells
-abbrev pub IsRefusedAt : Option (List ℕ) → (line cause : ℕ) → Type 0
-IsRefusedAt None line cause = Unit {0}
-IsRefusedAt (Some bytes) line cause = (length bytes ≤ 16777216) × (scene_of spoken bytes ≡ Err (record { line = line; cause = cause }))
+-- the scene that a mode shows: that of the input, that at the input's front, or the generated one
+abbrev pub IsSceneIn : Mode → (count : ℕ) → List ℕ → Scene → Type 0
+IsSceneIn play count bytes s = (length bytes ≤ longest_input) × (scene_of whole_language bytes ≡ Ok s)
+IsSceneIn replay count bytes s = (length bytes ≤ longest_input) × (n : ℕ) × (front_of whole_language bytes ≡ Ok (s, n))
+IsSceneIn make count bytes s = s ≡ generated count
 
--- what was put is whole pictures of the first frames
-abbrev pub HasFirst : Scene → Journal → (old new : Option (List ℕ)) → Type 0
-HasFirst s journal old new = (j : ℕ) × (j ≤ length journal) × (new ≡ with_back old (flat_map picture_text (take j (pictures s journal))))
+-- the scene that a command shows of an input
+abbrev pub IsSceneOf : Command → List ℕ → Scene → Type 0
+IsSceneOf c bytes s = IsSceneIn c.mode c.count bytes s
 
--- a line was put: a front of it, and the whole where no fault rose
-pub record HasLine (old : Option (List ℕ)) (line : List ℕ) (new : Option (List ℕ)) (faults : Type 0) : Type 0 where
-  pub front : HasFront old line new
-  pub whole : (faults → ⊥) → new ≡ with_back old line
+-- what the definition answers to a command and an input, with the journal that the run returns
+abbrev pub answer_of : Command → List ℕ → Journal → Run
+answer_of c bytes journal = in_mode c.mode c (λ s. journal) bytes
 
--- nothing was put into the pictures, and no frame was played
-abbrev pub IsUnplayed : (old new : Option (List ℕ)) → Journal → Type 0
-IsUnplayed old new journal = (journal ≡ []) × (new ≡ old)
+-- `make` reads nothing and shows no picture; the other modes do both
+abbrev pub ReadsAndShows : Mode → Type 0
+ReadsAndShows make = ⊥
+ReadsAndShows _ = ⊤
 
--- after a scene was played: what the pictures and the notes held and hold, and whether their faults rose
-abbrev pub SceneEnded : Status → Scene → (old new : Option (List ℕ)) → Journal → (old_notes new_notes : Option (List ℕ)) → (picture_faults note_faults : Type 0) → Type 0
-SceneEnded status.Done s old new journal old_notes new_notes picture_faults note_faults =
-    IsLawful s journal × (new ≡ with_back old (pictures_text s journal)) × (new_notes ≡ with_back old_notes (report s))
-SceneEnded status.NoteFault s old new journal old_notes new_notes picture_faults note_faults =
-    IsLawful s journal × (new ≡ with_back old (pictures_text s journal)) × HasFront old_notes (report s) new_notes × note_faults
-SceneEnded status.PictureFault s old new journal old_notes new_notes picture_faults note_faults =
-    IsLawfulFront s journal × HasFront old (pictures_text s journal) new × (new_notes ≡ old_notes) × picture_faults
-SceneEnded status.OutOfMemory s old new journal old_notes new_notes picture_faults note_faults =
-    IsLawfulFront s journal × HasFirst s journal old new × (new_notes ≡ old_notes)
-SceneEnded status.Usage s old new journal old_notes new_notes picture_faults note_faults = ⊥
-SceneEnded (status.Scene line cause) s old new journal old_notes new_notes picture_faults note_faults = ⊥
-SceneEnded status.ReadFault s old new journal old_notes new_notes picture_faults note_faults = ⊥
-SceneEnded status.TooLong s old new journal old_notes new_notes picture_faults note_faults = ⊥
-SceneEnded (status.Journal place) s old new journal old_notes new_notes picture_faults note_faults = ⊥
+-- ---- what stands after each status
 
--- some scene that the source gave was played
-abbrev pub SomeSceneEnded : Status → (given : Option (List ℕ)) → (old new : Option (List ℕ)) → Journal → (old_notes new_notes : Option (List ℕ)) → (picture_faults note_faults : Type 0) → Type 0
-SomeSceneEnded st given old new journal old_notes new_notes picture_faults note_faults =
-    (s : Scene) × IsSceneOf given s × SceneEnded st s old new journal old_notes new_notes picture_faults note_faults
+-- no frame ended, and nothing was put
+pub record IsBlank (journal : Journal) (pictures notes : Putting) : Type 0 where
+  pub no_frame : journal ≡ []
+  pub no_picture : IsUntouched pictures
+  pub no_note : IsUntouched notes
 
--- after all bytes were read
-abbrev pub BytesEnded : Status → (given : Option (List ℕ)) → (old new : Option (List ℕ)) → Journal → (old_notes new_notes : Option (List ℕ)) → (picture_faults note_faults : Type 0) → Type 0
-BytesEnded status.Done given old new journal old_notes new_notes picture_faults note_faults = SomeSceneEnded status.Done given old new journal old_notes new_notes picture_faults note_faults
-BytesEnded status.NoteFault given old new journal old_notes new_notes picture_faults note_faults = SomeSceneEnded status.NoteFault given old new journal old_notes new_notes picture_faults note_faults
-BytesEnded status.PictureFault given old new journal old_notes new_notes picture_faults note_faults = SomeSceneEnded status.PictureFault given old new journal old_notes new_notes picture_faults note_faults
-BytesEnded status.OutOfMemory given old new journal old_notes new_notes picture_faults note_faults =
-    (IsUnplayed old new journal × (new_notes ≡ old_notes)) ⊎ SomeSceneEnded status.OutOfMemory given old new journal old_notes new_notes picture_faults note_faults
-BytesEnded (status.Scene line cause) given old new journal old_notes new_notes picture_faults note_faults =
-    IsRefusedAt given line cause × IsUnplayed old new journal × HasLine old_notes (scene_line line cause) new_notes note_faults
-BytesEnded status.Usage given old new journal old_notes new_notes picture_faults note_faults = ⊥
-BytesEnded status.ReadFault given old new journal old_notes new_notes picture_faults note_faults = ⊥
-BytesEnded status.TooLong given old new journal old_notes new_notes picture_faults note_faults = ⊥
-BytesEnded (status.Journal place) given old new journal old_notes new_notes picture_faults note_faults = ⊥
+-- the definition refuses the run with this ending: no frame ended, no picture was put, and its line was put into the notes
+pub record IsRefused (ending : Option Ending) (run : Run) (journal : Journal) (pictures notes : Putting) : Type 0 where
+  pub refused : ending ≡ Some run.ending
+  pub no_frame : journal ≡ []
+  pub no_picture : IsUntouched pictures
+  pub noted : HasTried run.noted notes
 
--- after the source was read: given and left are the bytes that it had and has, where it tells
-abbrev pub SourceEnded : Status → (given left : Option (List ℕ)) → (old new : Option (List ℕ)) → Journal → (old_notes new_notes : Option (List ℕ)) → (read_faults picture_faults note_faults : Type 0) → Type 0
-SourceEnded status.Done given left old new journal old_notes new_notes read_faults picture_faults note_faults =
-    IsSpent left × SomeSceneEnded status.Done given old new journal old_notes new_notes picture_faults note_faults
-SourceEnded status.NoteFault given left old new journal old_notes new_notes read_faults picture_faults note_faults =
-    IsSpent left × SomeSceneEnded status.NoteFault given old new journal old_notes new_notes picture_faults note_faults
-SourceEnded status.PictureFault given left old new journal old_notes new_notes read_faults picture_faults note_faults =
-    IsSpent left × SomeSceneEnded status.PictureFault given old new journal old_notes new_notes picture_faults note_faults
-SourceEnded status.OutOfMemory given left old new journal old_notes new_notes read_faults picture_faults note_faults =
-    (IsUnplayed old new journal × (new_notes ≡ old_notes)) ⊎ SomeSceneEnded status.OutOfMemory given old new journal old_notes new_notes picture_faults note_faults
-SourceEnded (status.Scene line cause) given left old new journal old_notes new_notes read_faults picture_faults note_faults =
-    IsSpent left × IsRefusedAt given line cause × IsUnplayed old new journal × HasLine old_notes (scene_line line cause) new_notes note_faults
-SourceEnded status.ReadFault given left old new journal old_notes new_notes read_faults picture_faults note_faults =
-    read_faults × IsUnplayed old new journal × (new_notes ≡ old_notes)
-SourceEnded status.TooLong given left old new journal old_notes new_notes read_faults picture_faults note_faults =
-    IsLong given × IsUnplayed old new journal × HasLine old_notes length_line new_notes note_faults
-SourceEnded status.Usage given left old new journal old_notes new_notes read_faults picture_faults note_faults = ⊥
-SourceEnded (status.Journal place) given left old new journal old_notes new_notes read_faults picture_faults note_faults = ⊥
+-- the scene was shown whole: the journal is lawful and the definition's, the pictures are those of the scene and the journal, and where
+-- no key is shared between encoders, they are those of one thread
+pub record IsShown (c : Command) (bytes : List ℕ) (journal : Journal) (pictures : Putting) : Type 0 where
+  pub scene : Scene
+  pub is : IsSceneOf c bytes scene
+  pub lawful : IsLawful scene journal
+  pub done : (answer_of c bytes journal).ending ≡ all_done
+  pub drawn : (answer_of c bytes journal).journal ≡ journal
+  pub put : HasPut (answer_of c bytes journal).pictures pictures
+  pub one_thread : shares_key scene ≡ false → journals.pictures scene journal ≡ journals.pictures scene (serial scene)
 
--- the words are the one word `play`
-abbrev pub IsPlay : List (List ℕ) → Type 0
-IsPlay words = words ≡ codes "play" ∷ []
+-- the pictures failed: the journal is lawful as far as it goes and a front of the definition's, a front of its pictures was put, and
+-- nothing was noted
+pub record IsCutOff (c : Command) (bytes : List ℕ) (journal : Journal) (pictures notes : Putting) : Type 0 where
+  pub scene : Scene
+  pub is : IsSceneOf c bytes scene
+  pub shows : ReadsAndShows c.mode
+  pub lawful : IsLawfulFront scene journal
+  pub done : (answer_of c bytes journal).ending ≡ all_done
+  pub drawn : journal ≡ take (length journal) (answer_of c bytes journal).journal
+  pub put : HasPutFront (pictures_text scene journal) pictures
+  pub no_note : IsUntouched notes
+  pub failed : HasFailedToTake pictures
 
--- the whole play: the words are refused exactly on Usage, and then nothing is read
-abbrev pub Ended : Status → (words : List (List ℕ)) → (given left : Option (List ℕ)) → (old new : Option (List ℕ)) → Journal → (old_notes new_notes : Option (List ℕ)) → (read_faults picture_faults note_faults : Type 0) → Type 0
-Ended status.Usage words given left old new journal old_notes new_notes read_faults picture_faults note_faults =
-    (IsPlay words → ⊥) × (left ≡ given) × IsUnplayed old new journal × HasLine old_notes usage_line new_notes note_faults
-Ended st words given left old new journal old_notes new_notes read_faults picture_faults note_faults =
-    IsPlay words × SourceEnded st given left old new journal old_notes new_notes read_faults picture_faults note_faults
+-- whole pictures of the first frames were put; none by `make`
+abbrev pub HasPutFirst : Mode → Scene → Journal → Putting → Type 0
+HasPutFirst make s journal pictures = IsUntouched pictures
+HasPutFirst _ s journal pictures = HasFirst s journal pictures.before pictures.after
 
--- the words were refused
-abbrev pub IsUsage : Status → Type 0
-IsUsage status.Usage = Unit {0}
-IsUsage _ = ⊥
+-- memory ran out in a scene that the definition shows: the journal is lawful as far as it goes, whole pictures of the first frames were
+-- put, and nothing was noted
+pub record IsStarved (c : Command) (bytes : List ℕ) (journal : Journal) (pictures notes : Putting) : Type 0 where
+  pub scene : Scene
+  pub is : IsSceneOf c bytes scene
+  pub lawful : IsLawfulFront scene journal
+  pub done : (answer_of c bytes journal).ending ≡ all_done
+  pub put : HasPutFirst c.mode scene journal pictures
+  pub no_note : IsUntouched notes
 
--- all was written
-abbrev pub IsDone : Status → Type 0
-IsDone status.Done = Unit {0}
-IsDone _ = ⊥
+-- what stands after a run over an input
+abbrev pub IsAnswered : Status → Command → (bytes : List ℕ) → Journal → (pictures notes : Putting) → Type 0
+IsAnswered status.Done c bytes journal pictures notes = IsShown c bytes journal pictures × HasPut (answer_of c bytes journal).noted notes
+IsAnswered status.NoteFault c bytes journal pictures notes =
+    IsShown c bytes journal pictures × HasPutFront (answer_of c bytes journal).noted notes × HasFailedToTake notes
+IsAnswered status.PictureFault c bytes journal pictures notes = IsCutOff c bytes journal pictures notes
+IsAnswered status.OutOfMemory c bytes journal pictures notes = IsBlank journal pictures notes ⊎ IsStarved c bytes journal pictures notes
+IsAnswered status.ReadFault c bytes journal pictures notes = ⊥
+IsAnswered st c bytes journal pictures notes = IsRefused (ending_of st) (answer_of c bytes journal) journal pictures notes
 
--- all was written, or memory ran out
-abbrev pub IsDoneOrOutOfMemory : Status → Type 0
-IsDoneOrOutOfMemory status.Done = Unit {0}
-IsDoneOrOutOfMemory status.OutOfMemory = Unit {0}
-IsDoneOrOutOfMemory _ = ⊥
+-- how far a source was read that gave these bytes: to its end, unless they are too many or memory ran out
+abbrev pub IsReadFor : Status → Reading → Type 0
+IsReadFor status.TooLong source = ⊤
+IsReadFor status.OutOfMemory source = ⊤
+IsReadFor _ source = IsSpent source.after
 
--- the scene was refused for this fault, or memory ran out
-abbrev pub IsRefusedOrOutOfMemory : Status → Fault → Type 0
-IsRefusedOrOutOfMemory (status.Scene line cause) fault = (line ≡ fault.line) × (cause ≡ fault.cause)
-IsRefusedOrOutOfMemory status.OutOfMemory fault = Unit {0}
-IsRefusedOrOutOfMemory _ fault = ⊥
+-- an input was read and answered, or the source failed
+abbrev pub IsReadAndAnswered : Status → Command → Reading → Journal → (pictures notes : Putting) → Type 0
+IsReadAndAnswered status.ReadFault c source journal pictures notes = HasFailedToGive source × IsBlank journal pictures notes
+IsReadAndAnswered st c source journal pictures notes =
+    (bytes : List ℕ) × AreLeft source.before bytes × IsReadFor st source × IsAnswered st c bytes journal pictures notes
 
--- the input was too long, or memory ran out
-abbrev pub IsTooLongOrOutOfMemory : Status → Type 0
-IsTooLongOrOutOfMemory status.TooLong = Unit {0}
-IsTooLongOrOutOfMemory status.OutOfMemory = Unit {0}
-IsTooLongOrOutOfMemory _ = ⊥
+-- `make` reads nothing
+abbrev pub EndsIn : Mode → Status → Command → Reading → Journal → (pictures notes : Putting) → Type 0
+EndsIn make st c source journal pictures notes = IsUnread source × IsAnswered st c [] journal pictures notes
+EndsIn _ st c source journal pictures notes = IsReadAndAnswered st c source journal pictures notes
+
+-- the end of a run: words that are no command are refused, and nothing is read
+abbrev pub Ends : Status → Option Command → Reading → Journal → (pictures notes : Putting) → Type 0
+Ends st None source journal pictures notes =
+    (IsRefused (ending_of st) unused journal pictures notes × IsUnread source) ⊎ ((st ≡ status.OutOfMemory) × IsUnread source × IsBlank journal pictures notes)
+Ends st (Some c) source journal pictures notes = EndsIn c.mode st c source journal pictures notes
+
+-- ---- runs that meet no fault
+
+-- the source told these bytes as those that were left, if the mode reads it
+abbrev pub IsToldIn : Mode → Reading → List ℕ → Type 0
+IsToldIn make source bytes = ⊤
+IsToldIn _ source bytes = source.before ≡ Some bytes
+
+-- the source told these bytes and did not fail, if the command reads it
+abbrev pub IsGiven : Option Command → Reading → List ℕ → Type 0
+IsGiven None source bytes = ⊤
+IsGiven (Some c) source bytes = IsToldIn c.mode source bytes × (ReadsAndShows c.mode → HasFailedToGive source → ⊥)
+
+-- the pictures did not fail, if the command shows them, nor did the notes
+abbrev pub AreTaken : Option Command → (pictures notes : Putting) → Type 0
+AreTaken None pictures notes = ⊤
+AreTaken (Some c) pictures notes = (ReadsAndShows c.mode → HasFailedToTake pictures → ⊥) × (HasFailedToTake notes → ⊥)
+
+-- the run ends as the definition says, or for want of memory
+abbrev pub EndsAs : Ending → Status → Type 0
+EndsAs ending st = (ending_of st ≡ Some ending) ⊎ (st ≡ status.OutOfMemory)

@@ -1,8 +1,6 @@
-pub mod Io
 pub mod Numbers
-pub mod Bound
-pub mod Lines
-pub mod Frame
-pub mod Rendered
+pub mod Words
+pub mod Io
+pub mod Noted
 pub mod Ended
-pub mod Shown
+pub mod Parts

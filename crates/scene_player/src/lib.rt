@@ -1,27 +1,20 @@
-//! Plays a scene: from the bytes of its text to the bytes of its pictures and notes.
+//! Runs the program: from its words and the bytes that it reads to the bytes of its pictures and notes.
 #![tactic(auto)]
 
-mod composing;
-mod dropping;
-mod frame;
 mod input;
-mod layouts;
-mod lines;
-mod names;
+pub mod laws;
 mod notes;
+mod noting;
 mod output;
-mod picture;
-mod playing;
-mod progress;
-mod recording;
-mod renderer;
+mod played;
+mod run;
+mod showing;
 mod status;
-#[cfg(test)]
-mod tests;
-mod top;
-#[cfg(test)]
-mod triangle_tests;
 mod words;
 
+pub use played::Played;
+pub use run::play;
 pub use status::Status;
-pub use top::{Played, play};
+
+#[cfg(test)]
+mod tests;

@@ -1,10 +1,11 @@
 use Rattle.std.proofs.Common.{◌≡◌, ◌≤◌, ◌*◌, ◌^◌, map, take}
-use Rattle.scene_model.specs.Journal.{item_count}
-use Rattle.scene_model.specs.Fold.{accepted_of}
+use Rattle.scene_playing.specs.Frames.{note_seen}
+use Rattle.scene_player.specs.Noted.{items_of}
 use Rattle.scene_player.proofs.notes.count_items.Given as goal
 
-abbrev pub invariant-loop-bundle : goal.invariant-loop-bundle
-invariant-loop-bundle l = record {
-  few : l.items ≤ 2 ^ 64 * l.bundle-index;
-  items : l.items ≡ item_count (map accepted_of (take l.bundle-index l.bundles));
+-- the items of the frames so far
+abbrev pub invariant-loop-note : goal.invariant-loop-note
+invariant-loop-note l = record {
+  few : l.items ≤ 2 ^ 64 * l.note-index;
+  items : l.items ≡ items_of (map note_seen (take l.note-index l.frames));
 }

@@ -1,6 +1,0 @@
-mod Books
-mod CreateLaws
-mod Finding
-mod Frames
-mod Places
-mod References

@@ -1,7 +1,0 @@
-use Rattle.std.proofs.Common.{◌≡◌, map, drop}
-use Rattle.triangle_text.specs.Seen.{block_seen}
-use Rattle.scene_model.specs.Fold.{lines_of}
-use Rattle.scene_player.proofs.recording.lines_of.Given as goal
-
-abbrev pub invariant-loop-block : goal.invariant-loop-block
-invariant-loop-block l = lines_of l.encoder (map block_seen (drop l.block-index l.blocks)) ≡ lines_of l.encoder (map block_seen l.blocks)

@@ -1,7 +1,0 @@
-use Rattle.std.proofs.Common.{refl, arith}
-use Rattle.triangle_text.proofs.Lasts.{last_set, beside_more}
-use Rattle.triangle_text.proofs.frames.add_beside.Goals as goal
-
-pub returns-in_ok-push-in-Some : goal.returns-in_ok-push-in-Some
-returns-in_ok-push-in-Some c =
-    last_set _ _ c.args.frames.now.items _ _ c.in-Some.frame.now (omega (arith, c.args.frames.now.ok.0, c.in-Some.ensures.variant.0 refl)) c.in-Some.ensures.value (beside_more c.in-Some.frame.now c.push.new.self c.args.line c.in_ok-push-in-Some.ensures)

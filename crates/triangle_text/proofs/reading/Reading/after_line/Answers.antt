@@ -1,6 +1,0 @@
-use Rattle.std.proofs.Common.{sym}
-use Rattle.triangle_text.proofs.LineParts.{line_parts}
-use Rattle.triangle_text.proofs.reading.Reading.after_line.Goals as goal
-
-pub returns : goal.returns
-returns c = rw (line_parts _ _ (sym c.if-is_skipped.ensures) (sym c.if-not-all_text.ensures)) c.after_text.ensures

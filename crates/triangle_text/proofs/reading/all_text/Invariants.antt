@@ -1,7 +1,0 @@
-use Rattle.std.proofs.Common.{◌≡◌, take}
-use Rattle.std.specs.List.{list_all}
-use Rattle.scene_model.specs.Grammar.{is_text_byte}
-use Rattle.triangle_text.proofs.reading.all_text.Given as goal
-
-abbrev pub invariant-loop-byte : goal.invariant-loop-byte
-invariant-loop-byte l = l.all ≡ list_all is_text_byte (take l.byte-index l.line)
