@@ -1,5 +1,5 @@
 // A scene's pictures by a journal that is given.
-ghost use Rattle.std.specs.Prelude.{◌≡◌, ◌≤◌, ◌⊎◌, None, map, length, take};
+ghost use Rattle.std.specs.Prelude.{◌≡◌, ◌≤◌, None, map, length, take};
 ghost use Rattle.spelling_model.specs.Readable.{IsReadable};
 ghost use Rattle.scene_model.specs.Fold.{plans};
 ghost use Rattle.scene_model.specs.Journal.{fault_place};
@@ -9,8 +9,9 @@ ghost use Rattle.scene_playing.specs.Frames.{note_seen};
 ghost use Rattle.scene_showing.specs.Showing.{IsShowing, IsCounted};
 ghost use Rattle.scene_showing.specs.declared.showing.End.TheVariants as ends;
 
-use crate::showing::Showing;
+use crate::showing::{Showing, show_with};
 use io_edge::{Gate, Sink};
+use render_core::Renderer;
 use scene_text::{Journal, Scene};
 use std::alloc::Global;
 use std::sync::Wait;
@@ -18,7 +19,8 @@ use std::thread::Threads;
 
 /// Shows a scene as `show_scene`, with the items of each frame in the order of the journal, which is lawful for the scene.
 ///
-/// Where all was shown, the journal that comes back is the one that was given; else it is a front of that, but for want of memory.
+/// This thread alone records and renders. Where all was shown, the journal that comes back is the one that was given; else it is a
+/// front of that.
 pub fn replay_scene<P: Sink + Send + Drop, R: Threads + Wait + Sync, G: Gate + Sync>(
     rt: &R,
     gate: &G,
@@ -35,9 +37,10 @@ pub fn replay_scene<P: Sink + Send + Drop, R: Threads + Wait + Sync, G: Gate + S
     ensures sure { P.sure result.sink ≡ P.sure sink }
     ensures no_fewer { P.faults sink ≤ P.faults result.sink }
     ensures whole { result.end ≡ ends.Done → journal_seen result.journal ≡ journal_seen journal.now }
-    ensures front { (journal_seen result.journal ≡ take (length (journal_seen result.journal)) (journal_seen journal.now)) ⊎ (result.end ≡ ends.OutOfMemory) }
+    ensures front { journal_seen result.journal ≡ take (length (journal_seen result.journal)) (journal_seen journal.now) }
 {
-    let _ = (gate, alloc, scene, journal, sink);
-    for _ in rt.forever() {}
-    unreachable!()
+    match Renderer::new(alloc, scene.width, scene.height, sink) {
+        Ok(renderer) => show_with(rt, gate, alloc, Some(journal), scene, renderer),
+        Err(sink) => Showing::nothing(alloc, sink),
+    }
 }

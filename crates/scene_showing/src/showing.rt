@@ -5,6 +5,7 @@ ghost use Rattle.scene_text.specs.Bounds.{IsBounded};
 ghost use Rattle.scene_text.specs.Seen.{journal_seen, scene_seen};
 ghost use Rattle.render_core.specs.Rendered.{seen_by};
 ghost use Rattle.scene_playing.specs.Frames.{note_seen};
+ghost use Rattle.scene_playing.specs.Order.{order_seen, Follows};
 ghost use Rattle.scene_showing.specs.Rendered.{IsNew, AreShown};
 ghost use Rattle.scene_showing.specs.Showing.{end_of, IsShowing, IsCounted};
 ghost use Rattle.scene_showing.specs.declared.showing.End.TheVariants as ends;
@@ -67,16 +68,17 @@ pub fn show_scene<P: Sink + Send + Drop, R: Threads + Wait + Sync, G: Gate + Syn
     ensures no_fewer { P.faults sink ≤ P.faults result.sink }
 {
     match Renderer::new(alloc, scene.width, scene.height, sink) {
-        Ok(renderer) => show_with(rt, gate, alloc, scene, renderer),
+        Ok(renderer) => show_with(rt, gate, alloc, None, scene, renderer),
         Err(sink) => Showing::nothing(alloc, sink),
     }
 }
 
-/// The same with a renderer that has rendered nothing.
-fn show_with<P: Sink + Send + Drop, R: Threads + Wait + Sync, G: Gate + Sync>(
+/// The same with a renderer that has rendered nothing, in an order where one is given.
+pub(crate) fn show_with<P: Sink + Send + Drop, R: Threads + Wait + Sync, G: Gate + Sync>(
     rt: &R,
     gate: &G,
     alloc: Global,
+    order: Option<&Journal>,
     scene: &Scene,
     renderer: Renderer<P>,
 ) -> Showing<P>
@@ -85,6 +87,7 @@ fn show_with<P: Sink + Send + Drop, R: Threads + Wait + Sync, G: Gate + Sync>(
     requires new { IsNew (scene_seen scene.now) (seen_by P.held P.tally P.faults P.sure renderer) }
     ensures shown { IsShowing result.end (scene_seen scene.now) (journal_seen result.journal) (P.held renderer.sink) (P.held result.sink) (P.faults renderer.sink) (P.faults result.sink) }
     ensures counted { IsCounted result.end (scene_seen scene.now) (journal_seen result.journal) (map note_seen result.notes.items) (P.tally renderer.sink) (P.tally result.sink) }
+    ensures follows { Follows (order_seen order.entry) (journal_seen result.journal) }
     ensures sure { P.sure result.sink ≡ P.sure renderer.sink }
     ensures no_fewer { P.faults renderer.sink ≤ P.faults result.sink }
 {
@@ -95,38 +98,43 @@ fn show_with<P: Sink + Send + Drop, R: Threads + Wait + Sync, G: Gate + Sync>(
     front_law();
     lawful_law();
     plan_law();
-    match render(rt, gate, alloc, scene, renderer) {
+    match render(rt, gate, alloc, order, scene, renderer) {
         Ok(rendered) => Showing::of_rendered(rendered),
         Err(renderer) => Showing::nothing(alloc, renderer.into_sink()),
     }
 }
 
-/// Plays the frames of a scene, and renders them, by a thread of its own, or in place where none can be started. `Err` with the
+/// Plays the frames of a scene, and renders them, by a thread of its own, or in place where none can be started or an order is given. `Err` with the
 /// renderer as it was, for want of memory; then nothing was played.
 fn render<P: Sink + Send + Drop, R: Threads + Wait + Sync, G: Gate + Sync>(
     rt: &R,
     gate: &G,
     alloc: Global,
+    order: Option<&Journal>,
     scene: &Scene,
     renderer: Renderer<P>,
 ) -> Result<Rendered<P>, Renderer<P>>
     requires readable { IsReadable (scene_seen scene.now) }
     requires bounded { IsBounded (scene_seen scene.now) }
     ensures shown { IfOk result (λ r. AreShown (scene_seen scene.now) (seen_by P.held P.tally P.faults P.sure renderer) (journal_seen r.journal) (map note_seen r.notes.items) r.outcome r.is_whole (seen_by P.held P.tally P.faults P.sure r.renderer)) }
+    ensures follows { IfOk result (λ r. Follows (order_seen order.entry) (journal_seen r.journal)) }
     ensures refused { IfErr result (λ r. seen_by P.held P.tally P.faults P.sure r ≡ seen_by P.held P.tally P.faults P.sure renderer) }
 {
+    if order.is_some() {
+        return render_in_place(rt, gate, alloc, order, scene, renderer);
+    }
     let Ok((api, end)) = swap_pair(alloc, scene.latency) else {
         return Err(renderer);
     };
     match render_beside(rt, gate, alloc, scene, renderer, api, end) {
         Ok(rendered) => Ok(rendered),
-        Err(renderer) => render_in_place(rt, gate, alloc, scene, renderer),
+        Err(renderer) => render_in_place(rt, gate, alloc, order, scene, renderer),
     }
 }
 
 impl<P: Drop> Showing<P> {
     /// Nothing was played, for want of memory.
-    fn nothing(alloc: Global, sink: P) -> Showing<P>
+    pub(crate) fn nothing(alloc: Global, sink: P) -> Showing<P>
         ensures sink { result.sink ≡ sink }
         ensures journal { journal_seen result.journal ≡ [] }
         ensures end { result.end ≡ ends.OutOfMemory }
@@ -144,7 +152,7 @@ impl<P: Drop> Showing<P> {
 
 impl<P: Sink + Drop> Showing<P> {
     /// What rendered frames leave, without the renderer.
-    fn of_rendered(rendered: Rendered<P>) -> Showing<P>
+    pub(crate) fn of_rendered(rendered: Rendered<P>) -> Showing<P>
         ensures sink { result.sink ≡ rendered.renderer.sink }
         ensures same { (result.journal ≡ rendered.journal) × (result.notes ≡ rendered.notes) }
         ensures end { result.end ≡ end_of rendered.outcome rendered.is_whole }

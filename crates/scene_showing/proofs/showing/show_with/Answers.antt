@@ -23,6 +23,7 @@ returns-in-Ok g c =
     record {
       shown = rw (same.end, same.same.0, same.sink) left.0.0;
       counted = rw (same.end, same.same.0, same.same.1, same.sink) left.0.1;
+      follows = rw same.same.0 c.in-Ok.ensures.follows;
       sure = rw same.sink left.1;
       no_fewer = rw same.sink left.2;
     }
