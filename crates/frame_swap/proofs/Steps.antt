@@ -517,7 +517,7 @@ comes_keep n slots id me i is all place = allows_from n slots id me i (λ x. eit
           valid = tt;
           homes = ap (map home) same;
           ring = record { me = w; returned = returned; in_hand = in_hand; waiting = waiting; coming = []; seat = seat; kept = subst (λ (x : ℕ × List Phase). Kept n w returned in_hand waiting [] seat x.1 (set views x.0 w)) (λ j. (sym first j, same j)) fits };
-          told = ((λ h. absurd (other.1 h)), (λ _. refl));
+          told = ((λ h. absurd (other.1 h)), (λ _. (place ∙ ap (λ (c : ℕ). length me.0.back % c) (sym all), refl)));
         }
     by_coming phases views r at first returned in_hand waiting (b ∷ bs) seat back_is k =
         let some_word = k.ring.some_word in

@@ -116,7 +116,7 @@ returns-clause-take_back c latency s t m h k x id v hand at r side p =
           let event = back_event latency me other next.next m b (lengths k.ring (came b me) next.next ends) next.taken next.returned x.3 in
           (event.0, event.1, (came b me, next.next, ends, event.2))),
       (λ not_three.
-          let after = after_own s t missed me v p.w id views (ap (λ (y : Mine). y.0) (p.told.1 not_three)) o.0 o.1 in
+          let after = after_own s t missed me v p.w id views (ap (λ (y : Mine). y.0) (p.told.1 not_three).1) o.0 o.1 in
           let next = api_next s.views me (missed me) other e e.is_api refl refl refl in
           let ends = ends_after s t (set s.views 0 (missed me)) (missed me) next.next after next.ends in
           (missed me, next.next, ends, nothing_happens me (missed me) other next.next m refl refl next.taken next.returned x.3)),
