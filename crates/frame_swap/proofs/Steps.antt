@@ -291,7 +291,7 @@ module _ {n : ℕ} {phases : List Phase} {views : List SwapView} (slots id : ℕ
       }
 
   finds_none : (r : IsRing n phases views) (q : Phase) → get_elem? phases i ≡ some q → either (eqb (code q) 1) 2 (code q) ≡ code q → code q ≢ 1 → code q ≢ 4 → Tries n slots phases views id me i
-  finds_none r q there same one four = notes r q there same (missed me.0) refl refl refl (λ h. r.kept.seen id me.0 at h) ((λ h. absurd (one h)), (λ h. absurd (four h)), (λ _ _. refl))
+  finds_none r q there same one four = notes r q there same (missed me.0) refl refl refl (λ h. r.kept.seen id me.0 at h) ((λ h. absurd (one h)), (λ h. absurd (four h)), (λ _ _. (is, refl)))
 
   finds_stop : (r : IsRing n phases views) → r.me.is_stopped ≡ true → get_elem? phases i ≡ some stopped_at → Tries n slots phases views id me i
   finds_stop r stop there = notes r stopped_at there refl (saw me.0) refl refl refl (λ _. stop) ((λ h. absurd (omega arith)), (λ _. refl), (λ _ h. absurd (h refl)))

@@ -81,12 +81,12 @@ missed v = record v { misses = suc v.misses }
 abbrev pub with_misses : ℕ → SwapView → SwapView
 with_misses n v = record v { misses = n }
 
--- a frame was there and was taken, or the stop was seen, or there was nothing to take
+-- a frame was there and was taken, or the stop was seen, or there was nothing to take, which is the render end's miss alone
 abbrev pub Takes : Step Slot → Mine → ℕ → Mine → Type 0
 Takes st m n m' =
     (n ≡ 1 → (f : Frame) × (m' ≡ (took f m.0, (st.word, Some (Given f)) ∷ m.1)))
     × (n ≡ 4 → m' ≡ (saw m.0, m.1))
-    × (n ≢ 1 → n ≢ 4 → m' ≡ (missed m.0, m.1))
+    × (n ≢ 1 → n ≢ 4 → (m.0.side ≡ render) × (m' ≡ (missed m.0, m.1)))
 
 abbrev pub gave_back : RenderedFrame → SwapView → SwapView
 gave_back r v = record v { returned = v.returned ++ r ∷ [] }

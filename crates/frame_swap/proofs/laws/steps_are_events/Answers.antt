@@ -58,7 +58,7 @@ returns-clause-take c latency s t m h k x id v hand at r side p =
           let ends = ends_after s t (set s.views id (saw v)) me (saw v) (views ∙ ap (λ (y : SwapView). set s.views id y) is) n.1 in
           (me, saw v, ends, nothing_happens me me other (saw v) m refl refl (ap (λ (y : SwapView). y.taken) n.0) (ap (λ (y : SwapView). y.returned) n.0) x.3))
           (λ (not_four : r ≢ 4).
-          let is : p.w ≡ missed v = ap (λ (y : Mine). y.0) (p.told.2 not_one not_four) in
+          let is : p.w ≡ missed v = ap (λ (y : Mine). y.0) (p.told.2 not_one not_four).1 in
           let n = render_next h.ring me other v (missed v) id e p.was side side in
           let ends = ends_after s t (set s.views id (missed v)) me (missed v) (views ∙ ap (λ (y : SwapView). set s.views id y) is) n.1 in
           (me, missed v, ends, nothing_happens me me other (missed v) m refl refl (ap (λ (y : SwapView). y.taken) n.0) (ap (λ (y : SwapView). y.returned) n.0) x.3))),
