@@ -24,7 +24,8 @@ fn entries_of(alloc: Global, all: &[NumberedEntry]) -> Result<Vec<JournalEntry>,
 /// The journal of several recordings: the entries of all their items, ascending by number. There are at most `MOST_ITEMS` items, and the
 /// numbers of each recording ascend, as a bundle tells.
 ///
-/// It merges one recording after the other, so it moves an entry at most once for each recording.
+/// It merges one recording after the other, so it moves an entry at most once for each recording, and once more at the end, where the
+/// entries leave their numbers.
 pub fn collect(alloc: Global, recordings: &[Recording]) -> Result<Vec<JournalEntry>, AllocError>
     requires { IsCollectable recordings.now }
     ensures journal { IfOk result (λ journal. map entry_seen journal.items ≡ collected (recordings_seen recordings.now)) }

@@ -1,6 +1,6 @@
 // Frames, and how their renders went.
 ghost use Rattle.std.specs.Prelude.{◌≡◌};
-ghost use Rattle.frame_record.specs.Kept.{IsKept};
+ghost use Rattle.frame_record.specs.Kept.{most_frame_items, IsKept};
 
 use cmd_buffer::CmdBytes;
 use draw_encoder::Recording;
@@ -58,7 +58,8 @@ impl Frame {
     /// What every frame keeps: at most `MOST_ITEMS` items, of different numbers, each recording of an encoder of its own with
     /// numbers that ascend, and the journal of all of them.
     pub fn tell_facts(&self)
-        ensures { IsKept self.now.recordings.items self.now.journal.items }
+        ensures kept { IsKept self.now.recordings.items self.now.journal.items }
+        ensures most { MOST_ITEMS ≡ most_frame_items }
     {}
 }
 

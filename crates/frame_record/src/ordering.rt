@@ -1,5 +1,5 @@
 // The order in which a frame is drawn.
-ghost use Rattle.std.specs.Prelude.{ℕ, ◌≡◌, ◌≢◌, ◌≤◌, ◌<◌, ◌^◌, ◌++◌, List, length, map, slice_index_or, IfOk, IfSome, OnOk, MatchOption, []};
+ghost use Rattle.std.specs.Prelude.{ℕ, ◌≡◌, ◌≢◌, ◌≤◌, ◌<◌, ◌^◌, ◌++◌, List, length, map, slice_get, slice_index_or, Some, IfOk, IfSome, OnOk, MatchOption, []};
 ghost use Rattle.std.specs.List.{AllByRecursion};
 ghost use Rattle.std.specs.Option.{option_map};
 ghost use Rattle.gfx_model.specs.Frames.{draw_order, keyed_entry, keyed_entries, items_by, item_of_entry};
@@ -10,7 +10,7 @@ ghost use Rattle.draw_encoder.specs.declared.items.UniformSet.{UniformSet};
 ghost use Rattle.draw_encoder.specs.Seen.{item_seen};
 ghost use Rattle.frame_record.specs.Kept.{most_frame_items};
 ghost use Rattle.frame_record.specs.Ordered.{keyed_of, position_of, key_or_none, one_or_none, AscendFrom, IsOfView, IsPlaced};
-ghost use Rattle.frame_record.specs.Seen.{entry_seen, recorded_seen, recordings_seen};
+ghost use Rattle.frame_record.specs.Seen.{entry_seen, numbered_seen, recorded_seen, recordings_seen};
 
 use crate::frame::Frame;
 use draw_encoder::{DrawItem, Item, Recording, TouchItem};
@@ -91,9 +91,10 @@ fn key_of(views: &ViewTable, item: &Item, place: u32) -> Option<SortKey>
 
 // the first recording of an encoder
 fn recording_by<'a>(recordings: &'a [Recording], encoder: u8) -> Option<&'a Recording>
-    ensures { MatchOption result
+    ensures items { MatchOption result
         (items_by (recordings_seen recordings.now) encoder ≡ [])
         (λ r. items_by (recordings_seen recordings.now) encoder ≡ (recorded_seen r.now).items) }
+    ensures own { IfSome result (λ r. r.now.encoder ≡ encoder) }
 {
     for recording in recordings {
         if recording.encoder == encoder {
@@ -108,7 +109,9 @@ pub(crate) fn item_at<'a>(
     recordings: &'a [Recording],
     entry: JournalEntry,
 ) -> Option<(&'a Recording, &'a Item)>
-    ensures { option_map (λ p. item_seen p.0.now.bytes p.0.now.uniforms p.1.now) result ≡ item_of_entry (recordings_seen recordings.now) (entry_seen entry) }
+    ensures content { option_map (λ p. item_seen p.0.now.bytes p.0.now.uniforms p.1.now) result ≡ item_of_entry (recordings_seen recordings.now) (entry_seen entry) }
+    ensures item { option_map (λ p. numbered_seen p.0.now p.1.now) result ≡ slice_get (items_by (recordings_seen recordings.now) entry.encoder) entry.ordinal }
+    ensures own { IfSome result (λ p. (p.0.now.encoder ≡ entry.encoder) × (slice_get p.0.now.items entry.ordinal ≡ Some p.1.now)) }
 {
     let recording = recording_by(recordings, entry.encoder)?;
     let item = recording.items.as_slice().get(entry.ordinal as usize)?;
@@ -172,10 +175,12 @@ fn sort(all: &mut Vec<OrderedItem>) -> Result<(), AllocError>
 }
 
 impl Frame {
-    /// The item of an entry, with the recording that has it; None exactly where the recording of the entry's encoder is not there
-    /// or has no such item. The item's bytes and values are ranges of that recording's.
+    /// The item of an entry, with the recording that has it: the item at the entry's place in the recording of the entry's encoder. None
+    /// exactly where that recording is not there or has no such item. The item's bytes and values are ranges of that recording's.
     pub fn item(&self, entry: JournalEntry) -> Option<(&Recording, &Item)>
-        ensures { option_map (λ p. item_seen p.0.now.bytes p.0.now.uniforms p.1.now) result ≡ item_of_entry (recordings_seen self.now.recordings.items) (entry_seen entry) }
+        ensures content { option_map (λ p. item_seen p.0.now.bytes p.0.now.uniforms p.1.now) result ≡ item_of_entry (recordings_seen self.now.recordings.items) (entry_seen entry) }
+        ensures item { option_map (λ p. numbered_seen p.0.now p.1.now) result ≡ slice_get (items_by (recordings_seen self.now.recordings.items) entry.encoder) entry.ordinal }
+        ensures own { IfSome result (λ p. (p.0.now.encoder ≡ entry.encoder) × (slice_get p.0.now.items entry.ordinal ≡ Some p.1.now)) }
     {
         item_at(&self.recordings, entry)
     }

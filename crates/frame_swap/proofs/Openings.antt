@@ -1,5 +1,5 @@
 -- The table at the start, its slots claimed, and the render end made and joined.
-use Rattle.std.proofs.Common.{◌≡◌, ◌≢◌, ℕ, zero, suc, ◌+◌, ◌%◌, ◌<◌, ◌≤◌, Bool, true, false, true≢false, List, [], ◌∷◌, ◌++◌, map, length, set, sym, refl, ap, ◌∙◌, subst, ⊎_elim, ◌⊎◌, inl, inr, arith, None, mod-lt, mod-eq_of_lt, replicate}
+use Rattle.std.proofs.Common.{◌≡◌, ◌≢◌, ℕ, zero, suc, ◌%◌, ◌<◌, ◌≤◌, Bool, true, false, true≢false, List, [], ◌∷◌, ◌++◌, map, length, set, sym, refl, ap, ◌∙◌, subst, ⊎_elim, ◌⊎◌, inl, inr, arith, None, mod-lt, mod-eq_of_lt, replicate}
 use Rattle.std.proofs.lemmas.List.{append-nil, map-set, length-replicate}
 use lib.ListN.{get_elem?}
 use mathlib.Core.Option.{none, some, some-injective, some-ne-none}

@@ -1,5 +1,5 @@
 -- Each step keeps the rule.
-use Rattle.std.proofs.Common.{◌≡◌, ◌≢◌, ℕ, zero, suc, ◌+◌, ◌%◌, ◌<◌, ◌≤◌, Bool, true, false, true≢false, List, [], ◌∷◌, ◌++◌, map, length, get_or, set, sym, refl, ap, ◌∙◌, subst, ⊎_elim, ◌⊎◌, arith, eqb, Some, None, length-append, lt_of_not-le, mod-lt}
+use Rattle.std.proofs.Common.{◌≡◌, ◌≢◌, ℕ, zero, suc, ◌+◌, ◌%◌, ◌<◌, ◌≤◌, Bool, true, false, true≢false, List, [], ◌∷◌, ◌++◌, map, length, get_or, set, sym, refl, ap, ◌∙◌, subst, ⊎_elim, arith, eqb, Some, None, length-append, lt_of_not-le, mod-lt}
 use Rattle.std.proofs.Math.Nat.{add-mod_right}
 use Rattle.std.proofs.lemmas.List.{append-nil, append_assoc, length-map, map-set, append_cancel_left}
 use lib.ListN.{drop, get_elem?}
@@ -291,7 +291,7 @@ module _ {n : ℕ} {phases : List Phase} {views : List SwapView} (slots id : ℕ
       }
 
   finds_none : (r : IsRing n phases views) (q : Phase) → get_elem? phases i ≡ some q → either (eqb (code q) 1) 2 (code q) ≡ code q → code q ≢ 1 → code q ≢ 4 → Tries n slots phases views id me i
-  finds_none r q there same one four = notes r q there same (missed me.0) refl refl refl (λ h. r.kept.seen id me.0 at h) ((λ h. absurd (one h)), (λ h. absurd (four h)), (λ _ _. refl))
+  finds_none r q there same one four = notes r q there same (missed me.0) refl refl refl (λ h. r.kept.seen id me.0 at h) ((λ h. absurd (one h)), (λ h. absurd (four h)), (λ _ _. (is, refl)))
 
   finds_stop : (r : IsRing n phases views) → r.me.is_stopped ≡ true → get_elem? phases i ≡ some stopped_at → Tries n slots phases views id me i
   finds_stop r stop there = notes r stopped_at there refl (saw me.0) refl refl refl (λ _. stop) ((λ h. absurd (omega arith)), (λ _. refl), (λ _ h. absurd (h refl)))
@@ -517,7 +517,7 @@ comes_keep n slots id me i is all place = allows_from n slots id me i (λ x. eit
           valid = tt;
           homes = ap (map home) same;
           ring = record { me = w; returned = returned; in_hand = in_hand; waiting = waiting; coming = []; seat = seat; kept = subst (λ (x : ℕ × List Phase). Kept n w returned in_hand waiting [] seat x.1 (set views x.0 w)) (λ j. (sym first j, same j)) fits };
-          told = ((λ h. absurd (other.1 h)), (λ _. refl));
+          told = ((λ h. absurd (other.1 h)), (λ _. (place ∙ ap (λ (c : ℕ). length me.0.back % c) (sym all), refl)));
         }
     by_coming phases views r at first returned in_hand waiting (b ∷ bs) seat back_is k =
         let some_word = k.ring.some_word in

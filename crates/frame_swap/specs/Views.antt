@@ -81,12 +81,12 @@ missed v = record v { misses = suc v.misses }
 abbrev pub with_misses : ℕ → SwapView → SwapView
 with_misses n v = record v { misses = n }
 
--- a frame was there and was taken, or the stop was seen, or there was nothing to take
+-- a frame was there and was taken, or the stop was seen, or there was nothing to take, which is the render end's miss alone
 abbrev pub Takes : Step Slot → Mine → ℕ → Mine → Type 0
 Takes st m n m' =
     (n ≡ 1 → (f : Frame) × (m' ≡ (took f m.0, (st.word, Some (Given f)) ∷ m.1)))
     × (n ≡ 4 → m' ≡ (saw m.0, m.1))
-    × (n ≢ 1 → n ≢ 4 → m' ≡ (missed m.0, m.1))
+    × (n ≢ 1 → n ≢ 4 → (m.0.side ≡ render) × (m' ≡ (missed m.0, m.1)))
 
 abbrev pub gave_back : RenderedFrame → SwapView → SwapView
 gave_back r v = record v { returned = v.returned ++ r ∷ [] }
@@ -97,11 +97,11 @@ Returns st m n m' = (r : RenderedFrame) (k : Slots) → m.1 ≡ (st.word, Some (
 abbrev pub came : RenderedFrame → SwapView → SwapView
 came r v = record v { back = v.back ++ r ∷ [] }
 
--- a frame came back, the oldest that was out, and what came back is a prefix of what was given; or its render has not ended
+-- a frame came back, the oldest that was out, and what came back is a prefix of what was given; or its render has not ended, as that frame's own word says
 abbrev pub TakesBack : Step Slot → Mine → ℕ → Mine → Type 0
 TakesBack st m n m' =
     (n ≡ 3 → (r : RenderedFrame) × (m' ≡ (came r m.0, (st.word, Some (Back r)) ∷ m.1)) × (m.0.given ≡ frames_of m.0.back ++ r.frame ∷ drop (suc (length m.0.back)) m.0.given))
-    × (n ≢ 3 → m' ≡ (missed m.0, m.1))
+    × (n ≢ 3 → (st.word ≡ length m.0.back % m.0.claimed) × (m' ≡ (missed m.0, m.1)))
 
 -- no frame is given any more
 abbrev pub stopped : SwapView → SwapView

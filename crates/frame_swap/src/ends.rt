@@ -1,5 +1,5 @@
 // The two ends.
-ghost use Rattle.std.specs.Prelude.{◌≡◌, ℕ, ◌+◌, ◌-◌, ◌%◌, [], ◌∷◌, ◌++◌, length, ◌<◌, ◌≤◌, IfOk, IfErr, IfSome, IfNone, MatchOption, true};
+ghost use Rattle.std.specs.Prelude.{◌≡◌, ℕ, ◌+◌, ◌-◌, ◌%◌, [], ◌∷◌, ◌++◌, length, ◌<◌, ◌≤◌, IfOk, IfErr, IfSome, IfNone, MatchOption, true, false};
 ghost use Rattle.std.specs.Arc.{arc_value};
 ghost use Rattle.frame_record.specs.Links.{frames_of, out_of, CameBack};
 ghost use Rattle.frame_swap.specs.Views.{api, render, first_view, empty_slots, gave, took, saw, gave_back, came, stopped, missed, with_misses};
@@ -61,7 +61,7 @@ pub struct Nothing;
 pub fn swap_pair(alloc: Global, latency: u8) -> Result<(ApiEnd, RenderEnd), AllocError>
     requires { 1 ≤ latency }
     ensures pair { IfOk result (λ r. r.1.seat.table_id ≡ r.0.seat.table_id) }
-    ensures api { IfOk result (λ r. (r.0.seat.me.0.given ≡ []) × (r.0.seat.me.0.back ≡ []) × (r.0.latency ≡ latency)) }
+    ensures api { IfOk result (λ r. (r.0.seat.me.0.given ≡ []) × (r.0.seat.me.0.back ≡ []) × (r.0.latency ≡ latency) × (r.0.seat.me.0.is_stopped ≡ false)) }
     ensures render { IfOk result (λ r. (r.1.seat.me.0.taken ≡ []) × (r.1.seat.me.0.returned ≡ []) × (r.1.seat.me.0.stops ≡ 0)) }
 {
     let words = Vec::from_elem(alloc, 0u64, latency as usize)?;
@@ -124,7 +124,8 @@ impl ApiEnd {
         }
     }
 
-    /// No frame is given any more. The render end finds the stop when it next takes. No frame is out.
+    /// No frame is given any more. The word of the frame that would come next says so from then on; a `take` that finds it answers None.
+    /// No frame is out.
     pub fn stop(&mut self)
         requires none_out { length self.old.seat.me.0.given ≡ length self.old.seat.me.0.back }
         ensures view { self.new.seat.me.0 ≡ stopped self.old.seat.me.0 }

@@ -7,7 +7,15 @@ use Rattle.std.proofs.lemmas.List.Concat.{flat_map-append}
 use Rattle.scene_model.specs.Scene.{EncoderLine}
 use Rattle.scene_text.specs.declared.scene.EncLine.{EncLine}
 use Rattle.scene_model.specs.Generated.{draw_lines}
-use Rattle.generated_scene.specs.Draws.{draws_below, lines_below, lines_of_draw}
+use Rattle.generated_scene.specs.Draws.{lines_of_draw}
+
+-- encoder e's draws below d, ascending
+abbrev draws_below : ℕ → ℕ → List ℕ
+draws_below e d = filter (λ k. k % 4 == e) (range_with_len 0 d)
+
+-- the lines of those draws in frame f
+abbrev pub lines_below : (frame encoder draw : ℕ) → List EncoderLine
+lines_below f e d = flat_map (draw_lines f) (draws_below e d)
 
 range_more : (from count : ℕ) → range_with_len from (count + 1) ≡ range_with_len from count ++ (from + count) ∷ []
 range_more from zero = let same : from ≡ from + 0 = omega arith in ap (λ (k : ℕ). k ∷ []) same

@@ -1,2 +1,3 @@
 mod Frees
 mod Makes
+mod Begun

@@ -1,5 +1,5 @@
 // What commands do to layouts, buffers and uniforms; each passes over what cannot be.
-ghost use Rattle.std.specs.Prelude.{◌≡◌, Some, OnOk, IsSome, length, option_map, slice_get, is_some};
+ghost use Rattle.std.specs.Prelude.{◌≡◌, Some, OnOk, OnErr, IsSome, length, option_map, slice_get, is_some};
 ghost use Rattle.gfx_words.specs.Seen.{kind_seen, uniform_seen};
 ghost use Rattle.store_model.specs.Slots.{at};
 ghost use Rattle.store_model.specs.Buffers.{bytes_at};
@@ -29,7 +29,8 @@ fn put_vertices(
     layout: u16,
     bytes: &[u8],
 ) -> Result<(), AllocError>
-    ensures { OnOk result (buffers.new ≡ vertices_made index (at buffers.old.layouts layout) (Some bytes.now) buffers.old) }
+    ensures made { OnOk result (buffers.new ≡ vertices_made index (at buffers.old.layouts layout) (Some bytes.now) buffers.old) }
+    ensures kept { OnErr result (buffers.new ≡ buffers.old) }
 {
     if buffers.layout_of(Kind::Layout, layout).is_none() {
         return Ok(());
@@ -50,7 +51,8 @@ pub(crate) fn make_vertices(
     layout: u16,
     payload: u32,
 ) -> Result<(), AllocError>
-    ensures { OnOk result (buffers.new ≡ vertices_made index (at buffers.old.layouts layout) (slice_get (payloads_seen payloads.now) payload) buffers.old) }
+    ensures made { OnOk result (buffers.new ≡ vertices_made index (at buffers.old.layouts layout) (slice_get (payloads_seen payloads.now) payload) buffers.old) }
+    ensures kept { OnErr result (buffers.new ≡ buffers.old) }
 {
     match payload_at(payloads, payload) {
         Some(bytes) => {
@@ -67,7 +69,8 @@ fn put_indices(
     index: u16,
     bytes: &[u8],
 ) -> Result<(), AllocError>
-    ensures { OnOk result (buffers.new ≡ indices_made index (Some bytes.now) buffers.old) }
+    ensures made { OnOk result (buffers.new ≡ indices_made index (Some bytes.now) buffers.old) }
+    ensures kept { OnErr result (buffers.new ≡ buffers.old) }
 {
     if is_index_buffer_free(buffers, index) {
         let bytes = bytes.to_vec(alloc)?;
@@ -84,7 +87,8 @@ pub(crate) fn make_indices(
     index: u16,
     payload: u32,
 ) -> Result<(), AllocError>
-    ensures { OnOk result (buffers.new ≡ indices_made index (slice_get (payloads_seen payloads.now) payload) buffers.old) }
+    ensures made { OnOk result (buffers.new ≡ indices_made index (slice_get (payloads_seen payloads.now) payload) buffers.old) }
+    ensures kept { OnErr result (buffers.new ≡ buffers.old) }
 {
     match payload_at(payloads, payload) {
         Some(bytes) => {
@@ -103,7 +107,8 @@ fn put_uniform(
     kind: UniformKind,
     name: &[u8],
 ) -> Result<(), AllocError>
-    ensures { OnOk result (buffers.new ≡ uniform_made index serial (Some (uniform_seen kind)) (Some name.now) buffers.old) }
+    ensures made { OnOk result (buffers.new ≡ uniform_made index serial (Some (uniform_seen kind)) (Some name.now) buffers.old) }
+    ensures kept { OnErr result (buffers.new ≡ buffers.old) }
 {
     if is_uniform_free(buffers, index) {
         let name = name.to_vec(alloc)?;
@@ -122,7 +127,8 @@ pub(crate) fn make_uniform(
     kind: Option<UniformKind>,
     payload: u32,
 ) -> Result<(), AllocError>
-    ensures { OnOk result (buffers.new ≡ uniform_made index serial (option_map uniform_seen kind) (slice_get (payloads_seen payloads.now) payload) buffers.old) }
+    ensures made { OnOk result (buffers.new ≡ uniform_made index serial (option_map uniform_seen kind) (slice_get (payloads_seen payloads.now) payload) buffers.old) }
+    ensures kept { OnErr result (buffers.new ≡ buffers.old) }
 {
     match (kind, payload_at(payloads, payload)) {
         (Some(kind), Some(name)) => {

@@ -1,5 +1,5 @@
 // Executes the commands of a frame on the stores.
-ghost use Rattle.std.specs.Prelude.{◌≡◌, Some, OnOk, option_map};
+ghost use Rattle.std.specs.Prelude.{ℕ, ◌≡◌, Some, OnOk, OnErr, option_map, take};
 ghost use Rattle.gfx_words.specs.Seen.{kind_seen, program_seen};
 ghost use Rattle.cmd_buffer.specs.Seen.{command_seen};
 ghost use Rattle.store_laws.specs.ByIndex.{after_command, all_commanded, program_made, destroyed_by};
@@ -60,14 +60,15 @@ fn destroy_where(stores: &mut RenderStores, kind: Option<Kind>, index: u16)
     }
 }
 
-/// Executes a command.
+/// Executes a command. Where memory is missing, it changes nothing.
 fn execute(
     alloc: Global,
     stores: &mut RenderStores,
     payloads: &[Vec<u8>],
     command: Command,
 ) -> Result<(), AllocError>
-    ensures { OnOk result (stores_seen stores.new ≡ after_command (payloads_seen payloads.now) (stores_seen stores.old) (command_seen command)) }
+    ensures done { OnOk result (stores_seen stores.new ≡ after_command (payloads_seen payloads.now) (stores_seen stores.old) (command_seen command)) }
+    ensures kept { OnErr result (stores_seen stores.new ≡ stores_seen stores.old) }
 {
     match command {
         Command::CreateLayout { index, layout } => make_layout(&mut stores.buffers, index, layout),
@@ -149,14 +150,16 @@ fn execute(
     Ok(())
 }
 
-/// Executes a row of commands in order. It takes memory for what payloads are copied to.
+/// Executes a row of commands in order. It takes memory for what payloads are copied to, and for the texels of a texture that a colour
+/// fills. Where memory is missing, the commands before the one that needed it are executed, and no other.
 pub fn execute_all(
     alloc: Global,
     stores: &mut RenderStores,
     payloads: &[Vec<u8>],
     row: &CmdBytes,
 ) -> Result<(), AllocError>
-    ensures { OnOk result (stores_seen stores.new ≡ all_commanded (payloads_seen payloads.now) (stores_seen stores.old) row.now) }
+    ensures done { OnOk result (stores_seen stores.new ≡ all_commanded (payloads_seen payloads.now) (stores_seen stores.old) row.now) }
+    ensures begun { OnErr result ((n : ℕ) × (stores_seen stores.new ≡ all_commanded (payloads_seen payloads.now) (stores_seen stores.old) (take n row.now))) }
 {
     let mut reader = CmdReader::new(row);
     while let Some(command) = reader.next() {

@@ -58,7 +58,7 @@ returns-clause-take c latency s t m h k x id v hand at r side p =
           let ends = ends_after s t (set s.views id (saw v)) me (saw v) (views ∙ ap (λ (y : SwapView). set s.views id y) is) n.1 in
           (me, saw v, ends, nothing_happens me me other (saw v) m refl refl (ap (λ (y : SwapView). y.taken) n.0) (ap (λ (y : SwapView). y.returned) n.0) x.3))
           (λ (not_four : r ≢ 4).
-          let is : p.w ≡ missed v = ap (λ (y : Mine). y.0) (p.told.2 not_one not_four) in
+          let is : p.w ≡ missed v = ap (λ (y : Mine). y.0) (p.told.2 not_one not_four).1 in
           let n = render_next h.ring me other v (missed v) id e p.was side side in
           let ends = ends_after s t (set s.views id (missed v)) me (missed v) (views ∙ ap (λ (y : SwapView). set s.views id y) is) n.1 in
           (me, missed v, ends, nothing_happens me me other (missed v) m refl refl (ap (λ (y : SwapView). y.taken) n.0) (ap (λ (y : SwapView). y.returned) n.0) x.3))),
@@ -116,7 +116,7 @@ returns-clause-take_back c latency s t m h k x id v hand at r side p =
           let event = back_event latency me other next.next m b (lengths k.ring (came b me) next.next ends) next.taken next.returned x.3 in
           (event.0, event.1, (came b me, next.next, ends, event.2))),
       (λ not_three.
-          let after = after_own s t missed me v p.w id views (ap (λ (y : Mine). y.0) (p.told.1 not_three)) o.0 o.1 in
+          let after = after_own s t missed me v p.w id views (ap (λ (y : Mine). y.0) (p.told.1 not_three).1) o.0 o.1 in
           let next = api_next s.views me (missed me) other e e.is_api refl refl refl in
           let ends = ends_after s t (set s.views 0 (missed me)) (missed me) next.next after next.ends in
           (missed me, next.next, ends, nothing_happens me (missed me) other next.next m refl refl next.taken next.returned x.3)),

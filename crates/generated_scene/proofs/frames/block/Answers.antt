@@ -1,8 +1,8 @@
 use Rattle.std.proofs.Common.{◌≡◌, ℕ, List, ◌++◌, map, ap, sym, ◌∙◌, arith}
 use Rattle.scene_model.specs.Scene.{EncoderLine, Block}
 use Rattle.scene_text.specs.Seen.{encoder_line_seen}
-use Rattle.generated_scene.specs.Draws.{lines_below, lines_of_draw}
-use Rattle.generated_scene.proofs.Grows.{lines_more}
+use Rattle.generated_scene.specs.Draws.{lines_of_draw}
+use Rattle.generated_scene.proofs.Grows.{lines_below, lines_more}
 use Rattle.generated_scene.proofs.frames.block.Goals as goal
 
 abbrev block_with : ℕ → List EncoderLine → Block

@@ -1,6 +1,6 @@
 use Rattle.std.proofs.Common.{◌≡◌, map}
 use Rattle.scene_text.specs.Seen.{encoder_line_seen}
-use Rattle.generated_scene.specs.Draws.{lines_below}
+use Rattle.generated_scene.proofs.Grows.{lines_below}
 use Rattle.generated_scene.proofs.frames.block.Given as goal
 
 abbrev pub invariant-loop-draw : goal.invariant-loop-draw

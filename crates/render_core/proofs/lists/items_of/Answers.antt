@@ -9,4 +9,4 @@ pub loop-one-preserved : goal.loop-one-preserved
 loop-one-preserved c =
     let rs = recordings_of c.args.frame.now in
     items_more rs (λ o. entry_seen o.entry) c.args.ordered.now c.loop-one.one-index c.one-item.result _ _ _ c.loop-one-test.true
-    (c.item.ensures ∙ ap (λ o. item_of_entry rs (entry_seen o.entry)) c.one-item.is) c.loop-one.invariant c.in_ok-push_item.ensures
+    (c.item.ensures.content ∙ ap (λ o. item_of_entry rs (entry_seen o.entry)) c.one-item.is) c.loop-one.invariant c.in_ok-push_item.ensures

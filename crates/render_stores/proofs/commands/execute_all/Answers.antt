@@ -1,0 +1,8 @@
+use Rattle.render_stores.proofs.Begun.{begun_more, begun_all}
+use Rattle.render_stores.proofs.commands.execute_all.Goals as goal
+
+pub loop-command-preserved : goal.loop-command-preserved
+loop-command-preserved c = begun_more _ _ _ _ _ _ _ _ c.loop-command.invariant c.in-Some.ensures c.in_ok-execute.ensures.done
+
+pub returns-clause-done : goal.returns-clause-done
+returns-clause-done c = begun_all _ _ _ _ _ c.loop-command.invariant c.in_default.ensures.0
