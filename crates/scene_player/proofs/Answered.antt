@@ -1,5 +1,5 @@
 -- Runs whose scene was shown.
-use Rattle.std.proofs.Common.{◌≡◌, ◌∙◌, ◌⊎◌, ◌≤◌, ◌+◌, ◌%◌, ◌^◌, ℕ, Bool, true, false, if◌then◌else◌, List, [], ◌∷◌, ◌++◌, length, map, take, Some, Option, refl, sym, ap, ap₂, subst, inl, inr, arith, sum_by}
+use Rattle.std.proofs.Common.{◌≡◌, ◌∙◌, ◌⊎◌, ◌≤◌, ◌+◌, ◌%◌, ◌^◌, ℕ, Bool, false, if◌then◌else◌, List, [], ◌∷◌, ◌++◌, length, map, take, Some, Option, refl, sym, ap, ap₂, subst, inl, inr, arith, sum_by}
 use Rattle.std.specs.Prelude.{flat_map, sum}
 use Rattle.std.proofs.lemmas.List.{length-map, take_all}
 use Rattle.std.proofs.lemmas.List.Sums.{sum-map}
@@ -9,10 +9,10 @@ use Rattle.scene_model.specs.Fold.{FramePlan, plans}
 use Rattle.scene_model.specs.Journal.{Journal, IsLawful, IsLawfulFront, serial}
 use Rattle.scene_model.specs.Journal as journals
 use Rattle.scene_model.specs.Generated.{generated}
-use Rattle.scene_model.specs.Output.{frame_items, journal_text, make_note, notes, picture_text, pictures_text, report}
+use Rattle.scene_model.specs.Output.{frame_items, journal_text, make_note, picture_text, pictures_text}
 use Rattle.scene_model.specs.Run.{Run, shown}
 use Rattle.scene_model.proofs.PlansFit.{order-law}
-use Rattle.scene_progress.specs.Notes.{note_lines, noted_of}
+use Rattle.scene_progress.specs.Notes.{noted_of}
 use Rattle.scene_progress.proofs.Journals.{picture_count, report_is}
 use Rattle.scene_progress.proofs.Reached.{plan_count}
 use Rattle.command_line_model.specs.Taken.{Mode, play, replay, make, Command}
@@ -21,7 +21,7 @@ use Rattle.scene_showing.specs.declared.showing.End.{End}
 use Rattle.scene_showing.specs.declared.showing.End.TheVariants as ends
 use Rattle.scene_player.specs.declared.status.Status.{Status}
 use Rattle.scene_player.specs.declared.status.Status.TheVariants as status
-use Rattle.scene_player.specs.Io.{Putting, HasFailedToTake, HasPut, HasPutFront, IsUntouched}
+use Rattle.scene_player.specs.Io.{Putting, HasPutFront, IsUntouched}
 use Rattle.scene_player.specs.Noted.{IsNoted, items_of, made_line, notes_text}
 use Rattle.scene_player.specs.Ended.{answer_of, HasPutFirst, IsAnswered, IsCutOff, IsSceneOf, IsShown, IsStarved, ReadsAndShows}
 use Rattle.scene_player.specs.Parts.{making_command}

@@ -1,15 +1,13 @@
 -- What a parse of the command line says of the command that is taken.
-use Rattle.std.proofs.Common.{◌≡◌, ◌∙◌, ◌&&◌, ◌||◌, not, is_some, if◌then◌else◌, ℕ, refl, sym, ap, List, [], ◌∷◌, Bool, true, false, Option, Some, None, Result, Ok, Err, true≢false}
-use Rattle.std.specs.Prelude.{option_map, option_and_then, find, codes}
-use Rattle.std.specs.Result.{IfOk, IfErr}
+use Rattle.std.proofs.Common.{◌≡◌, ◌∙◌, ◌&&◌, not, is_some, ℕ, refl, sym, ap, List, [], Bool, true, false, Option, Some, None}
+use Rattle.std.specs.Prelude.{option_map, option_and_then, codes}
 use Rattle.std.specs.List.{list_all, list_any}
-use Rattle.std.specs.Option.{option_map_or}
 use Rattle.clap.specs.Facts.{explicit_source}
-use Rattle.clap.specs.Words.{App, Text, Shape, Row, first_of, first_value, found_of, fault_of, is_simple, is_simple_and_free, kind_of, matches_of, one_of, one_text, rows_of, takes, built, HasMatchesOf}
-use Rattle.clap.specs.Walk.{Held, Walk, finished, nothing_held, walk, walk_from, settled}
+use Rattle.clap.specs.Words.{App, Text, Shape, first_value, found_of, fault_of, is_simple, is_simple_and_free, matches_of, one_text, rows_of, takes, built, HasMatchesOf}
+use Rattle.clap.specs.Walk.{finished, nothing_held, walk, walk_from, settled}
 use Rattle.clap.specs.Simple.{argument_words, entered, names_of}
-use Rattle.clap.specs.Takes.{default_passes, entered_passes, is_given, is_valid, level_passes, settle_passes, walk_passes}
-use Rattle.clap.specs.Faults.{check_fault, defaults_fault, entered_fault, settle_fault, walk_fault}
+use Rattle.clap.specs.Takes.{default_passes, entered_passes, is_given}
+use Rattle.clap.specs.Faults.{defaults_fault, entered_fault, settle_fault, walk_fault}
 use Rattle.clap.specs.Kinds.{check_kinds}
 use Rattle.clap.specs.declared.parser.matches.Found.{Found}
 use Rattle.clap.specs.declared.parser.matches.ArgMatches.{ArgMatches}

@@ -1,5 +1,5 @@
 -- What is read as the count of a command line is a number from 1 to 512.
-use Rattle.std.proofs.Common.{◌++◌, ◌||◌, ◌≡◌, ◌⊎◌, ◌∙◌, ◌<◌, ◌≤◌, ap, ℕ, zero, suc, Bool, true, false, List, [], ◌∷◌, length, map, Option, Some, None, refl, sym, subst, inl, inr, arith}
+use Rattle.std.proofs.Common.{◌≡◌, ◌∙◌, ◌<◌, ap, ℕ, zero, suc, true, List, [], ◌∷◌, length, map, Option, Some, None, refl, sym, subst, inl, inr, arith}
 use Rattle.std.specs.List.{All, list_all, slice_index_or}
 use Rattle.std.specs.Str.{bytes_eq}
 use Rattle.std.specs.Prelude.{option_map, slice_get, codes}
@@ -7,7 +7,7 @@ use Rattle.std.specs.Borrow.{Bor}
 use Rattle.std.proofs.lemmas.Slice.Eq.{bytes_eq-Decides}
 use Rattle.std.proofs.lemmas.List.Elements.{All-get_or}
 use Rattle.clap.specs.Facts.{args_of, groups_of, Entry, EntryPasses, HasReading, PassesArg, ValuesPass, parser_of, parser_of_value}
-use Rattle.clap.specs.Words.{App, Rule, app_of, found_of, matched_of, one_text, read_as, reading_of, rule_of, shape_of, IsParsedFrom, IsUnsignedIn}
+use Rattle.clap.specs.Words.{App, Rule, app_of, found_of, matched_of, one_text, read_as, reading_of, rule_of, IsParsedFrom, IsUnsignedIn}
 use Rattle.clap.specs.Built.{IsAuto}
 use Rattle.clap.specs.declared.parser.matches.Found.{Found}
 use Rattle.clap.specs.declared.parser.matches.ArgMatches.{ArgMatches}
@@ -16,7 +16,6 @@ use Rattle.clap.specs.declared.builder.arg.Arg.{Arg}
 use Rattle.clap.specs.declared.builder.command.Command.{Command}
 use Rattle.clap.specs.declared.builder.value_parser.Reading.{Reading}
 use Rattle.clap.specs.declared.builder.value_parser.Reading.TheVariants as readings
-use Rattle.clap.specs.declared.builder.value_parser.ValueParser.{ValueParser}
 use Rattle.clap.specs.declared.builder.value_parser.ValueParser.TheVariants as parsers
 use Rattle.clap.proofs.CallerLemmas.{entry_by_id, same_rules_by_id}
 use Rattle.clap.proofs.SimpleLemmas.{plain_fields, simple_groups}

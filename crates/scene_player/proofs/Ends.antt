@@ -1,22 +1,22 @@
 -- How a run ends, from how it was read and answered.
-use Rattle.std.proofs.Common.{◌≡◌, ◌∙◌, ◌⊎◌, ◌<◌, ◌≤◌, ◌+◌, ℕ, Bool, true, false, List, [], ◌∷◌, ◌++◌, length, Some, None, Option, Result, Ok, refl, sym, ap, subst, inl, inr, arith, append-nil}
+use Rattle.std.proofs.Common.{◌≡◌, ◌∙◌, ◌<◌, ℕ, Bool, false, List, [], ◌++◌, length, Some, None, Option, Result, Ok, refl, sym, ap, subst, inl, inr, arith, append-nil}
 use Rattle.std.proofs.lemmas.List.{length-append}
 use Rattle.io_edge.specs.Edge.{with_front, IsSpent}
 use Rattle.scene_model.specs.Scene.{Scene}
 use Rattle.scene_model.specs.Grammar.{Fault, front_of, scene_of, whole_language}
 use Rattle.scene_model.specs.Journal.{Journal, serial}
 use Rattle.scene_model.specs.Journal as journals
-use Rattle.scene_model.specs.Run.{all_done, input_too_long, unused, words_refused, refused}
+use Rattle.scene_model.specs.Run.{all_done, input_too_long, words_refused, refused}
 use Rattle.scene_model.specs.Output.{length_line, usage_line}
 use Rattle.command_line_model.specs.Taken.{Mode, play, replay, make, Command}
-use Rattle.command_line_model.specs.Answer.{in_mode, of_command}
+use Rattle.command_line_model.specs.Answer.{of_command}
 use Rattle.scene_player.specs.declared.status.Status.{Status}
 use Rattle.scene_player.specs.declared.status.Status.TheVariants as status
 use Rattle.scene_player.specs.Io.{AreLeft, HasFailedToGive, HasFailedToTake, HasMoreThan, IsUnread, Putting, Reading}
-use Rattle.scene_player.specs.Ended.{answer_of, AreTaken, Ends, EndsAs, EndsIn, IsAnswered, IsBlank, IsGiven, IsReadAndAnswered, IsSceneOf, IsShown, IsToldIn, ReadsAndShows}
+use Rattle.scene_player.specs.Ended.{answer_of, AreTaken, Ends, EndsAs, EndsIn, IsAnswered, IsBlank, IsGiven, IsReadAndAnswered, IsSceneOf, IsToldIn, ReadsAndShows}
 use Rattle.scene_player.specs.Numbers.{ending_of}
 use Rattle.scene_player.specs.Parts.{IsRefusedWith, showing_command}
-use Rattle.scene_player.proofs.Refused.{refuses, starves, too-long}
+use Rattle.scene_player.proofs.Refused.{refuses, too-long}
 
 -- ---- what was left
 

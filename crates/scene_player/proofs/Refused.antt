@@ -1,13 +1,13 @@
 -- Runs that the definition refuses, and runs that had no memory.
-use Rattle.std.proofs.Common.{◌≡◌, ◌∙◌, ◌≤◌, ◌<◌, ℕ, Bool, true, false, List, [], length, drop, Some, None, Option, Result, Ok, Err, refl, sym, ap, subst, inl, inr, arith, nat_lt}
+use Rattle.std.proofs.Common.{◌≡◌, ◌∙◌, ◌≤◌, ◌<◌, ℕ, Bool, true, false, List, length, drop, Some, None, Result, Ok, Err, refl, sym, ap, subst, inl, inr, arith, nat_lt}
 use Rattle.std.proofs.lemmas.Bool.Decides.{nat_tests}
 use Rattle.scene_model.specs.Scene.{Scene}
 use Rattle.scene_model.specs.Grammar.{Fault, scene_of, front_of, whole_language}
 use Rattle.scene_model.specs.Fold.{plans}
 use Rattle.scene_model.specs.Journal.{Journal, fault_place}
 use Rattle.scene_model.specs.JournalText.{journal_of}
-use Rattle.scene_model.specs.Run.{Run, longest_input, input_too_long, refused, misread, unlawful, shown, shown_unless, played_scene, replayed_behind, replayed_by}
-use Rattle.scene_model.specs.Output.{length_line, scene_line, journal_refusal_line}
+use Rattle.scene_model.specs.Run.{Run, longest_input, input_too_long, refused, misread, unlawful, shown, shown_unless, replayed_by}
+use Rattle.scene_model.specs.Output.{length_line}
 use Rattle.command_line_model.specs.Taken.{Command}
 use Rattle.scene_player.specs.declared.status.Status.{Status}
 use Rattle.scene_player.specs.declared.status.Status.TheVariants as status

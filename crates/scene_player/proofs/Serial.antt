@@ -1,5 +1,5 @@
 -- The journal of one thread is lawful for the scene.
-use Rattle.std.proofs.Common.{◌≡◌, List, [], ◌∷◌, map, ◌∙◌}
+use Rattle.std.proofs.Common.{List, [], ◌∷◌, map, ◌∙◌}
 use Rattle.std.proofs.lemmas.List.{length-map}
 use Rattle.scene_model.specs.Scene.{Scene}
 use Rattle.scene_model.specs.Fold.{FramePlan, plans}

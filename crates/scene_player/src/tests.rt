@@ -70,7 +70,14 @@ fn words_that_are_refused(rt: HostRuntime) -> Result<(), Fail> {
 #[test]
 fn texts_that_are_refused(rt: HostRuntime) -> Result<(), Fail> {
     for mode in ["play", "replay"] {
-        let left = left_by(&rt, rt.alloc(), &[mode, "--count=+8"], UNFINISHED, &[], 1000)?;
+        let left = left_by(
+            &rt,
+            rt.alloc(),
+            &[mode, "--count=+8"],
+            UNFINISHED,
+            &[],
+            1000,
+        )?;
         assert_eq!(rt; left.status, Status::Scene { line: 5, cause: 2 });
         assert_eq!(rt;
             left.notes.as_slice(),

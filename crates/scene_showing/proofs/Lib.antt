@@ -1,3 +1,4 @@
+pub mod Counts
 pub mod Pictures
 pub mod Shown
 pub mod Orders

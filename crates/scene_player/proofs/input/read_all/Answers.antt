@@ -1,4 +1,4 @@
-use Rattle.std.proofs.Common.{◌≡◌, ◌∙◌, ◌+◌, ◌<◌, ◌++◌, ap, take, length, arith}
+use Rattle.std.proofs.Common.{◌∙◌, ◌++◌, ap, take, arith}
 use Rattle.std.proofs.lemmas.List.{length-append, length-take-le}
 use Rattle.io_edge.specs.Edge.{with_front}
 use Rattle.scene_player.proofs.Pieces.{with_front-with_front}

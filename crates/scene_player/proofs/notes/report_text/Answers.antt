@@ -1,4 +1,4 @@
-use Rattle.std.proofs.Common.{◌≡◌, ◌+◌, arith}
+use Rattle.std.proofs.Common.{arith}
 use Rattle.scene_player.proofs.Reports.{next-line-at}
 use Rattle.scene_player.proofs.notes.report_text.Goals as goal
 

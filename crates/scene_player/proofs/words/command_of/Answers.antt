@@ -1,7 +1,4 @@
-use Rattle.std.proofs.Common.{◌≡◌, ap, ◌∙◌, sym}
 use Rattle.clap.specs.Words.{found_of}
-use Rattle.std.specs.Prelude.{option_map}
-use Rattle.scene_player.specs.Words.{mode_seen}
 use Rattle.scene_player.proofs.CommandLine.{command-none, command-unnamed, command-some}
 use Rattle.scene_player.proofs.words.command_of.Goals as goal
 

@@ -1,4 +1,4 @@
-use Rattle.std.proofs.Common.{rules, ap, ap₂, refl, sym, codes, true, List, [], ◌∷◌, ◌≡◌, ◌∙◌, Some}
+use Rattle.std.proofs.Common.{rules, ap, ap₂, codes, true, [], ◌∷◌, ◌≡◌, ◌∙◌, Some}
 use Rattle.std.proofs.lemmas.Result.{IfOk-weaker}
 use Rattle.clap.specs.Words.{App, Rule, app_of, new_rule, rule_of, with_rule}
 use Rattle.clap.specs.Simple.{app_of_fields}
