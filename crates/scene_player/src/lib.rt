@@ -17,4 +17,6 @@ pub use run::play;
 pub use status::Status;
 
 #[cfg(test)]
+mod gated_tests;
+#[cfg(test)]
 mod tests;
