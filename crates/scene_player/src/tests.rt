@@ -1,4 +1,4 @@
-// Runs in memory that are refused before a frame is played.
+// Runs in memory: what is refused, what fails, and what ends well.
 use super::*;
 use io_edge::{MemSink, MemSource, NoGate};
 use std::alloc::{AllocError, Global};
@@ -24,15 +24,15 @@ fn left_by<R: Threads + Wait + Sync>(
     alloc: Global,
     words: &[&str],
     text: &[u8],
-    source_fails: &[u32],
+    fails: [&[u32]; 2],
     note_capacity: usize,
 ) -> Result<Left, AllocError> {
     let mut all = Vec::new(alloc);
     for word in words {
         all.push(word.to_string(alloc)?)?;
     }
-    let mut source = MemSource::new(text.to_vec(alloc)?, source_fails.to_vec(alloc)?);
-    let pictures = MemSink::new(alloc, 1000, 7, Vec::new(alloc))?;
+    let mut source = MemSource::new(text.to_vec(alloc)?, fails[0].to_vec(alloc)?);
+    let pictures = MemSink::new(alloc, 1000, 1000, fails[1].to_vec(alloc)?)?;
     let mut notes = MemSink::new(alloc, note_capacity, 7, Vec::new(alloc))?;
     let played = play(rt, alloc, &all, &mut source, pictures, &mut notes, &NoGate);
     Ok(Left {
@@ -56,7 +56,7 @@ fn words_that_are_refused(rt: HostRuntime) -> Result<(), Fail> {
         &["play", "--journal", "--journal"],
     ];
     for words in refused {
-        let left = left_by(&rt, rt.alloc(), words, ONE_FRAME, &[], 1000)?;
+        let left = left_by(&rt, rt.alloc(), words, ONE_FRAME, [&[], &[]], 1000)?;
         assert_eq!(rt; left.status, Status::Usage);
         assert_eq!(rt;
             left.notes.as_slice(),
@@ -75,7 +75,7 @@ fn texts_that_are_refused(rt: HostRuntime) -> Result<(), Fail> {
             rt.alloc(),
             &[mode, "--count=+8"],
             UNFINISHED,
-            &[],
+            [&[], &[]],
             1000,
         )?;
         assert_eq!(rt; left.status, Status::Scene { line: 5, cause: 2 });
@@ -84,7 +84,7 @@ fn texts_that_are_refused(rt: HostRuntime) -> Result<(), Fail> {
             b"scene refused at line 5 for cause 2\n".as_slice()
         );
     }
-    let left = left_by(&rt, rt.alloc(), &["replay"], ONE_FRAME, &[], 1000)?;
+    let left = left_by(&rt, rt.alloc(), &["replay"], ONE_FRAME, [&[], &[]], 1000)?;
     assert_eq!(rt; left.status, Status::Journal { place: 0 });
     assert_eq!(rt;
         left.notes.as_slice(),
@@ -95,11 +95,54 @@ fn texts_that_are_refused(rt: HostRuntime) -> Result<(), Fail> {
 
 #[test]
 fn a_source_and_notes_that_fail(rt: HostRuntime) -> Result<(), Fail> {
-    let left = left_by(&rt, rt.alloc(), &["play"], ONE_FRAME, &[0], 1000)?;
+    let left = left_by(&rt, rt.alloc(), &["play"], ONE_FRAME, [&[0], &[]], 1000)?;
     assert_eq!(rt; left.status, Status::ReadFault);
     assert_eq!(rt; left.notes.len(), 0);
-    let left = left_by(&rt, rt.alloc(), &["show"], ONE_FRAME, &[], 10)?;
+    let left = left_by(&rt, rt.alloc(), &["show"], ONE_FRAME, [&[], &[]], 10)?;
     assert_eq!(rt; left.status, Status::Usage);
     assert_eq!(rt; left.notes.as_slice(), b"usage: gfx".as_slice());
+    Ok(())
+}
+
+const THREE_FRAMES: &[u8] =
+    b"scene 1\nsize 2 2\nencoders 1\nframe\nview 0 clear 1 ff0000ff 0 0\nencoder 0\ntouch 0\nframe\nframe\ndone\n";
+
+#[test]
+fn pictures_and_notes_that_fail(rt: HostRuntime) -> Result<(), Fail> {
+    let left = left_by(&rt, rt.alloc(), &["play"], THREE_FRAMES, [&[], &[2]], 1000)?;
+    assert_eq!(rt; left.status, Status::PictureFault);
+    assert_eq!(rt; (left.pictures, left.notes.len()), (46, 0));
+    let left = left_by(&rt, rt.alloc(), &["play"], THREE_FRAMES, [&[], &[]], 0)?;
+    assert_eq!(rt; left.status, Status::NoteFault);
+    assert_eq!(rt; (left.pictures, left.frames), (69, 3));
+    Ok(())
+}
+
+const TWO_ENCODERS: &[u8] =
+    b"scene 1\nsize 1 1\nencoders 2\nframe\nencoder 0\ntouch 0\nencoder 1\ntouch 0\ndone\nj 1:0 0:0\n";
+
+#[test]
+fn a_journal_that_is_replayed(rt: HostRuntime) -> Result<(), Fail> {
+    let words = ["replay", "--journal"];
+    let left = left_by(&rt, rt.alloc(), &words, TWO_ENCODERS, [&[], &[]], 1000)?;
+    assert_eq!(rt; left.status, Status::Done);
+    assert_eq!(rt; (left.pictures, left.frames), (14, 1));
+    assert_eq!(rt;
+        left.notes.as_slice(),
+        b"frame 0 items 2 dropped 0\nj 1:0 0:0\n".as_slice()
+    );
+    Ok(())
+}
+
+#[test]
+fn a_frame_that_is_made(rt: HostRuntime) -> Result<(), Fail> {
+    let words = ["make", "--count", "1"];
+    let left = left_by(&rt, rt.alloc(), &words, &[], [&[], &[]], 1000)?;
+    assert_eq!(rt; left.status, Status::Done);
+    assert_eq!(rt; (left.pictures, left.frames), (0, 1));
+    assert_eq!(rt;
+        left.notes.as_slice(),
+        b"frames 1 items 1200 sum 43356822\n".as_slice()
+    );
     Ok(())
 }
