@@ -66,12 +66,13 @@ module _ (c : Command) (bytes : List ℕ) (s : Scene) (by : Journal → Journal)
       ∙ ap (λ t. t ++ (if c.journal then journal_text (by j) else [])) (report_is s)
       ∙ ap (λ (r : Run). r.noted) (sym answer)
 
-  starved : IsLawfulFront s j → HasFirst s j pictures.before pictures.after → IsUntouched noted → IsStarved c bytes j pictures noted
-  starved lawful first none = record {
+  starved : IsLawfulFront s j → HasFirst s j pictures.before pictures.after → j ≡ take (length j) (by j) → IsUntouched noted → IsStarved c bytes j pictures noted
+  starved lawful first front none = record {
     scene = s;
     is = is;
     lawful = lawful;
     done = ap (λ (r : Run). r.ending) answer;
+    drawn = front ∙ ap (take (length j)) (ap (λ (r : Run). r.journal) (sym answer));
     put = put-first c.mode s j pictures shows first;
     no_note = none;
   }
@@ -91,15 +92,14 @@ module _ (c : Command) (bytes : List ℕ) (s : Scene) (by : Journal → Journal)
 
   pub shows-scene : (st : Status) (e : End) (old_tally new_tally : Option (ℕ × ℕ)) → IsShowing e s j pictures.before pictures.after pictures.faults_before pictures.faults_after
       → IsCounted e s j frames old_tally new_tally
-      → (e ≡ ends.Done → by j ≡ j) → ((j ≡ take (length j) (by j)) ⊎ (e ≡ ends.OutOfMemory))
+      → (e ≡ ends.Done → by j ≡ j) → j ≡ take (length j) (by j)
       → IsNoted st e (notes_text frames j c.journal) noted → IsAnswered st c bytes j pictures noted
   shows-scene status.Done ends.Done old_tally new_tally h k same front n = (whole h.0 h.1 (same refl), n.1 ∙ ap (with_back noted.before) (text k.0 (same refl)))
   shows-scene status.NoteFault ends.Done old_tally new_tally h k same front n = (whole h.0 h.1 (same refl), subst (λ t. HasPutFront t noted) (text k.0 (same refl)) n.1, n.2)
-  shows-scene status.OutOfMemory ends.Done old_tally new_tally h k same front n = inr (starved h.0.0 (all-first s j _ _ h.0 h.1) n.1)
-  shows-scene status.OutOfMemory ends.OutOfMemory old_tally new_tally h k same front n = inr (starved h.0 h.1 n.1)
+  shows-scene status.OutOfMemory ends.Done old_tally new_tally h k same front n = inr (starved h.0.0 (all-first s j _ _ h.0 h.1) front n.1)
+  shows-scene status.OutOfMemory ends.OutOfMemory old_tally new_tally h k same front n = inr (starved h.0 h.1 front n.1)
   shows-scene status.OutOfMemory ends.PictureFault old_tally new_tally h k same front n = absurd (n.0 refl)
-  shows-scene status.PictureFault ends.PictureFault old_tally new_tally h k same (inl front) n = cut-off h front n.1
-  shows-scene status.PictureFault ends.PictureFault old_tally new_tally h k same (inr e) n = cc
+  shows-scene status.PictureFault ends.PictureFault old_tally new_tally h k same front n = cut-off h front n.1
   shows-scene status.PictureFault ends.Done old_tally new_tally h k same front n = let bad = n.0 in cc
   shows-scene status.PictureFault ends.OutOfMemory old_tally new_tally h k same front n = let bad = n.0 in cc
   shows-scene status.Done ends.PictureFault old_tally new_tally h k same front n = let bad = n.0 in cc
@@ -149,7 +149,15 @@ module _ (with_journal : Bool) (count : ℕ) (j : Journal) (frames : List (ℕ �
       ap₂ (λ f i. made_line f i sum_of) many items ∙ ap (made_line (length s.frames) (sum_by frame_items (plans s))) total
 
   starved-made : IsLawfulFront s j → IsUntouched noted → IsStarved c [] j pictures noted
-  starved-made lawful none = record { scene = s; is = refl; lawful = lawful; done = refl; put = untouched; no_note = none }
+  starved-made lawful none = record {
+    scene = s;
+    is = refl;
+    lawful = lawful;
+    done = refl;
+    drawn = sym (take_all (length j) j (omega arith));
+    put = untouched;
+    no_note = none;
+  }
 
   pub makes-scene : (st : Status) (e : End) (old new : Option (List ℕ)) → IsShowing e s j old new 0 0 → IsCounted e s j frames (Some (0, 0)) (Some (bytes, sum_of))
       → IsNoted st e (made_line lines (items_of frames) sum_of) noted → IsAnswered st c [] j pictures noted

@@ -81,13 +81,14 @@ abbrev pub HasPutFirst : Mode → Scene → Journal → Putting → Type 0
 HasPutFirst make s journal pictures = IsUntouched pictures
 HasPutFirst _ s journal pictures = HasFirst s journal pictures.before pictures.after
 
--- memory ran out in a scene that the definition shows: the journal is lawful as far as it goes, whole pictures of the first frames were
--- put, and nothing was noted
+-- memory ran out in a scene that the definition shows: the journal is lawful as far as it goes and a front of the definition's, whole
+-- pictures of the first frames were put, and nothing was noted
 pub record IsStarved (c : Command) (bytes : List ℕ) (journal : Journal) (pictures notes : Putting) : Type 0 where
   pub scene : Scene
   pub is : IsSceneOf c bytes scene
   pub lawful : IsLawfulFront scene journal
   pub done : (answer_of c bytes journal).ending ≡ all_done
+  pub drawn : journal ≡ take (length journal) (answer_of c bytes journal).journal
   pub put : HasPutFirst c.mode scene journal pictures
   pub no_note : IsUntouched notes
 

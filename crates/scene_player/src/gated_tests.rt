@@ -58,14 +58,25 @@ impl Gate for Hold {
     }
 }
 
+// Two holds at once.
+#[derive(Drop)]
+struct Both(Hold, Hold);
+
+impl Gate for Both {
+    fn at(&self, who: u8, item: u32) {
+        self.0.at(who, item);
+        self.1.at(who, item);
+    }
+}
+
 // The status, the bytes of the pictures, and the notes.
 type Left = (Status, Vec<u8>, Vec<u8>);
 
-fn played<R: Threads + Wait + Sync>(
+fn played<R: Threads + Wait + Sync, G: Gate + Sync>(
     rt: &R,
     alloc: Global,
     text: &[u8],
-    gate: &Hold,
+    gate: &G,
 ) -> Result<Left, AllocError> {
     let mut words = Vec::new(alloc);
     words.push("play".to_string(alloc)?)?;
@@ -89,6 +100,20 @@ fn recorders_run_beside_each_other(rt: HostRuntime) -> Result<(), Fail> {
         assert_eq!(rt; status, Status::Done);
         assert!(rt; gate.has_met());
     }
+    Ok(())
+}
+
+const THREE_RECORDERS: &[u8] =
+    b"scene 1\nsize 1 1\nencoders 3\nframe\nencoder 0\ntouch 0\nencoder 1\ntouch 0\nencoder 2\ntouch 0\ndone\n";
+
+// This thread and a recorder both wait for encoder 2, so a third thread records it at the same time.
+#[test]
+fn two_recorders_run_beside_this_thread(rt: HostRuntime) -> Result<(), Fail> {
+    let gate = Both(Hold::new((0, 0), (2, 0), 1), Hold::new((1, 0), (2, 0), 1));
+    let (status, _, _) = played(&rt, rt.alloc(), THREE_RECORDERS, &gate)?;
+    assert_eq!(rt; status, Status::Done);
+    assert!(rt; gate.0.has_met());
+    assert!(rt; gate.1.has_met());
     Ok(())
 }
 

@@ -12,7 +12,7 @@ use io_edge::Sink;
 use scene_text::{Journal, Sequence};
 use std::alloc::Global;
 
-/// What a run leaves: how it ended, the items of each frame that ended, in the order of their numbers, and the sink of the pictures.
+/// What a run leaves: how it ended, the items of each frame that ended, in a lawful order, and the sink of the pictures.
 #[derive(Drop)]
 pub struct Played<P: Drop> {
     pub status: Status,

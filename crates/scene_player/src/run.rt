@@ -89,8 +89,9 @@ fn run<R: Threads + Wait + Sync, S: Source, P: Sink + Send + Drop, N: Sink, G: G
 /// noted behind the report.
 ///
 /// The order is: the words; the source, which is read to its end, at most 16,777,216 bytes; the scene; the journal of `replay`; the
-/// pictures frame by frame; the notes. A line whose call is refused is dropped and counted, and the run goes on. The gate is called
-/// before each item's line with its encoder's number, and before each frame that is rendered beside the play.
+/// pictures frame by frame; the notes. A line whose call is refused is dropped and counted, and the run goes on. The gate is a hook for
+/// tests: in `play` and `make` it is called before each item's line with its encoder's number, and before each frame that is rendered
+/// beside the play; no clause says so.
 ///
 /// The status says how it ended. `Usage`, `Scene`, `TooLong` and `Journal` come exactly by the words and the bytes; `ReadFault`,
 /// `PictureFault` and `NoteFault` only where that object's count of faults rose in this call; `OutOfMemory` is free. After a fault

@@ -5,7 +5,7 @@ ghost use Rattle.scene_player.specs.Numbers.{status_number};
 /// The end of a play.
 #[derive(Clone, Copy, Debug, PartialEq, Eq, Drop)]
 pub enum Status {
-    /// Every frame and note was written, and the source was read to its end.
+    /// Every frame and note was written; in `play` and `replay` the source was read to its end.
     Done,
     /// The words are refused.
     Usage,
@@ -19,7 +19,7 @@ pub enum Status {
     NoteFault,
     /// The source gave more than 16,777,216 bytes.
     TooLong,
-    /// The journal is refused: how many entries stand before its first fault. `play` never ends so.
+    /// The journal is refused, in the mode `replay` alone: how many entries stand before its first fault.
     Journal { place: u32 },
     /// Memory ran out.
     OutOfMemory,

@@ -111,7 +111,7 @@ const THREE_FRAMES: &[u8] =
 fn pictures_and_notes_that_fail(rt: HostRuntime) -> Result<(), Fail> {
     let left = left_by(&rt, rt.alloc(), &["play"], THREE_FRAMES, [&[], &[2]], 1000)?;
     assert_eq!(rt; left.status, Status::PictureFault);
-    assert_eq!(rt; (left.pictures, left.notes.len()), (46, 0));
+    assert_eq!(rt; (left.pictures, left.notes.len(), left.frames), (46, 0, 3));
     let left = left_by(&rt, rt.alloc(), &["play"], THREE_FRAMES, [&[], &[]], 0)?;
     assert_eq!(rt; left.status, Status::NoteFault);
     assert_eq!(rt; (left.pictures, left.frames), (69, 3));

@@ -20,7 +20,7 @@ returns-in-Ok-clause-answered g c = λ count.
     rw (c.finish.ensures.journal, c.finish.ensures.pictures)
     (shows-scene (showing_command false c.args.with_journal count) c.args.bytes.now scene (λ j. j) journal (map note_seen shown.result.notes.items) _ _
     tt (c.requires, c.in-Ok.ensures.exact) (plays c.args.with_journal count c.args.bytes.now journal scene c.requires c.in-Ok.ensures.exact)
-    c.finish.result.status shown.result.end _ _ shown.ensures.shown shown.ensures.counted (λ e. refl) (inl (sym (take_all (length journal) journal (omega arith)))) c.finish.ensures.noted)
+    c.finish.result.status shown.result.end _ _ shown.ensures.shown shown.ensures.counted (λ e. refl) (sym (take_all (length journal) journal (omega arith))) c.finish.ensures.noted)
 
 pub returns-in-Err-At-clause-answered : goal.returns-in-Err-At-clause-answered
 returns-in-Err-At-clause-answered g c = λ count.

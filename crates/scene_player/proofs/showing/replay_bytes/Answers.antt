@@ -1,4 +1,4 @@
-use Rattle.std.proofs.Common.{inl, true, subst, ap, length, map, take, drop, ◌-◌, ◌∙◌, sym, refl}
+use Rattle.std.proofs.Common.{true, subst, ap, length, map, take, drop, ◌-◌, ◌∙◌, sym, refl}
 use Rattle.std.proofs.lemmas.List.{take_rest}
 use Rattle.scene_model.specs.Grammar.{front_of, whole_language}
 use Rattle.scene_model.specs.JournalText.{journal_of}
@@ -31,7 +31,7 @@ returns-in-Ok-read_lawful-clause-answered g c = λ count.
     (shows-scene (showing_command true c.args.with_journal count) c.args.bytes.now scene (λ j. given) journal (map note_seen shown.result.notes.items) _ _
     tt (c.requires, c.in-Ok.front.1, c.in-Ok.ensures.exact)
     (replays c.args.with_journal count c.args.bytes.now journal scene c.in-Ok.front.1 given c.requires c.in-Ok.ensures.exact read c.in-Ok-read_lawful.ensures.1)
-    c.finish.result.status shown.result.end _ _ shown.ensures.shown shown.ensures.counted (λ e. sym (shown.ensures.whole e)) (inl shown.ensures.front) c.finish.ensures.noted)
+    c.finish.result.status shown.result.end _ _ shown.ensures.shown shown.ensures.counted (λ e. sym (shown.ensures.whole e)) shown.ensures.front c.finish.ensures.noted)
 
 pub returns-in-Err-At-read_lawful-clause-answered : goal.returns-in-Err-At-read_lawful-clause-answered
 returns-in-Err-At-read_lawful-clause-answered g c = λ count.
