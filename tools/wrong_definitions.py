@@ -92,8 +92,8 @@ WRONG = [
     ("order of 256 in both versions", S + "Grammar.antt", "resource_form known (views_in r.version) r.names fs w", "resource_form known 256 r.names fs w"),
     ("layout of 14 parts", S + "Grammar.antt", "has_count_from 3 17 fs", "has_count_from 3 16 fs"),
     ("layout of 16 parts", S + "Grammar.antt", "has_count_from 3 17 fs", "has_count_from 3 18 fs"),
-    ("one byte less in a room", S + "Grammar.antt", "number_to 1048576 (field fs 2)", "number_to 1048575 (field fs 2)"),
-    ("one byte more in a room", S + "Grammar.antt", "number_to 1048576 (field fs 2)", "number_to 1048577 (field fs 2)"),
+    ("one byte less in a room", S + "Grammar.antt", "number_to most_bytes (field fs 2)", "number_to 1048575 (field fs 2)"),
+    ("one byte more in a room", S + "Grammar.antt", "number_to most_bytes (field fs 2)", "number_to 1048577 (field fs 2)"),
     # versions
     ("512 views in both versions", S + "Scene.antt", "if version == 1 then fewest_views else most_views", "most_views"),
     ("latency in both versions", S + "Grammar.antt", "says_latency version = not (version == 1)", "says_latency version = true"),

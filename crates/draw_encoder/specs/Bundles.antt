@@ -2,6 +2,7 @@
 use Rattle.std.specs.Prelude.{◌≡◌, ◌≤◌, ℕ, List, [], length}
 use Rattle.std.specs.List.{AllByRecursion}
 use Rattle.atomic_table.specs.Seated.{TableId}
+use Rattle.gfx_model.specs.FrameCalls.{most_items}
 use Rattle.gfx_model.specs.World.{Item}
 use Rattle.schedule_model.specs.Held.{Ascends}
 use Rattle.hold_table.specs.declared.table.EncSeat.{EncSeat}
@@ -25,7 +26,7 @@ pub record BelongTogether (views : ℕ) (r : Recording) (seat : EncSeat) : Type 
   pub frame : r.frame ≡ (enc_view seat).frame
   pub numbers : numbers_of r.items ≡ (enc_view seat).numbers
   pub ascends : Ascends (numbers_of r.items)
-  pub few : length r.items ≤ 8191
+  pub few : length r.items ≤ most_items
   pub within : AllByRecursion (HasRangesWithin (length r.bytes) (length r.uniforms)) r.items
   pub items : AllByRecursion (FitsItem (HasNamed (enc_view seat)) views) (items_of r)
   pub uniforms : AllByRecursion (FitsUniform (HasNamed (enc_view seat))) (uniforms_seen r.uniforms)

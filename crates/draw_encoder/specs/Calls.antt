@@ -31,6 +31,7 @@ AreWordsSince v hs [] = ⊤
 AreWordsSince v [] (w ∷ ws) = ⊥
 AreWordsSince v (h ∷ hs) (w ∷ ws) = IsWordSince v (place_of_handle h) w × AreWordsSince v hs ws
 
+-- whether a refusal speaks of a word
 abbrev pub is_stale : ModelRefusal → Bool
 is_stale (stale word) = true
 is_stale _ = false

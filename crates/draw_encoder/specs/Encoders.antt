@@ -1,6 +1,7 @@
 -- What a recorder's fields keep.
 use Rattle.std.specs.Prelude.{◌≡◌, ◌≤◌, ℕ, length}
 use Rattle.std.specs.List.{AllByRecursion}
+use Rattle.gfx_model.specs.FrameCalls.{most_items}
 use Rattle.gfx_model.specs.Views.{IsViewCount}
 use Rattle.schedule_model.specs.Held.{Ascends}
 use Rattle.hold_table.specs.Views.{SeatView}
@@ -14,6 +15,6 @@ pub record IsOf (v : SeatView) (t : TapeView) : Type 0 where
   pub ascends : Ascends v.numbers
   pub numbers : t.numbers ≡ v.numbers
   pub count : length t.numbers ≡ length t.recorder.items
-  pub most : t.recorder.room.items ≤ 8191
+  pub most : t.recorder.room.items ≤ most_items
   pub fits : FitsRecorder (HasNamed v) t.recorder
   pub sets : AllByRecursion (FitsUniform (HasNamed v)) t.sets

@@ -1,9 +1,9 @@
 -- What an encoder has recorded so far, and how calls change it.
 use Rattle.std.specs.Prelude.{◌≡◌, ℕ, ◌≤◌, List, [], ◌∷◌, ◌++◌, length}
 use Rattle.std.specs.List.{AllByRecursion}
+use Rattle.gfx_model.specs.FrameCalls.{most_items}
 use Rattle.gfx_model.specs.World.{UniformSet}
 use Rattle.gfx_model.specs.Recorder.{Recorder, EncoderCall, Room as ModelRoom, begun, after}
-use Rattle.gfx_words.specs.declared.rooms.Room.{Room}
 use Rattle.draw_encoder.specs.declared.items.Recording.{Recording}
 use Rattle.draw_encoder.specs.Seen.{items_seen, uniforms_seen, numbers_of, HasRangesWithin}
 
@@ -13,6 +13,7 @@ pub record TapeView : Type 0 where
   pub sets : List UniformSet
   pub numbers : List ℕ
 
+-- nothing is recorded yet
 abbrev pub new_tape : (frame views : ℕ) → ModelRoom → TapeView
 new_tape frame views room = record { recorder = begun frame views room; sets = []; numbers = [] }
 
@@ -28,15 +29,11 @@ with_set s c t = record t { recorder = after t.recorder c; sets = t.sets ++ s �
 abbrev pub with_item : ℕ → EncoderCall → TapeView → TapeView
 with_item n c t = record t { recorder = after t.recorder c; numbers = t.numbers ++ n ∷ [] }
 
--- the limits of an encoder's room
-abbrev pub IsRoom : Room → Type 0
-IsRoom r = (1 ≤ r.items) × (r.items ≤ 8191) × (r.bytes ≤ 1048576) × (r.uniforms ≤ 8191)
-
 -- a recording has what was recorded, in plain data, and each range of it lies within its bytes or values
 pub record IsRecordingOf (t : TapeView) (r : Recording) : Type 0 where
   pub frame : r.frame ≡ t.recorder.frame
   pub items : items_seen r.bytes r.uniforms r.items ≡ t.recorder.items
   pub sets : uniforms_seen r.uniforms ≡ t.sets
   pub numbers : numbers_of r.items ≡ t.numbers
-  pub few : length r.items ≤ 8191
+  pub few : length r.items ≤ most_items
   pub within : AllByRecursion (HasRangesWithin (length r.bytes) (length r.uniforms)) r.items

@@ -5,7 +5,7 @@ ghost use Rattle.gfx_words.specs.Seen.{value_seen};
 ghost use Rattle.fix_math.specs.Seen.{rect_seen, affine_seen};
 ghost use Rattle.hold_table.specs.Seats.{enc_table, enc_view};
 ghost use Rattle.draw_encoder.specs.Seen.{room_seen, copy_seen};
-ghost use Rattle.draw_encoder.specs.TapeViews.{IsRoom};
+ghost use Rattle.gfx_model.specs.FrameCalls.{IsRoom};
 ghost use Rattle.draw_encoder.specs.Calls.{EncoderView, Answers};
 
 use crate::bundle::Bundle;
@@ -52,7 +52,7 @@ impl<'t, C: Naming> Encoder<'t, C> {
         room: Room,
         views: u16,
     ) -> Result<Encoder<'t, C>, EncSeat>
-        requires room { IsRoom room }
+        requires room { IsRoom (room_seen room) }
         requires views { views ≡ C.views }
         requires table { enc_table seat ≡ C.table }
         requires fresh { ((enc_view seat).numbers ≡ []) × ((enc_view seat).asked ≡ []) }

@@ -9,7 +9,7 @@ ghost use Rattle.fix_math.specs.Seen.{rect_seen, affine_seen};
 ghost use Rattle.hold_table.specs.Views.{SeatView, HasAsked, drawn, recorder};
 ghost use Rattle.hold_table.specs.Seats.{table_of, enc_table, enc_view};
 ghost use Rattle.draw_encoder.specs.Seen.{room_seen, copy_seen};
-ghost use Rattle.draw_encoder.specs.TapeViews.{IsRoom};
+ghost use Rattle.gfx_model.specs.FrameCalls.{IsRoom};
 ghost use Rattle.draw_encoder.specs.Calls.{Answers};
 
 use crate::handles::{
@@ -61,7 +61,7 @@ impl Recorder {
         room: Room,
         views: u16,
     ) -> Result<Recorder, EncSeat>
-        requires room { IsRoom room }
+        requires room { IsRoom (room_seen room) }
         requires views { IsViewCount views }
         requires fresh { ((enc_view seat).numbers ≡ []) × ((enc_view seat).asked ≡ []) }
         requires whose { (number ≡ (enc_view seat).encoder) × (frame ≡ (enc_view seat).frame) }

@@ -4,7 +4,8 @@ ghost use Rattle.gfx_model.specs.Recorder as calls;
 ghost use Rattle.gfx_words.specs.Seen.{value_seen};
 ghost use Rattle.fix_math.specs.Seen.{rect_seen, affine_seen};
 ghost use Rattle.draw_encoder.specs.Seen.{room_seen, uniform_seen, copy_seen};
-ghost use Rattle.draw_encoder.specs.TapeViews.{new_tape, with_call, with_set, with_item, IsRoom, IsRecordingOf};
+ghost use Rattle.draw_encoder.specs.TapeViews.{new_tape, with_call, with_set, with_item, IsRecordingOf};
+ghost use Rattle.gfx_model.specs.FrameCalls.{IsRoom};
 
 use crate::items::{
     BlitCall, BlitItem, IndexSet, Item, Recording, TouchItem, UniformSet, VertexSet,
@@ -44,7 +45,7 @@ impl Model for Tape {
 impl Tape {
     /// A tape with nothing on it. It makes all the room that it will need.
     pub fn new(alloc: Global, frame: u32, views: u16, room: Room) -> Result<Tape, AllocError>
-        requires { IsRoom room }
+        requires { IsRoom (room_seen room) }
         ensures { IfOk result (λ t. t ≡ new_tape frame views (room_seen room)) }
     {
         let items = Vec::with_capacity(alloc, room.items as usize)?;

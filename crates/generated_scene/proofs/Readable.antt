@@ -110,7 +110,7 @@ readable n low high =
       known_version = (omega arith, omega arith);
       sides = record { wide = omega arith; high = omega arith; narrow = omega arith; low = omega arith };
       encoders = (omega arith, omega arith);
-      room = record { some_item = omega arith; items = omega arith; bytes = omega arith; uniforms = omega arith };
+      room = (omega arith, omega arith, omega arith, omega arith);
       latency = (omega arith, omega arith);
       one_out = λ e. refl;
       frame_count = (omega (arith, count, low), omega (arith, count, high));

@@ -1,7 +1,7 @@
 -- The calls that begin encoders, end frames and shut down: refusals and effects.
-use Rattle.std.specs.Prelude.{ℕ, ◌+◌, ◌-◌, Bool, true, false, not, ◌&&◌, ◌||◌, ◌==◌, nat_le, if◌then◌else◌, List, [], ◌∷◌, Option, Some, None, Result}
+use Rattle.std.specs.Prelude.{ℕ, ◌≤◌, ◌+◌, ◌-◌, Bool, true, false, not, ◌&&◌, ◌||◌, ◌==◌, nat_le, if◌then◌else◌, List, [], ◌∷◌, Option, Some, None}
 use Rattle.gfx_model.specs.Views.{view_count}
-use Rattle.gfx_model.specs.Resources.{Resources, Refusal, bad_size, no_encoder, frames_spent, first_refusal, or_refusal, start_frame}
+use Rattle.gfx_model.specs.Resources.{Resources, Refusal, bad_size, no_encoder, frames_spent, first_refusal, start_frame}
 use Rattle.gfx_model.specs.Recorder.{Room, Recorder, begun}
 
 -- ---- limits
@@ -10,9 +10,11 @@ use Rattle.gfx_model.specs.Recorder.{Room, Recorder, begun}
 abbrev pub most_items : ℕ
 most_items = 8191
 
+-- how many transient bytes
 abbrev pub most_bytes : ℕ
 most_bytes = 1048576
 
+-- how many uniform values
 abbrev pub most_uniforms : ℕ
 most_uniforms = 8191
 
@@ -25,6 +27,10 @@ abbrev pub greatest_frame : ℕ
 greatest_frame = 1073741823
 
 -- a room of at least one item, and within the limits
+abbrev pub IsRoom : Room → Type 0
+IsRoom room = (1 ≤ room.items) × (room.items ≤ most_items) × (room.bytes ≤ most_bytes) × (room.uniforms ≤ most_uniforms)
+
+-- the same as a test
 abbrev pub is_room : Room → Bool
 is_room room = nat_le 1 room.items && nat_le room.items most_items && nat_le room.bytes most_bytes && nat_le room.uniforms most_uniforms
 
@@ -42,6 +48,7 @@ pub record CallState : Type 0 where
 abbrev pub opened : Resources → CallState
 opened r = record { resources = r; encoders = 0; out = 0; is_ended = false }
 
+-- a call of the API thread about its frames
 pub data FrameCall : Type 0 where
   begin_encoder : Room → FrameCall
   end_frame : FrameCall
@@ -101,7 +108,3 @@ frame_effect is_shown s end_frame = record {
   gives = is_given is_shown s;
 }
 frame_effect is_shown s shut_down = record { after = record s { out = 0 }; made = None; backs = s.out; gives = false }
-
--- the answer to a call, by whether the frame that comes back was shown: its effect, or its refusal, which changes nothing
-abbrev pub frame_answer : Bool → CallState → FrameCall → Result FrameEffect Refusal
-frame_answer is_shown s c = or_refusal (frame_effect is_shown s c) (frame_refusal s c)

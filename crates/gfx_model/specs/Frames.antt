@@ -41,6 +41,7 @@ abbrev pub items_by : List Recorded → ℕ → List Numbered
 items_by [] e = []
 items_by (r ∷ rs) e = if r.encoder == e then r.items else items_by rs e
 
+-- the item that an entry names, if there is one
 abbrev pub item_of_entry : List Recorded → Entry → Option Item
 item_of_entry rs n = option_map (λ i. i.item) (slice_get (items_by rs n.encoder) n.ordinal)
 
@@ -56,6 +57,7 @@ is_ordered vs (blit_item b) = false
 abbrev pub with_key : {A : Type 0} → Views → ℕ → A → Item → Option (ℕ × A)
 with_key vs place x i = if is_ordered vs i then Some (key_of_item vs place i, x) else None
 
+-- an entry at a place of the journal with the key of its item, if that has one
 abbrev pub keyed_entry : Views → List Recorded → ℕ → Entry → Option (ℕ × Entry)
 keyed_entry vs rs place n = option_and_then (with_key vs place n) (item_of_entry rs n)
 

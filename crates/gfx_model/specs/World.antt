@@ -158,12 +158,6 @@ view_of_item (draw_item d) = d.view
 view_of_item (touch_item t) = t.view
 view_of_item (blit_item b) = b.view
 
--- the uniform values that an item takes
-abbrev pub values_of_item : Item → List UniformSet
-values_of_item (draw_item d) = d.values
-values_of_item (touch_item t) = t.values
-values_of_item (blit_item b) = []
-
 -- whether an item is a blit
 abbrev pub is_blit : Item → Bool
 is_blit (blit_item b) = true
@@ -312,16 +306,24 @@ on_each_pixel f s = surface_with (map_from (λ i p. f (i % s.color.width) (i / s
 
 -- ---- clears
 
+-- a colour, replaced where the clear takes colours
+abbrev pub cleared_color : Clear → Color → Color
+cleared_color c old = if is_bit_set c.flags 0 then c.color else old
+
 -- a depth word with the cleared parts replaced
+abbrev pub cleared_word : Clear → ℕ → ℕ
+cleared_word c word =
+    (if is_bit_set c.flags 1 then c.depth else word % 2 ^ 24)
+    + 2 ^ 24 * (if is_bit_set c.flags 2 then c.stencil else word / 2 ^ 24)
+
+-- the same of a pixel's depth word, if it has one
 abbrev pub cleared_depth : Clear → Option ℕ → Option ℕ
 cleared_depth c None = None
-cleared_depth c (Some word) = Some (
-    (if is_bit_set c.flags 1 then c.depth else word % 2 ^ 24)
-    + 2 ^ 24 * (if is_bit_set c.flags 2 then c.stencil else word / 2 ^ 24))
+cleared_depth c (Some word) = Some (cleared_word c word)
 
 -- a pixel after a clear
 abbrev pub cleared : Clear → Pixel → Pixel
-cleared c p = record { color = if is_bit_set c.flags 0 then c.color else p.color; depth = cleared_depth c p.depth }
+cleared c p = record { color = cleared_color c p.color; depth = cleared_depth c p.depth }
 
 -- the clear of the view's rectangle; scissors do not cut it
 abbrev pub clear_surface : View → Surface → Surface
@@ -474,12 +476,19 @@ painted (paint_product t) f = zip_with byte_product (sample_of t f) f.color
 abbrev pub is_in_cut : View → Rect → Draw → ℕ → ℕ → Bool
 is_in_cut view rect d x y = contains rect x y && passes_scissor view.scissor x y && passes_scissor d.scissor x y
 
--- a pixel after one triangle
+-- a pixel that a triangle covers, after it
+abbrev pub covered_step : ℕ → Paint → Facing → ℕ → ℕ → Pixel → Pixel
+covered_step state paint f x y p =
+    let fragment = fragment_at f.triangle x y in
+    pixel_step p (record { color = painted paint fragment; depth = fragment.depth }) state f.stencil
+
+-- a pixel after one triangle that is drawn with a state word
+abbrev pub facing_step : ℕ → Paint → ℕ → ℕ → Pixel → Facing → Pixel
+facing_step state paint x y p f = if covers f.triangle x y then covered_step state paint f x y p else p
+
+-- the same after a triangle of a draw
 abbrev pub after_facing : Draw → Paint → ℕ → ℕ → Pixel → Facing → Pixel
-after_facing d paint x y p f =
-    if covers f.triangle x y
-    then (let fragment = fragment_at f.triangle x y in pixel_step p (record { color = painted paint fragment; depth = fragment.depth }) d.state f.stencil)
-    else p
+after_facing d paint = facing_step d.state paint
 
 -- the surface after a draw: each pixel by itself goes through the draw's triangles in order
 abbrev pub drawn : View → Rect → Draw → Paint → List Facing → Surface → Surface

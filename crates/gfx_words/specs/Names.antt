@@ -8,9 +8,11 @@ use Rattle.gfx_words.specs.declared.names.HandleName.{HandleName}
 abbrev pub word_of_name : Kind → (index serial : ℕ) → ℕ
 word_of_name kind index serial = serial + 2 ^ 32 * index + 2 ^ 42 * kind_number kind
 
+-- the word of a name
 abbrev pub name_word : HandleName → ℕ
 name_word n = word_of_name (kind_seen n.kind) n.index n.serial
 
+-- the word of a handle's name
 abbrev pub handle_word : Handle → ℕ
 handle_word h = word_of_name h.kind h.index h.serial
 
@@ -25,6 +27,7 @@ pub record IsNameOf (n : HandleName) (h : Handle) : Type 0 where
   pub serial : n.serial ≡ h.serial
   pub admitted : IsName n
 
+-- no two names have one word
 abbrev pub OneWordOneName : Type 0
 OneWordOneName =
     (g h : Handle) → g.index < greatest g.kind → h.index < greatest h.kind → g.serial < 2 ^ 32 → h.serial < 2 ^ 32

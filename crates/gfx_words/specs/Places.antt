@@ -4,6 +4,7 @@ use Rattle.gfx_model.specs.Words.{free_word, live_word, dying_word}
 use Rattle.gfx_words.specs.declared.places.PlaceWord.{PlaceWord}
 use Rattle.gfx_words.specs.declared.places.PlaceWord.TheVariants.{Free, Live, Dying}
 
+-- the word that spells what a place holds
 abbrev pub place_word : PlaceWord → ℕ
 place_word Free = free_word
 place_word (Live serial) = live_word serial

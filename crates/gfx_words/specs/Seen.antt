@@ -1,9 +1,11 @@
 -- The crate's types as the definitions see them.
-use Rattle.std.specs.Prelude.{ℕ, ◌≡◌, Option, Some, None, Result, Err, MatchOption, IfSome}
+use Rattle.std.specs.Prelude.{ℕ, ◌≡◌, Option, Some, None, Result, Err, MatchOption}
 use Rattle.gfx_model.specs.Resources as model
 use Rattle.gfx_model.specs.Recorder as recorder
 use Rattle.gfx_model.specs.Frames as frames
 use Rattle.gfx_words.specs.declared.rooms.Room.{Room}
+use Rattle.gfx_words.specs.declared.sources.TexSource.{TexSource}
+use Rattle.gfx_words.specs.declared.sources.TexSource.TheVariants as sources
 use Rattle.gfx_words.specs.declared.journal.JournalEntry.{JournalEntry}
 use Rattle.gfx_words.specs.declared.refusals.Refusal.{Refusal}
 use Rattle.gfx_words.specs.declared.refusals.Refusal.TheVariants as refusals
@@ -12,6 +14,11 @@ pub use Rattle.gfx_words.specs.Kinds.{kind_seen, format_seen, program_seen, unif
 -- a room with as many items, bytes and uniform values
 abbrev pub room_seen : Room → recorder.Room
 room_seen r = record { items = r.items; bytes = r.bytes; uniforms = r.uniforms }
+
+-- what a texture is made from
+abbrev pub own_source_seen : TexSource → model.TexelSource
+own_source_seen (sources.Fill color) = model.fill_source color
+own_source_seen (sources.Bytes bytes) = model.bytes_source bytes.items
 
 -- an entry of the same encoder and ordinal
 abbrev pub entry_seen : JournalEntry → frames.Entry
@@ -58,10 +65,6 @@ refusal_number refusals.OutOfMemory = 17
 -- a call of the definitions is refused as the code says; a call that takes no memory never answers want of memory
 abbrev pub IsRefused : {A : Type 0} → Result A model.Refusal → Refusal → Type 0
 IsRefused answer r = MatchOption (refusal_seen r) ⊥ (λ x. answer ≡ Err x)
-
--- the same of a call that takes memory: where it wants some, nothing is said
-abbrev pub IsRefusedOrOutOfMemory : {A : Type 0} → Result A model.Refusal → Refusal → Type 0
-IsRefusedOrOutOfMemory answer r = IfSome (refusal_seen r) (λ x. answer ≡ Err x)
 
 -- the first refusal of a list of tests is the code's
 abbrev pub IsFirstRefusal : Option model.Refusal → Refusal → Type 0

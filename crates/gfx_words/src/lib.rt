@@ -9,6 +9,7 @@ mod names;
 mod places;
 mod refusals;
 mod rooms;
+mod sources;
 mod states;
 mod stencils;
 
@@ -22,7 +23,8 @@ pub use kinds::{
 pub use names::{HandleName, one_word_one_name};
 pub use places::PlaceWord;
 pub use refusals::Refusal;
-pub use rooms::Room;
+pub use rooms::{MOST_ROOM_BYTES, MOST_ROOM_ITEMS, MOST_ROOM_UNIFORMS, Room, room_limits};
+pub use sources::TexSource;
 pub use states::StateWord;
 pub use stencils::StencilWord;
 

@@ -28,6 +28,7 @@ use Rattle.hold_table.specs.contracts.view.ReclaimPlayUnitView.TheImpl.{ghosts a
 
 -- ---- what a table stands for
 
+-- the table: its words and the views of its seats
 abbrev pub Table : Type 0
 Table = TableState (Unit {0}) SeatView
 
@@ -68,6 +69,7 @@ pub record Stages : Type 0 where
   pub waiting : List ℕ
   pub collected : List ℕ
 
+-- no seat is in a stage
 abbrev pub no_seats : Stages
 no_seats = record { recording = []; waiting = []; collected = [] }
 
@@ -97,18 +99,23 @@ IsEvent latency h x m e = (n : State) × (step latency m e ≡ Some n) × Stands
 
 -- ---- the stages after an event
 
+-- one recorder more
 abbrev pub begun_as : ℕ → Stages → Stages
 begun_as id x = record x { recording = x.recording ++ id ∷ [] }
 
+-- a recorder is gone
 abbrev pub cancelled : ℕ → Stages → Stages
 cancelled i x = record x { recording = without x.recording i }
 
+-- a recorder has ended, and its bundle waits
 abbrev pub ended_as : ℕ → ℕ → Stages → Stages
 ended_as i id x = record x { recording = without x.recording i; waiting = x.waiting ++ id ∷ [] }
 
+-- a waiting bundle is collected
 abbrev pub collected_as : ℕ → ℕ → Stages → Stages
 collected_as i id x = record x { waiting = without x.waiting i; collected = x.collected ++ id ∷ [] }
 
+-- a collected bundle is in the frame
 abbrev pub gathered_of : ℕ → Stages → Stages
 gathered_of i x = record x { collected = without x.collected i }
 
@@ -231,6 +238,7 @@ pub record PartsHold (m : State) : Type 0 where
   pub places : OnOpen (PlacesFollow m) m
   pub names : OnOpen (λ r. AllByRecursion (ThingStands m r.frame) r.named) m
 
+-- what stands for a state under the rule keeps the parts of the schedule's invariant
 abbrev pub RuleKeepsParts : Type 0
 RuleKeepsParts = (first : ℕ) (s : Table) (h : IsHeld first s) (x : Stages) (m : State) → StandsFor h x m → PartsHold m
 
@@ -243,14 +251,17 @@ IsPlayed then = (first slots id : ℕ) (v : SeatView) (hand : List (ℕ × Unit 
     → (s : Table) → IsHeld first s → length s.homes ≡ slots → get_elem? s.views id ≡ some v → slice_index s.words at.word < 18446744073709551616
     → (t : Table) × IsHeld first t × Plays then id v at (tells (slice_index s.words at.word)) s t
 
+-- a split that the table's base admits leaves the rule, and is a cut
 abbrev pub IsCut : (SeatView → SeatView) → (SeatView → SeatView) → Type 0
 IsCut left right = (first id : ℕ) (v : SeatView) → Splits (IsHeld first) id v (left v) (right v)
     → (s : Table) → IsHeld first s → get_elem? s.views id ≡ some v → (t : Table) × IsHeld first t × Cuts left right id v s t
 
+-- a join that the base admits leaves the rule, and takes the other seat in
 abbrev pub IsTakenIn : (SeatView → SeatView → SeatView) → SeatView → Type 0
 IsTakenIn both spent = (first id : ℕ) (v : SeatView) (other : ℕ) (w : SeatView) → Joins (IsHeld first) id v other w (both v w) spent
     → (s : Table) → IsHeld first s → get_elem? s.views id ≡ some v → ¬ (other ≡ id) → get_elem? s.views other ≡ some w → (t : Table) × IsHeld first t × TakesIn both spent id v other w s t
 
+-- each kind of step is played so
 abbrev pub AllArePlayed : Type 0
 AllArePlayed = IsPlayed learn_kind.then × IsPlayed draw_kind.then × IsPlayed advance_kind.then × IsPlayed ask_kind.then
     × IsPlayed create_kind.then × IsPlayed destroy_kind.then × IsPlayed reclaim_kind.then

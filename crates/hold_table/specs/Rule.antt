@@ -17,9 +17,11 @@ total f (v ∷ vs) = f v + total f vs
 abbrev pub holds_number : ℕ → SeatView → ℕ
 holds_number n v = count_of n v.numbers
 
+-- how many numbers a seat drew
 abbrev pub number_count : SeatView → ℕ
 number_count v = length v.numbers
 
+-- 1 for a recorder's seat
 abbrev pub recording_as : Role → ℕ
 recording_as api = 0
 recording_as recorder = 1

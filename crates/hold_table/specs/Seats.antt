@@ -13,6 +13,7 @@ table_of t = t.table.shared.table_id
 abbrev pub api_table : ApiSeat → TableId
 api_table a = a.seat.table_id
 
+-- the table of a recorder's seat
 abbrev pub enc_table : EncSeat → TableId
 enc_table e = e.seat.table_id
 
@@ -20,5 +21,6 @@ enc_table e = e.seat.table_id
 abbrev pub api_view : ApiSeat → SeatView
 api_view a = a.seat.me.0
 
+-- what a recorder's seat knows
 abbrev pub enc_view : EncSeat → SeatView
 enc_view e = e.seat.me.0

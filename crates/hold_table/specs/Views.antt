@@ -9,6 +9,7 @@ use Rattle.hold_table.specs.Words.{word_of, IsUpTo}
 
 -- ---- what a seat knows
 
+-- whose seat it is: the API's, a recorder's, or one that was joined
 pub data Role : Type 0 where
   api : Role
   recorder : Role
@@ -127,6 +128,7 @@ joined_with v w = learnt (gathered v w)
 abbrev pub IsThere : ℕ → List Place → Asked → Type 0
 IsThere frame places a = (serial : ℕ) → IsTrue (is_usable_in frame a.word serial) → IsTrue (has_usable frame serial (place_at places a.place))
 
+-- each that was asked is there
 abbrev pub AllThere : ℕ → List Place → List Asked → Type 0
 AllThere frame places asked = AllByRecursion (IsThere frame places) asked
 
@@ -143,11 +145,13 @@ HasNamed v h = IsNamedIn v.frame h v.asked
 abbrev pub IsOfFrame : ℕ → List Place → Shown → Type 0
 IsOfFrame frame places x = (x.frame ≡ frame) × (x.times_off ≡ 1) × AllThere frame places x.asked × Ascends x.numbers
 
+-- each that was shown is of the frame
 abbrev pub AllShown : ℕ → List Place → List Shown → Type 0
 AllShown frame places shows = AllByRecursion (IsOfFrame frame places) shows
 
 -- ---- numbers
 
+-- one number more
 abbrev pub drawn : ℕ → SeatView → SeatView
 drawn n v = record v { numbers = v.numbers ++ n ∷ [] }
 
@@ -173,9 +177,11 @@ IsWordSince v p w = (x : Place) × (w ≡ word_of x) × IsUpTo 4294967295 x × F
 abbrev pub HasAsked : SeatView → SeatView → ℕ → ℕ → Type 0
 HasAsked old new p w = (new ≡ asks p w old) × IsWordSince old p w
 
+-- a place holds something else
 abbrev pub placed : ℕ → Place → SeatView → SeatView
 placed p x v = record v { places = slice_set v.places p x }
 
+-- a place holds a live thing, whose serial is the greatest
 abbrev pub created : ℕ → ℕ → SeatView → SeatView
 created p serial v = record v { places = slice_set v.places p (live serial); greatest = serial }
 

@@ -305,7 +305,7 @@ encoders_kept r fs place h =
 room_bound : (fs : List Field) → AllRead IsRoom (room_form fs)
 room_bound fs =
     past (has_count 4 fs) _ (λ b _. behind (number_in 1 8191 (field fs 1)) _ (number_bound 1 8191 (field fs 1)) (λ i p. behind (number_in 0 1048576 (field fs 2)) _ (number_bound 0 1048576 (field fs 2)) (λ b q.
-    behind (number_in 0 8191 (field fs 3)) _ (number_bound 0 8191 (field fs 3)) (λ u s. made IsRoom (record { items = i; bytes = b; uniforms = u }) (record { some_item = p.0; items = p.1; bytes = q.1; uniforms = s.1 })))))
+    behind (number_in 0 8191 (field fs 3)) _ (number_bound 0 8191 (field fs 3)) (λ u s. made IsRoom (record { items = i; bytes = b; uniforms = u }) (p.0, p.1, q.1, s.1)))))
 
 room_kept : (r : Reading) (fs : List Field) → can_stand r.stage room_word ≡ true → IsKept r → AllRead IsKept (after_word whole_language r fs room_word)
 unfolding after_word
@@ -583,7 +583,7 @@ first_kept : IsKept nothing_read
 unfolding IsDistinct
 first_kept = record {
   version = (omega arith, omega arith);
-  room = record { some_item = omega arith; items = omega arith; bytes = omega arith; uniforms = omega arith };
+  room = (omega arith, omega arith, omega arith, omega arith);
   latency = (omega arith, omega arith);
   one_out = λ e. refl;
   few = omega arith;

@@ -220,13 +220,13 @@ encoders_line r n at a b =
 room_line : (r : Reading) (room : Room) → r.stage ≡ at_room → IsRoom room → after_kept r (codes "room" ∷ decimal room.items ∷ decimal room.bytes ∷ decimal room.uniforms ∷ []) ≡ Ok (with_room room r)
 unfolding after_word
 room_line r room at h =
-    let i = h.items in
-    let b = h.bytes in
-    let u = h.uniforms in
+    let i = h.1 in
+    let b = h.2 in
+    let u = h.3 in
     let spelled : AllByRecursion IsSpelled (codes "room" ∷ decimal room.items ∷ decimal room.bytes ∷ decimal room.uniforms ∷ []) = ((refl, refl), (decimal_spelled room.items (omega (arith, i)), (decimal_spelled room.bytes (omega (arith, b)), (decimal_spelled room.uniforms (omega (arith, u)), tt)))) in
     let fs = codes "room" ∷ decimal room.items ∷ decimal room.bytes ∷ decimal room.uniforms ∷ [] in
     let form : room_form fs ≡ Ok room
-    = goes_on (number_in 1 8191 (decimal room.items)) room.items _ (number_again 1 8191 room.items h.some_item i (omega (arith, i)))
+    = goes_on (number_in 1 8191 (decimal room.items)) room.items _ (number_again 1 8191 room.items h.0 i (omega (arith, i)))
     ∙ goes_on (number_in 0 1048576 (decimal room.bytes)) room.bytes _ (number_again 0 1048576 room.bytes (omega arith) b (omega (arith, b)))
     ∙ goes_on (number_in 0 8191 (decimal room.uniforms)) room.uniforms _ (number_again 0 8191 room.uniforms (omega arith) u (omega (arith, u))) in
     kept_again r fs room_word spelled (record { found = refl; not_other = refl; filled = λ h. h }) (ap (λ st. can_stand st room_word) at) ∙ goes_on (room_form fs) room _ form

@@ -6,15 +6,17 @@ use Rattle.gfx_model.specs.Vertex.{Color, LayoutPart, attribute_part, skip_part}
 use Rattle.gfx_model.specs.Raster.{Affine, Rect}
 use Rattle.gfx_model.specs.Views.{Clear}
 use Rattle.gfx_model.specs.Resources.{TexelSource, fill_source, bytes_source}
-use Rattle.gfx_model.specs.Recorder.{Room}
+pub use Rattle.gfx_model.specs.FrameCalls.{IsRoom}
 use Rattle.scene_model.specs.Scene.{Name, ResourceLine, layout_line, vertex_buffer_line, index_buffer_line, texture_line, frame_buffer_line, program_line, uniform_line, update_line, texel_update_line, destroy_line, rect_line, view_scissor_line, clear_line, mode_line, target_line, view_transform_line, reset_line, order_line, EncoderLine, state_line, stencil_line, scissor_line, transform_line, vertices_line, indices_line, transient_vertices_line, transient_indices_line, bind_line, set_line, submit_line, touch_line, blit_line, Block, SceneFrame, Scene, HasSides, IsVersion, greatest_latency, views_of}
 use Rattle.scene_model.specs.Field.{is_name}
 
 -- ---- the ranges of fields
 
+-- each is a byte
 abbrev pub AreBytes : List ℕ → Type 0
 AreBytes bytes = AllByRecursion (λ b. b ≤ 255) bytes
 
+-- four bytes
 abbrev pub IsColor : Color → Type 0
 IsColor c = (length c ≡ 4) × AreBytes c
 
@@ -22,32 +24,40 @@ IsColor c = (length c ≡ 4) × AreBytes c
 abbrev pub IsInteger : ℤ → Type 0
 IsInteger z = (int_le (negsuc 2147483647) z ≡ true) × (int_le z (pos 2147483647) ≡ true)
 
+-- twelve integers
 abbrev pub IsTransform : Affine → Type 0
 IsTransform m = (length m ≡ 12) × AllByRecursion IsInteger m
 
+-- four numbers of 16 bits
 abbrev pub IsRect : Rect → Type 0
 IsRect r = (r.x ≤ 65535) × (r.y ≤ 65535) × (r.w ≤ 65535) × (r.h ≤ 65535)
 
+-- each number within its field
 abbrev pub IsClear : Clear → Type 0
 IsClear c = (c.flags ≤ 255) × IsColor c.color × (c.depth ≤ 16777215) × (c.stencil ≤ 255)
 
+-- four integers, or one
 abbrev pub IsValue : UniformValue → Type 0
 IsValue (vec4_value zs) = (length zs ≡ 4) × AllByRecursion IsInteger zs
 IsValue (int_value z) = IsInteger z
 
+-- a colour, or bytes
 abbrev pub IsSource : TexelSource → Type 0
 IsSource (fill_source c) = IsColor c
 IsSource (bytes_source bytes) = AreBytes bytes
 
+-- one to four components, or one to 255 bytes that are skipped
 abbrev pub IsPart : LayoutPart → Type 0
 IsPart (attribute_part attribute component count) = (1 ≤ count) × (count ≤ 4)
 IsPart (skip_part bytes) = (1 ≤ bytes) × (bytes ≤ 255)
 
 -- ---- names: which are bound so far, in the order in which they were bound first, each with whether a `uniform` line bound it
 
+-- a name of the list was bound
 abbrev pub IsBound : List Bool → Name → Type 0
 IsBound bound n = n < length bound
 
+-- the same of a name, if there is one
 abbrev pub IsBoundOrNone : List Bool → Option Name → Type 0
 IsBoundOrNone bound None = ⊤
 IsBoundOrNone bound (Some n) = IsBound bound n
@@ -155,13 +165,6 @@ AreFrames views encoders bound [] = ⊤
 AreFrames views encoders bound (f ∷ frames) = IsFrame views encoders bound f × AreFrames views encoders (bound_by_frame bound f) frames
 
 -- ---- scenes
-
--- the room of an encoder is within its limits
-pub record IsRoom (room : Room) : Type 0 where
-  pub some_item : 1 ≤ room.items
-  pub items : room.items ≤ 8191
-  pub bytes : room.bytes ≤ 1048576
-  pub uniforms : room.uniforms ≤ 8191
 
 -- a scene that has a text
 pub record IsReadable (s : Scene) : Type 0 where
