@@ -9,6 +9,7 @@ use Rattle.vertex_layout.specs.Layouts.{is_layout}
 
 -- ---- layouts
 
+-- the attribute that a byte names, if it names one
 abbrev pub attribute_of_number : ℕ → Option Attribute
 attribute_of_number n =
     if n == 0 then Some position_attribute
@@ -19,9 +20,11 @@ attribute_of_number n =
     else (if n == 5 then Some texcoord0_attribute
     else (if n == 6 then Some texcoord1_attribute else None))))))
 
+-- the component type that a byte names, if it names one
 abbrev pub component_of_number : ℕ → Option ComponentType
 component_of_number n = if n == 0 then Some u8_type else (if n == 1 then Some i16_type else (if n == 2 then Some fixed_type else None))
 
+-- an attribute of that count and offset, where both names are known
 abbrev pub placed_of : ℕ → ℕ → Option Attribute → Option ComponentType → Option PlacedAttribute
 placed_of count offset (Some a) (Some t) = Some (record { attribute = a; component = t; count = count; offset = offset })
 placed_of count offset _ _ = None
@@ -30,6 +33,7 @@ placed_of count offset _ _ = None
 abbrev pub placed_in : List ℕ → Option PlacedAttribute
 placed_in b = placed_of (slice_index b 2) (slice_index b 3) (attribute_of_number (slice_index b 0)) (component_of_number (slice_index b 1))
 
+-- goes on with one attribute more, where it may stand behind those before
 abbrev pub next_attribute : (List PlacedAttribute → Option (List PlacedAttribute)) → List PlacedAttribute → Option PlacedAttribute → Option (List PlacedAttribute)
 next_attribute f placed None = None
 next_attribute f placed (Some p) = if is_addable p placed then f (placed ++ p ∷ []) else None
@@ -39,9 +43,11 @@ abbrev pub attributes_from : List PlacedAttribute → ℕ → List ℕ → Optio
 attributes_from placed zero b = Some placed
 attributes_from placed (suc n) b = next_attribute (λ ps. attributes_from ps n (drop 4 b)) placed (placed_in b)
 
+-- a layout that keeps the rules of layouts
 abbrev pub layout_or_none : Layout → Option Layout
 layout_or_none l = if is_layout l then Some l else None
 
+-- the layout of attributes and a stride, if it is one
 abbrev pub with_stride : ℕ → List PlacedAttribute → Option Layout
 with_stride stride placed = layout_or_none (record { attributes = placed; stride = stride })
 
@@ -51,6 +57,7 @@ layout_in n b = option_and_then (with_stride (slice_index b (4 * n))) (attribute
 
 -- ---- commands
 
+-- a command with the bytes behind its own
 abbrev pub with_rest : ℕ → List ℕ → Option Command → Option (Command × List ℕ)
 with_rest n b o = option_map (λ c. (c, drop n b)) o
 
@@ -58,36 +65,47 @@ with_rest n b o = option_map (λ c. (c, drop n b)) o
 abbrev pub of_length : ℕ → (List ℕ → Option Command) → List ℕ → Option (Command × List ℕ)
 of_length n form b = if nat_le n (length b) then with_rest n b (form b) else None
 
+-- `index, count, attributes, stride`
 abbrev pub layout_form : List ℕ → Option Command
 layout_form b = option_map (λ l. create_layout_command (u16_at b 0) l) (layout_in (slice_index b 2) (drop 3 b))
 
+-- the same, where the bytes of so many attributes are there
 abbrev pub layout_command : List ℕ → Option (Command × List ℕ)
 layout_command b = if nat_le 3 (length b) then of_length (4 + 4 * slice_index b 2) layout_form b else None
 
+-- `index, layout, payload`
 abbrev pub vertex_buffer_form : List ℕ → Option Command
 vertex_buffer_form b = Some (create_vertex_buffer_command (u16_at b 0) (u16_at b 2) (u32_at b 4))
 
+-- `index, payload`
 abbrev pub index_buffer_form : List ℕ → Option Command
 index_buffer_form b = Some (create_index_buffer_command (u16_at b 0) (u32_at b 2))
 
+-- `index, width, height, format, whether a blit's destination, source, its value`
 abbrev pub texture_form : List ℕ → Option Command
 texture_form b = Some (create_texture_command (u16_at b 0) (u16_at b 2) (u16_at b 4) (slice_index b 6) (slice_index b 7) (slice_index b 8) (u32_at b 9))
 
+-- `index, colour, depth`
 abbrev pub frame_buffer_form : List ℕ → Option Command
 frame_buffer_form b = Some (create_frame_buffer_command (u16_at b 0) (u16_at b 2) (u16_at b 4))
 
+-- `index, kind`
 abbrev pub program_form : List ℕ → Option Command
 program_form b = Some (create_program_command (u16_at b 0) (slice_index b 2))
 
+-- `index, serial, kind, payload`
 abbrev pub uniform_form : List ℕ → Option Command
 uniform_form b = Some (create_uniform_command (u16_at b 0) (u32_at b 2) (slice_index b 6) (u32_at b 7))
 
+-- `kind, index, offset, payload`
 abbrev pub update_buffer_form : List ℕ → Option Command
 update_buffer_form b = Some (update_buffer_command (slice_index b 0) (u16_at b 1) (u32_at b 3) (u32_at b 7))
 
+-- `index, x, y, width, height, payload`
 abbrev pub update_texture_form : List ℕ → Option Command
 update_texture_form b = Some (update_texture_command (u16_at b 0) (u16_at b 2) (u16_at b 4) (u16_at b 6) (u16_at b 8) (u32_at b 10))
 
+-- `kind, index`
 abbrev pub destroy_form : List ℕ → Option Command
 destroy_form b = Some (destroy_command (slice_index b 0) (u16_at b 1))
 
@@ -100,6 +118,7 @@ by_later_number n b =
     else (if n == 9 then of_length 14 update_texture_form b
     else (if n == 10 then of_length 3 destroy_form b else None))))
 
+-- the command of a first byte, by the bytes behind it
 abbrev pub by_number : ℕ → List ℕ → Option (Command × List ℕ)
 by_number n b =
     if n == 1 then layout_command b
@@ -113,6 +132,7 @@ abbrev pub decoded : List ℕ → Option (Command × List ℕ)
 decoded [] = None
 decoded (n ∷ b) = by_number n b
 
+-- a command in front of those that its rest holds
 abbrev pub next_for : (List ℕ → List Command) → Option (Command × List ℕ) → List Command
 next_for f None = []
 next_for f (Some p) = p.0 ∷ f p.1

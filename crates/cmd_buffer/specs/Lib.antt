@@ -1,3 +1,4 @@
 pub mod Seen
 pub mod Bytes
 pub mod Rows
+pub mod Payloads

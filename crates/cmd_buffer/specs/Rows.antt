@@ -9,9 +9,11 @@ pub record Writing : Type 0 where
   pub commands : List Command
   pub spare : ℕ
 
+-- a number of two bytes
 abbrev pub Fits16 : ℕ → Type 0
 Fits16 n = n < 65536
 
+-- a number of four bytes
 abbrev pub Fits32 : ℕ → Type 0
 Fits32 n = n < 4294967296
 
@@ -28,6 +30,7 @@ Fits (update_buffer_command kind index offset payload) = Fits16 index × Fits32 
 Fits (update_texture_command index x y w h payload) = Fits16 index × Fits16 x × Fits16 y × Fits16 w × Fits16 h × Fits32 payload
 Fits (destroy_command kind index) = Fits16 index
 
+-- the fields of each command fit
 abbrev pub AllFit : List Command → Type 0
 AllFit [] = Unit {0}
 AllFit (c ∷ cs) = Fits c × AllFit cs

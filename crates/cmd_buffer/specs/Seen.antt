@@ -3,6 +3,7 @@ use Rattle.gfx_model.specs.Commands as model
 use Rattle.cmd_buffer.specs.declared.command.Command.{Command}
 use Rattle.cmd_buffer.specs.declared.command.Command.TheVariants as commands
 
+-- the command of that name with the same numbers
 abbrev pub command_seen : Command → model.Command
 command_seen (commands.CreateLayout index layout) = model.create_layout_command index layout
 command_seen (commands.CreateVertexBuffer index layout payload) = model.create_vertex_buffer_command index layout payload
