@@ -1,13 +1,13 @@
 -- The crate's types as the definitions see them.
-use Rattle.std.specs.Prelude.{ℕ, Option, option_map}
+use Rattle.std.specs.Prelude.{Option, option_map}
 use Rattle.fix_math.specs.declared.picture.Texels as texels
 use Rattle.fix_math.specs.Seen.{texels_seen}
+pub use Rattle.fix_math.specs.Seen.{sides_seen}
+pub use Rattle.gfx_words.specs.Seen.{own_source_seen}
 use Rattle.gfx_model.specs.Raster.{Texels}
 use Rattle.gfx_model.specs.Resources.{TexelSource, fill_source, bytes_source}
 use Rattle.store_model.specs.Textures.{Region}
 use Rattle.texture_store.specs.declared.source.BlitBox.{BlitBox}
-use Rattle.texture_store.specs.declared.source.TexSource.{TexSource}
-use Rattle.texture_store.specs.declared.source.TexSource.TheVariants as own_sources
 use Rattle.texture_store.specs.declared.source.TexelSource as lent
 use Rattle.texture_store.specs.declared.source.TexelSource.TheVariants as sources
 use Rattle.texture_store.specs.declared.rows.Cut.{Cut}
@@ -16,11 +16,6 @@ use Rattle.texture_store.specs.declared.rows.Cut.{Cut}
 abbrev pub source_seen : lent.TexelSource → TexelSource
 source_seen (sources.Fill color) = fill_source color
 source_seen (sources.Bytes bytes) = bytes_source bytes.now
-
--- a source that owns its bytes
-abbrev pub own_source_seen : TexSource → TexelSource
-own_source_seen (own_sources.Fill color) = fill_source color
-own_source_seen (own_sources.Bytes bytes) = bytes_source bytes.items
 
 -- the region of a blit
 abbrev pub region_seen : BlitBox → Region
@@ -33,7 +28,3 @@ cut_seen c = record { dx = c.dx; dy = c.dy; sx = c.sx; sy = c.sy; w = c.w; h = c
 -- the texels of a colour texture and of a depth texture, if there is one
 abbrev pub target_seen : texels.Texels × Option texels.Texels → Texels × Option Texels
 target_seen p = (texels_seen p.0, option_map texels_seen p.1)
-
--- the sides of texels
-abbrev pub sides_seen : texels.Texels → ℕ × ℕ
-sides_seen t = (t.width, t.height)

@@ -9,7 +9,8 @@ mod targets;
 mod texture;
 mod textures;
 
-pub use source::{BlitBox, TexSource, TexelSource};
+pub use gfx_words::TexSource;
+pub use source::{BlitBox, TexelSource};
 pub use store::TextureStore;
 
 #[cfg(test)]

@@ -1,26 +1,4 @@
 // What textures are made from, and what is copied between them.
-ghost use Rattle.std.specs.Prelude.{◌≡◌};
-
-/// What a new texture holds: one colour, or bytes of four a texel, row by row from the top.
-#[derive(Drop)]
-pub enum TexSource {
-    Fill([u8; 4]),
-    Bytes(Vec<u8>),
-}
-
-impl TexSource {
-    ghost use Rattle.texture_store.specs.Seen.{source_seen, own_source_seen};
-
-    /// The same, with its bytes where they are.
-    pub fn as_source(&self) -> TexelSource<'_>
-        ensures { source_seen result ≡ own_source_seen self.now }
-    {
-        match self {
-            TexSource::Fill(color) => TexelSource::Fill(*color),
-            TexSource::Bytes(bytes) => TexelSource::Bytes(bytes),
-        }
-    }
-}
 
 /// What a new texture holds: one colour, or lent bytes of four a texel, row by row from the top.
 #[derive(Clone, Copy)]

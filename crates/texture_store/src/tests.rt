@@ -1,7 +1,7 @@
 // Textures, frame buffers and blits with values from outside.
-use crate::{BlitBox, TexSource, TexelSource, TextureStore};
+use crate::{BlitBox, TexelSource, TextureStore};
 use fix_math::{Rect, Texels};
-use gfx_words::{Format, Refusal};
+use gfx_words::{Format, Refusal, TexSource};
 use std::alloc::{AllocError, Global};
 use std::test::Fail;
 
@@ -14,7 +14,11 @@ fn put(
     format: Format,
     source: TexSource,
 ) -> Option<Refusal> {
-    put_lent(store, index, width, height, format, source.as_source())
+    let lent = match &source {
+        TexSource::Fill(color) => TexelSource::Fill(*color),
+        TexSource::Bytes(bytes) => TexelSource::Bytes(bytes),
+    };
+    put_lent(store, index, width, height, format, lent)
 }
 
 fn put_lent(
