@@ -18,12 +18,15 @@ pub record IsInGuardRange (p : Point) : Type 0 where
   pub front : pos 0 ≤ℤ p.z
   pub back : p.z ≤ℤ pos 65536
 
+-- a placed vertex with the same numbers
 abbrev pub screen_seen : ScreenVertex → raster.ScreenVertex
 screen_seen v = record { x = v.x; y = v.y; depth = v.depth; color = v.color; texcoord = v.texcoord }
 
+-- the triangle of three placed vertices
 abbrev pub triangle_seen : ScreenVertex → ScreenVertex → ScreenVertex → Triangle raster.ScreenVertex
 triangle_seen a b c = record { a = screen_seen a; b = screen_seen b; c = screen_seen c }
 
+-- a fragment with the same numbers
 abbrev pub fragment_seen : Fragment → raster.Fragment
 fragment_seen f = record { depth = f.depth; color = f.color; texcoord = f.texcoord }
 

@@ -10,6 +10,7 @@ pub record Shown : Type 0 where
   pub triangle : Triangle ScreenVertex
   pub is_front : Bool
 
+-- a prepared triangle and the side that it shows
 abbrev pub setup_seen : Setup → Shown
 setup_seen s = record { triangle = triangle_seen s.a s.b s.c; is_front = s.is_front }
 

@@ -7,15 +7,18 @@ use Rattle.vertex_layout.specs.declared.layout.VertexLayout.TheInside.{Inside}
 use Rattle.vertex_layout.specs.Placed.{placed_seen, placed_back, placed_same}
 use Rattle.vertex_layout.specs.Layouts.{is_layout}
 
+-- a layout's attributes and stride
 abbrev pub view_of : Inside → Layout
 view_of s = record { attributes = s.attributes; stride = s.stride }
 
+-- the attributes are a layout's, and the three that are looked up are found among them
 pub record IsInside (s : Inside) : Type 0 where
   pub whole : is_layout (view_of s) ≡ true
   pub position : option_map placed_seen s.position ≡ find_attribute position_attribute s.attributes
   pub color : option_map placed_seen s.color ≡ find_attribute color0_attribute s.attributes
   pub texcoord : option_map placed_seen s.texcoord ≡ find_attribute texcoord0_attribute s.attributes
 
+-- the fields that hold a layout
 abbrev pub inside_of : Layout → Inside
 inside_of l = record {
   attributes = l.attributes;

@@ -8,9 +8,11 @@ use Rattle.vertex_layout.specs.declared.attributes.AttrType.TheVariants as types
 use Rattle.vertex_layout.specs.declared.attributes.PlacedAttr.{PlacedAttr}
 use Rattle.vertex_layout.specs.Kinds.{attribute_seen, component_seen, attribute_back, component_back}
 
+-- an attribute at its offset
 abbrev pub placed_seen : PlacedAttr → PlacedAttribute
 placed_seen p = record { attribute = attribute_seen p.attr; component = component_seen p.kind; count = p.count; offset = p.offset }
 
+-- the code's attribute at its offset
 abbrev pub placed_back : PlacedAttribute → PlacedAttr
 placed_back p = record { attr = attribute_back p.attribute; kind = component_back p.component; count = p.count; offset = p.offset }
 

@@ -6,6 +6,7 @@ use Rattle.vertex_layout.specs.declared.attributes.PlacedAttr.{PlacedAttr}
 use Rattle.vertex_layout.specs.declared.fetch.Vertex.{Vertex}
 use Rattle.vertex_layout.specs.Placed.{placed_seen}
 
+-- a vertex with the same position, colour and texture position
 abbrev pub vertex_seen : Vertex → model.Vertex
 vertex_seen v = record { position = point_seen v.position; color = v.color; texcoord = v.texcoord }
 

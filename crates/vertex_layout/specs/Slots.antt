@@ -7,18 +7,22 @@ use Rattle.vertex_layout.specs.declared.attributes.PlacedAttr.{PlacedAttr}
 use Rattle.vertex_layout.specs.declared.attributes.AttrList.TheInside.{Inside}
 use Rattle.vertex_layout.specs.Placed.{placed_seen, placed_back, placed_same}
 
+-- what stands in a slot that no attribute has
 abbrev pub blank : PlacedAttr
 blank = placed_back (record { attribute = position_attribute; component = u8_type; count = 0; offset = 0 })
 
+-- the attributes in the first slots
 abbrev pub view_of : Inside → List PlacedAttribute
 view_of s = map placed_seen (take s.count s.slots)
 
+-- seven slots: good attributes in the first, blanks in the others
 pub record IsInside (s : Inside) : Type 0 where
   pub room : length s.slots ≡ 7
   pub few : s.count ≤ 7
   pub good : has_good_attributes (view_of s) ≡ true
   pub rest : drop s.count s.slots ≡ replicate (7 - s.count) blank
 
+-- the slots that hold a list of attributes
 abbrev pub inside_of : List PlacedAttribute → Inside
 inside_of placed = record { slots = map placed_back placed ++ replicate (7 - length placed) blank; count = length placed }
 
