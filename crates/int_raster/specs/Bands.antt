@@ -16,6 +16,7 @@ pub record Deep : Type 0 where
   pub colors : List Color
   pub depths : List Color
 
+-- colours with their depths
 abbrev pub deep : List Color → List Color → Deep
 deep colors depths = record { colors = colors; depths = depths }
 
@@ -29,5 +30,6 @@ deep_after width f b =
 abbrev pub flat_drawn : (width top : ℕ) → List Color → List PreparedDraw → List Color
 flat_drawn width top colors draws = fold (λ cs d. flat_after width (below top (prepared_step d)) cs) colors draws
 
+-- a band after draws in order
 abbrev pub deep_drawn : (width top : ℕ) → Deep → List PreparedDraw → Deep
 deep_drawn width top b draws = fold (λ b d. deep_after width (below top (prepared_step d)) b) b draws

@@ -14,6 +14,7 @@ own_triangles triangles l = take (l.after - l.first) (drop l.first triangles)
 abbrev pub listed_with : Listed → List Setup → PreparedDraw
 listed_with l triangles = prepared_seen (record { cut = l.cut; state = l.state; front = l.front; back = l.back; paint = l.paint }) (map setup_seen triangles)
 
+-- a listed draw with its own of the list's triangles
 abbrev pub listed_seen : List Setup → Listed → PreparedDraw
 listed_seen triangles l = listed_with l (own_triangles triangles l)
 

@@ -19,9 +19,11 @@ use Rattle.int_raster.specs.declared.painters.Place.{Place}
 use Rattle.int_raster.specs.declared.painters.Painter.{Painter}
 use Rattle.int_raster.specs.declared.painters.Painter.TheVariants as painters
 
+-- the channel that a ramp has at a pixel
 abbrev pub channel_at : Ramp → ℕ → ℕ → ℕ
 channel_at r x y = ramp_at r x y / 2 ^ 56
 
+-- the depth that a ramp has at a pixel
 abbrev pub depth_at : Ramp → ℕ → ℕ → ℕ
 depth_at r x y = ramp_at r x y / 2 ^ 40
 
@@ -29,9 +31,11 @@ depth_at r x y = ramp_at r x y / 2 ^ 40
 abbrev pub place_at : WideRamp → ℕ → ℕ → ℕ
 place_at r x y = wide_whole r x y % 65536
 
+-- the colour that four ramps have at a pixel
 abbrev pub shade_at : Shade → ℕ → ℕ → Color
 shade_at s x y = channel_at s.red x y ∷ channel_at s.green x y ∷ channel_at s.blue x y ∷ channel_at s.alpha x y ∷ []
 
+-- the colour that a painter gives a pixel
 abbrev pub painter_color : Painter → ℕ → ℕ → Color
 painter_color (painters.Solid color) x y = color
 painter_color (painters.Vertex s) x y = shade_at s x y
@@ -54,6 +58,7 @@ PaintsSpan p d s y first after = (x : ℕ) → first ≤ x → x < after → pai
 abbrev pub HasDepths : Ramp → Setup → (width height : ℕ) → Type 0
 HasDepths r s width height = (x y : ℕ) → x < width → y < height → covers (setup_seen s).triangle x y ≡ true → depth_at r x y ≡ (fragment_at (setup_seen s).triangle x y).depth
 
+-- a ramp has the triangle's depths along a span
 abbrev pub HasSpanDepths : Ramp → Setup → (y first after : ℕ) → Type 0
 HasSpanDepths r s y first after = (x : ℕ) → first ≤ x → x < after → depth_at r x y ≡ (fragment_at (setup_seen s).triangle x y).depth
 
@@ -61,6 +66,7 @@ HasSpanDepths r s y first after = (x : ℕ) → first ≤ x → x < after → de
 abbrev pub HasWideDepths : WideRamp → Setup → (width height : ℕ) → Type 0
 HasWideDepths r s width height = (x y : ℕ) → x < width → y < height → covers (setup_seen s).triangle x y ≡ true → wide_whole r x y ≡ (fragment_at (setup_seen s).triangle x y).depth
 
+-- a wide ramp has the triangle's depths along a span
 abbrev pub HasWideSpanDepths : WideRamp → Setup → (y first after : ℕ) → Type 0
 HasWideSpanDepths r s y first after = (x : ℕ) → first ≤ x → x < after → wide_whole r x y ≡ (fragment_at (setup_seen s).triangle x y).depth
 

@@ -11,6 +11,7 @@ use Rattle.int_raster.specs.Drawing.{PreparedDraw, covered_step}
 abbrev pub flat_pixel : Color → Pixel
 flat_pixel c = record { color = c; depth = None }
 
+-- pixels without depth
 abbrev pub flat_pixels : List Color → List Pixel
 flat_pixels colors = map flat_pixel colors
 
@@ -18,6 +19,7 @@ flat_pixels colors = map flat_pixel colors
 abbrev pub deep_pixel : Color → Color → Pixel
 deep_pixel c z = record { color = c; depth = Some (u32_at z 0) }
 
+-- pixels with depth words
 abbrev pub deep_pixels : List Color → List Color → List Pixel
 deep_pixels colors depths = zip_with deep_pixel colors depths
 

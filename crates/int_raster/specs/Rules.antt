@@ -16,9 +16,11 @@ use Rattle.int_raster.specs.declared.opaque.Rule.{Rule}
 use Rattle.int_raster.specs.declared.opaque.Mix.{Mix}
 use Rattle.int_raster.specs.declared.opaque.Level.{Level}
 
+-- the answer for less, equal or greater
 abbrev pub by_order : Rule → ℕ → ℕ → Bool
 by_order r new stored = if nat_lt new stored then r.less else (if new == stored then r.equal else r.greater)
 
+-- a rule is the depth test of a state word, and stores as it says
 pub record IsRule (r : Rule) (state : ℕ) : Type 0 where
   pub test : (new stored : ℕ) → by_order r new stored ≡ passes_depth (depth_test_of state) new stored
   pub stores : r.writes ≡ writes_depth state

@@ -15,6 +15,7 @@ use Rattle.int_raster.specs.declared.lists.Paint.{Paint}
 use Rattle.int_raster.specs.declared.lists.Paint.TheVariants as paints
 use Rattle.int_raster.specs.declared.lists.Prepared.{Prepared}
 
+-- a surface's colours and depths
 abbrev pub surface_seen : Surface → world.Surface
 surface_seen s = record { color = texels_seen s.color; depth = option_map texels_seen s.depth }
 
@@ -22,6 +23,7 @@ surface_seen s = record { color = texels_seen s.color; depth = option_map texels
 abbrev pub sides_seen : Texels → ℕ × ℕ
 sides_seen t = (t.width, t.height)
 
+-- what a draw paints with
 abbrev pub paint_seen : Paint → world.Paint
 paint_seen (paints.Solid color) = world.paint_solid color
 paint_seen paints.Vertex = world.paint_vertex
@@ -30,6 +32,7 @@ paint_seen (paints.TexColor t) = world.paint_product (Some (texels_seen t.now))
 paint_seen paints.Nothing = world.paint_sample None
 paint_seen paints.NothingColor = world.paint_product None
 
+-- a prepared draw with its triangles
 abbrev pub prepared_seen : Prepared → List Shown → PreparedDraw
 prepared_seen p triangles = record {
   cut = rect_seen p.cut;
