@@ -1,11 +1,10 @@
 -- What the lines of a scene write for the renderer, frame by frame.
 use Rattle.std.specs.Prelude.{◌≡◌, ℕ, ◌+◌, List, [], ◌∷◌, ◌++◌, filter_map, Option, Some, None, ⊤}
 use Rattle.std.specs.List.{AllByRecursion}
-use Rattle.gfx_model.specs.Number.{u32_at}
-use Rattle.gfx_model.specs.Commands.{u32_bytes}
 use Rattle.gfx_model.specs.World.{Item}
-use Rattle.gfx_model.specs.Resources.{Refusal, Resources, TexelSource, fill_source, ResourceCall, refusal_of}
+use Rattle.gfx_model.specs.Resources.{Refusal, Resources, ResourceCall, refusal_of}
 use Rattle.store_laws.specs.ByIndex.{FrameData}
+pub use Rattle.call_laws.specs.Calls.{HasColor}
 use Rattle.call_laws.specs.Calls.{Written}
 use Rattle.call_laws.specs.Context.{after_calls, data_of}
 use Rattle.scene_model.specs.Scene.{ResourceLine, texture_line, SceneFrame, Scene}
@@ -55,11 +54,6 @@ abbrev pub scene_frames : Scene → Journal → List FrameData
 scene_frames s j = frames_from s 0 (first_progress s) s.frames j
 
 -- ---- a texture's colour
-
--- a colour is four bytes
-abbrev pub HasColor : TexelSource → Type 0
-HasColor (fill_source c) = u32_bytes (u32_at c 0) ≡ c
-HasColor _ = ⊤
 
 -- a line that fills a texture has a colour
 abbrev pub LineHasColor : ResourceLine → Type 0
