@@ -46,6 +46,7 @@ fields_at mode_type bits =
       number = bits_at bits 33 number_bits;
     })
 
+-- the fields of a key, by its type
 abbrev pub fields_of : ℕ → KeyFields
 fields_of bits = fields_at (bits_at bits (61 - position_bits) 2) bits
 

@@ -17,9 +17,11 @@ fields_below_type k =
     else (if k.mode_type == 1 then k.depth_field ∷ k.blended ∷ k.program ∷ []
     else k.number ∷ k.blended ∷ k.program ∷ [])
 
+-- the fields in the order in which they decide
 abbrev pub from_highest : KeyFields → List ℕ
 from_highest k = k.position ∷ k.mode_type ∷ fields_below_type k
 
+-- keys are ordered as their fields are
 abbrev pub OrderOfKeys : Type 0
 OrderOfKeys = (j k : KeyFields) → IsKeyFields j → IsKeyFields k → nat_lt (key_bits j) (key_bits k) ≡ comes_before (from_highest j) (from_highest k)
 

@@ -3,6 +3,7 @@ use Rattle.std.specs.Prelude.{if◌then◌else◌}
 use Rattle.gfx_model.specs.Views as model
 use Rattle.sort_key.specs.declared.KeyFields.{KeyFields}
 
+-- the fields of a key as the definitions name them
 abbrev pub fields_seen : KeyFields → model.KeyFields
 fields_seen k = record {
   position = k.position;

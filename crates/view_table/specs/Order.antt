@@ -12,9 +12,11 @@ in_order count listed = listed ++ filter (λ v. not (is_among v listed)) (range_
 abbrev pub is_unnamed : List Bool → ℕ → Bool
 is_unnamed named v = not (slice_index_or named v false)
 
+-- the views that no list names, ascending
 abbrev pub unnamed : List Bool → ℕ → List ℕ
 unnamed named count = filter (is_unnamed named) (range_with_len 0 count)
 
+-- each is the number of a view
 abbrev pub AreBelow : ℕ → List ℕ → Type 0
 AreBelow count xs = (i : ℕ) → i < length xs → slice_index xs i < count
 

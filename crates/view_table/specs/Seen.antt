@@ -5,9 +5,11 @@ use Rattle.fix_math.specs.Seen.{rect_seen, affine_seen}
 use Rattle.view_table.specs.declared.clears.Clear.{Clear}
 use Rattle.view_table.specs.declared.views.View.{View}
 
+-- a clear with the same flags and values
 abbrev pub clear_seen : Clear → model.Clear
 clear_seen c = record { flags = c.flags; color = c.color; depth = c.depth; stencil = c.stencil }
 
+-- a view with the same settings
 abbrev pub view_seen : View → model.View
 view_seen v = record {
   rect = rect_seen v.rect;
