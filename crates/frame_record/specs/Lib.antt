@@ -4,3 +4,4 @@ pub mod Links
 pub mod Merged
 pub mod Ordered
 pub mod Placed
+pub mod Outcomes

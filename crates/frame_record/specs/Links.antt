@@ -3,6 +3,7 @@ use Rattle.std.specs.Prelude.{◌≡◌, List, [], ◌∷◌, ◌++◌, map, len
 use Rattle.frame_record.specs.declared.frame.Frame.{Frame}
 use Rattle.frame_record.specs.declared.frame.RenderedFrame.{RenderedFrame}
 
+-- the frames of what came back
 abbrev pub frames_of : List RenderedFrame → List Frame
 frames_of rs = map (λ r. r.frame) rs
 

@@ -4,6 +4,7 @@ use Rattle.gfx_model.specs.Frames as model
 use Rattle.frame_record.specs.declared.merging.NumberedEntry.{NumberedEntry}
 use Rattle.frame_record.specs.Seen.{entry_seen}
 
+-- an entry with its item's number
 abbrev pub pair_of : NumberedEntry → ℕ × model.Entry
 pair_of n = (n.number, entry_seen n.entry)
 

@@ -7,6 +7,7 @@ use Rattle.gfx_model.specs.World.{Item, key_of_item, view_of_item}
 use Rattle.frame_record.specs.declared.ordering.OrderedItem.{OrderedItem}
 use Rattle.frame_record.specs.Seen.{entry_seen}
 
+-- an entry with its item's key
 abbrev pub keyed_of : OrderedItem → ℕ × model.Entry
 keyed_of o = (key_bits o.key, entry_seen o.entry)
 
@@ -14,6 +15,7 @@ keyed_of o = (key_bits o.key, entry_seen o.entry)
 abbrev pub position_in : ℕ → ℕ
 position_in key = key / 2 ^ (64 - position_bits)
 
+-- the view position in an item's key
 abbrev pub position_of : OrderedItem → ℕ
 position_of o = position_in (key_bits o.key)
 

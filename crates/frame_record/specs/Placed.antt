@@ -7,6 +7,7 @@ use Rattle.gfx_model.specs.World.{Item, Blit, draw_item, touch_item, blit_item}
 use Rattle.frame_record.specs.declared.placing.PlacedBlit.{PlacedBlit}
 use Rattle.frame_record.specs.Seen.{entry_seen}
 
+-- a blit's entry with its view's position
 abbrev pub placed_of : PlacedBlit → ℕ × model.Entry
 placed_of p = (p.position, entry_seen p.entry)
 
@@ -16,6 +17,7 @@ blit_position vs (draw_item d) = None
 blit_position vs (touch_item t) = None
 blit_position vs (blit_item b) = if nat_lt b.view (view_count vs) then Some (position_of_view vs b.view) else None
 
+-- the position of the view of an entry's blit, if it is one and its view is there
 abbrev pub position_of_blit : Views → List model.Recorded → model.Entry → Option ℕ
 position_of_blit vs rs n = option_and_then (blit_position vs) (item_of_entry rs n)
 
