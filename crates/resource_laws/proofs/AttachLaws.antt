@@ -1,10 +1,11 @@
--- Counts of things, facts of all things, and live textures, where a thing more stands or contents are bared.
-use Rattle.std.proofs.Common.{◌≡◌, ℕ, ◌+◌, Bool, if◌then◌else◌, List, [], ◌∷◌, ◌++◌, map, Some, None, refl, arith}
-use Rattle.std.specs.List.{AllByRecursion}
+-- Counts of things, facts of all things, and textures that are held, where a thing more stands or contents are bared.
+use Rattle.std.proofs.Common.{◌≡◌, ℕ, ◌+◌, Bool, true, false, if◌then◌else◌, List, [], ◌∷◌, ◌++◌, map, Option, Some, None, refl, subst, arith}
+use Rattle.std.specs.List.{AllByRecursion, find}
+use Rattle.std.proofs.lemmas.Option.{same_Some, none-some}
 use Rattle.gfx_model.specs.World.{Content, layout_content, vertex_content, index_content, texture_content, frame_buffer_content, program_content, uniform_content}
 use Rattle.gfx_model.specs.Resources.{Thing}
 use Rattle.resource_laws.specs.Bare.{bare, bare_content}
-use Rattle.resource_laws.specs.Lawful.{count_where, is_live_texture, HasLiveTexture, HoldsLive}
+use Rattle.resource_laws.specs.Lawful.{count_where, is_texture_until, HasTextureUntil, Holds}
 
 pub count_snoc : {A : Type 0} (p : A → Bool) (xs : List A) (y : A) → count_where p (xs ++ y ∷ []) ≡ count_where p xs + (if p y then 1 else 0)
 count_snoc p [] y = omega arith
@@ -22,30 +23,39 @@ pub all_more : {A : Type 0} (P Q : A → Type 0) → ((x : A) → P x → Q x) �
 all_more P Q g [] a = tt
 all_more P Q g (x ∷ xs) a = (g x a.0, all_more P Q g xs a.1)
 
--- ---- live textures
+all_step : (P : Thing → Type 0) (p : Thing → Bool) (x : Thing) (xs : List Thing) (t : Thing) (b : Bool) → P x → (find p xs ≡ Some t → P t) → (if b then Some x else find p xs) ≡ Some t → P t
+all_step P p x xs t true h g e = subst P (same_Some x t e) h
+all_step P p x xs t false h g e = g e
 
-pub has_more : (ts : List Thing) (t : Thing) (n : ℕ) → HasLiveTexture ts n → HasLiveTexture (ts ++ t ∷ []) n
-has_more ts t n h = let e = count_snoc (is_live_texture n) ts t in omega (arith, e, h)
+-- a fact of all things is one of what is found
+pub all_found : (P : Thing → Type 0) (p : Thing → Bool) (ts : List Thing) (t : Thing) → AllByRecursion P ts → find p ts ≡ Some t → P t
+all_found P p [] t a e = absurd (none-some t e)
+all_found P p (x ∷ xs) t a e = all_step P p x xs t (p x) a.0 (all_found P p xs t a.1) e
 
-pub has_bare : (ts : List Thing) (n : ℕ) → HasLiveTexture ts n → HasLiveTexture (map bare ts) n
-has_bare ts n h = let e = count_map bare (is_live_texture n) (λ t. refl) ts in omega (arith, e, h)
+-- ---- textures that are held
 
--- a content's textures live where all live textures stay
-pub holds_more : (ts us : List Thing) → ((n : ℕ) → HasLiveTexture ts n → HasLiveTexture us n) → (c : Content) → HoldsLive ts c → HoldsLive us c
-holds_more ts us g (layout_content l) h = tt
-holds_more ts us g (vertex_content l b) h = tt
-holds_more ts us g (index_content b) h = tt
-holds_more ts us g (texture_content f t) h = tt
-holds_more ts us g (frame_buffer_content color None) h = (g color h.0, tt)
-holds_more ts us g (frame_buffer_content color (Some depth)) h = (g color h.0, g depth h.1)
-holds_more ts us g (program_content k) h = tt
-holds_more ts us g (uniform_content name v) h = tt
+pub has_more : (ts : List Thing) (t : Thing) (holder : Option ℕ) (n : ℕ) → HasTextureUntil ts holder n → HasTextureUntil (ts ++ t ∷ []) holder n
+has_more ts t holder n h = let e = count_snoc (is_texture_until holder n) ts t in omega (arith, e, h)
 
-pub holds_bare : (ts : List Thing) (c : Content) → HoldsLive ts c → HoldsLive ts (bare_content c)
-holds_bare ts (layout_content l) h = tt
-holds_bare ts (vertex_content l b) h = tt
-holds_bare ts (index_content b) h = tt
-holds_bare ts (texture_content f t) h = tt
-holds_bare ts (frame_buffer_content color depth) h = h
-holds_bare ts (program_content k) h = tt
-holds_bare ts (uniform_content name v) h = tt
+pub has_bare : (ts : List Thing) (holder : Option ℕ) (n : ℕ) → HasTextureUntil ts holder n → HasTextureUntil (map bare ts) holder n
+has_bare ts holder n h = let e = count_map bare (is_texture_until holder n) (λ t. refl) ts in omega (arith, e, h)
+
+-- a content's textures are there where all textures that are there stay
+pub holds_more : (ts us : List Thing) (o p : Option ℕ) → ((n : ℕ) → HasTextureUntil ts o n → HasTextureUntil us p n) → (c : Content) → Holds ts o c → Holds us p c
+holds_more ts us o p g (layout_content l) h = tt
+holds_more ts us o p g (vertex_content l b) h = tt
+holds_more ts us o p g (index_content b) h = tt
+holds_more ts us o p g (texture_content f t) h = tt
+holds_more ts us o p g (frame_buffer_content color None) h = (g color h.0, tt)
+holds_more ts us o p g (frame_buffer_content color (Some depth)) h = (g color h.0, g depth h.1)
+holds_more ts us o p g (program_content k) h = tt
+holds_more ts us o p g (uniform_content name v) h = tt
+
+pub holds_bare : (ts : List Thing) (o : Option ℕ) (c : Content) → Holds ts o c → Holds ts o (bare_content c)
+holds_bare ts o (layout_content l) h = tt
+holds_bare ts o (vertex_content l b) h = tt
+holds_bare ts o (index_content b) h = tt
+holds_bare ts o (texture_content f t) h = tt
+holds_bare ts o (frame_buffer_content color depth) h = h
+holds_bare ts o (program_content k) h = tt
+holds_bare ts o (uniform_content name v) h = tt

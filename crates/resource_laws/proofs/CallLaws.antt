@@ -1,5 +1,5 @@
 -- Each accepted call keeps the state lawful.
-use Rattle.std.proofs.Common.{◌≡◌, ℕ, ◌+◌, ◌-◌, ◌<◌, ◌≤◌, ◌==◌, nat_le, nat_lt, Bool, true, false, not, ◌&&◌, ◌⊎◌, inl, inr, if◌then◌else◌, List, [], ◌∷◌, map, filter, Option, Some, None, is_some, is_none, refl, sym, ap, ◌∙◌, subst, arith, eq-eqb}
+use Rattle.std.proofs.Common.{◌≡◌, ℕ, ◌+◌, ◌-◌, ◌<◌, ◌≤◌, ◌==◌, nat_le, nat_lt, Bool, true, false, not, ◌&&◌, ◌⊎◌, inl, inr, if◌then◌else◌, List, [], ◌∷◌, map, filter, Option, Some, None, is_some, refl, sym, ap, ◌∙◌, subst, arith, eq-eqb}
 use Rattle.std.specs.List.{AllByRecursion, find}
 use Rattle.std.proofs.lemmas.Bool.{eqb-true, both_ways}
 use Rattle.std.proofs.lemmas.Option.{none-some}
@@ -7,7 +7,7 @@ use Rattle.gfx_model.specs.Words.{layout_kind, vertex_buffer_kind, index_buffer_
 use Rattle.gfx_model.specs.Views.{Views}
 use Rattle.gfx_model.specs.World.{layout_content, vertex_content, index_content, texture_content, frame_buffer_content, program_content, uniform_content}
 use Rattle.gfx_model.specs.Resources.{Refusal, first_refusal, Thing, Resources, ResourceCall, create_layout, create_vertex_buffer, create_index_buffer, create_texture, create_frame_buffer, create_program, create_uniform, update_buffer, update_texture, destroy, set_view_rect, set_view_scissor, set_view_clear, set_view_mode, set_view_transform, set_view_target, set_view_order, reset_view, refusals, refusal_of, effect, with_views, is_at, is_live, is_live_handle, texture_sides, sides_in, same_sides, can_attach, layout_of_handle, texels_from, zero_value, named_uniform, has_name, uniform_refusals, uniform_effect, no_change, die, on_thing, with_references, references_of, holders, holds_texture, least_index, lesser_index, attached_by, greatest_references}
-use Rattle.resource_laws.specs.Lawful.{is_live_texture, HasLiveTexture, IsLawful}
+use Rattle.resource_laws.specs.Lawful.{outlives, is_texture_until, HasTextureUntil, IsLawful}
 use Rattle.resource_laws.proofs.LawfulLaws.{lawful_made}
 use Rattle.resource_laws.proofs.DeathLaws.{has_serial, by_serial, found_true, and_parts, IsUnheld, lawful_died, lawful_referred}
 use Rattle.resource_laws.proofs.LiveLaws.{all_found, count_found, live_found}
@@ -40,14 +40,14 @@ both_some None p e = absurd cc
 both_some (Some a) None e = absurd cc
 both_some (Some a) (Some b) e = (refl, refl)
 
-live_texture : (r : Resources) (h : Handle) → IsLawful r → is_kind h.kind texture_kind ≡ true → not (is_live_handle r h) ≡ false → HasLiveTexture r.things h.serial
+live_texture : (r : Resources) (h : Handle) → IsLawful r → is_kind h.kind texture_kind ≡ true → not (is_live_handle r h) ≡ false → HasTextureUntil r.things None h.serial
 live_texture r h l kind live =
     let found = live_found r h l (not_true (is_live_handle r h) live) in
     let t : Thing = found.0 in
     let place = and_parts (kind_number t.handle.kind == kind_number h.kind) (t.handle.index == h.index) (found_true (is_at h.kind h.index) r.things t found.1) in
     let same : kind_number t.handle.kind ≡ kind_number texture_kind = eqb-true (kind_number t.handle.kind) (kind_number h.kind) place.0 ∙ eqb-true (kind_number h.kind) (kind_number texture_kind) kind in
-    let q : is_live_texture h.serial t ≡ true = λ j. is_none (found.3 j) && eq-eqb (kind_number t.handle.kind) (kind_number texture_kind) same j && eq-eqb t.handle.serial h.serial found.2 j in
-    count_found (is_at h.kind h.index) (is_live_texture h.serial) r.things t q found.1
+    let q : is_texture_until None h.serial t ≡ true = λ j. outlives None (found.3 j) && eq-eqb (kind_number t.handle.kind) (kind_number texture_kind) same j && eq-eqb t.handle.serial h.serial found.2 j in
+    count_found (is_at h.kind h.index) (is_texture_until None h.serial) r.things t q found.1
 
 target_made : (r : Resources) (color : Handle) (depth : Option Handle) → IsLawful r → AllByRecursion (λ c. c.0 ≡ false) (refusals r (create_frame_buffer color depth)) → IsLawful (effect r (create_frame_buffer color depth)).after
 target_made r color None l p =

@@ -1,7 +1,7 @@
 -- The death of a thing keeps the state lawful.
 use Rattle.std.proofs.Common.{◌≡◌, ◌≢◌, ℕ, zero, suc, ◌+◌, ◌-◌, ◌<◌, ◌≤◌, ◌==◌, Bool, true, false, ◌&&◌, if◌then◌else◌, List, [], ◌∷◌, ◌++◌, map, length, Option, Some, None, refl, sym, ap, ◌∙◌, subst, arith, slice_set, option_map, eq-eqb, ne_eqb, ◌||◌, is_none, IfSome, ◌⊎◌, inl, inr}
 use Rattle.std.proofs.lemmas.List.{length-set}
-use Rattle.std.proofs.lemmas.Bool.{eqb-true, both_ways}
+use Rattle.std.proofs.lemmas.Bool.{eqb-true, both_ways, le-leb}
 use Rattle.std.proofs.lemmas.Option.{same_Some, none-some}
 use Rattle.std.specs.List.{AllByRecursion, find}
 use native.Mathlib.Decide.{ℕ_discrete}
@@ -10,8 +10,8 @@ use Rattle.gfx_model.specs.Words.{Kind, Handle, kind_number, greatest}
 use Rattle.gfx_model.specs.World.{Content, layout_content, vertex_content, index_content, texture_content, frame_buffer_content, program_content, uniform_content}
 use Rattle.gfx_model.specs.Resources.{Thing, Resources, Book, is_at, is_live, holds_texture, book_of, change_of_serial, with_death, with_references, on_thing, with_waiting, die, greatest_references}
 use Rattle.schedule_model.specs.Held.{count_of}
-use Rattle.resource_laws.specs.Lawful.{Rises, count_where, dies, dies_at, waits_at, is_live_texture, HasLiveTexture, HoldsLive, IsLawful}
-use Rattle.resource_laws.proofs.AttachLaws.{count_snoc, all_more, holds_more}
+use Rattle.resource_laws.specs.Lawful.{Rises, count_where, dies, dies_at, waits_at, outlives, is_texture_until, HasTextureUntil, Holds, IsLawful}
+use Rattle.resource_laws.proofs.AttachLaws.{count_snoc, all_more, all_found, holds_more}
 use Rattle.resource_laws.proofs.LawfulLaws.{book_same, book_other, no_book}
 
 -- ---- what is found
@@ -104,8 +104,14 @@ and_no false = refl
 abbrev pub IsUnheld : List Thing → ℕ → Type 0
 IsUnheld ts n = AllByRecursion (λ u. (is_live u && holds_texture n u.content) ≡ false) ts
 
-none_live : (o : Option ℕ) → o ≡ None → is_none o ≡ true
-none_live o e = ap is_none e
+-- what is there as long as a live holder is there as long as one that dies
+weaker : (death n : ℕ) (ts : List Thing) → count_where (is_texture_until None n) ts ≤ count_where (is_texture_until (Some death) n) ts
+weaker death n [] = omega arith
+weaker death n (t ∷ ts) = let h = weaker death n ts in let e = one t.death (kind_number t.handle.kind == 3) (t.handle.serial == n) in omega (arith, h, e)
+  where
+    one : (o : Option ℕ) (b c : Bool) → (if outlives None o && b && c then 1 else 0) ≤ (if outlives (Some death) o && b && c then 1 else 0)
+    one None b c = omega arith
+    one (Some d) b c = omega arith
 
 or_parts : (b c : Bool) → b || c ≡ false → (b ≡ false) × (c ≡ false)
 or_parts false false e = (refl, refl)
@@ -113,16 +119,15 @@ or_parts true c e = absurd cc
 or_parts false true e = absurd cc
 
 -- what a frame buffer holds is another texture
-others : (n : ℕ) (b : Bool) (c : Content) (Q : ℕ → Type 0) → b ≡ true → (b && holds_texture n c) ≡ false → ((m : ℕ) → (m == n) ≡ false → Q m) → (ts us : List Thing) → ((m : ℕ) → Q m → HasLiveTexture ts m → HasLiveTexture us m) → HoldsLive ts c → HoldsLive us c
-others n true (layout_content l) Q b e q ts us g h = tt
-others n true (vertex_content l x) Q b e q ts us g h = tt
-others n true (index_content x) Q b e q ts us g h = tt
-others n true (texture_content f t) Q b e q ts us g h = tt
-others n true (frame_buffer_content color None) Q b e q ts us g h = (g color (q color e) h.0, tt)
-others n true (frame_buffer_content color (Some depth)) Q b e q ts us g h = (let p = or_parts (color == n) (depth == n) e in (g color (q color p.0) h.0, g depth (q depth p.1) h.1))
-others n true (program_content k) Q b e q ts us g h = tt
-others n true (uniform_content name v) Q b e q ts us g h = tt
-others n false c Q b e q ts us g h = absurd cc
+others : (n : ℕ) (o : Option ℕ) (c : Content) (Q : ℕ → Type 0) → holds_texture n c ≡ false → ((m : ℕ) → (m == n) ≡ false → Q m) → (ts us : List Thing) → ((m : ℕ) → Q m → HasTextureUntil ts o m → HasTextureUntil us o m) → Holds ts o c → Holds us o c
+others n o (layout_content l) Q e q ts us g h = tt
+others n o (vertex_content l x) Q e q ts us g h = tt
+others n o (index_content x) Q e q ts us g h = tt
+others n o (texture_content f t) Q e q ts us g h = tt
+others n o (frame_buffer_content color None) Q e q ts us g h = (g color (q color e) h.0, tt)
+others n o (frame_buffer_content color (Some depth)) Q e q ts us g h = (let p = or_parts (color == n) (depth == n) e in (g color (q color p.0) h.0, g depth (q depth p.1) h.1))
+others n o (program_content k) Q e q ts us g h = tt
+others n o (uniform_content name v) Q e q ts us g h = tt
 
 module _ (h : Handle) (r : Resources) (l : IsLawful r) (t : Thing) (is : find (is_at h.kind h.index) r.things ≡ Some t) (serial : t.handle.serial ≡ h.serial) (live : t.death ≡ None) (unheld : IsUnheld r.things h.serial ⊎ ((kind_number t.handle.kind == 3) ≡ false)) where
   there : find (has_serial h.serial) r.things ≡ Some t
@@ -170,24 +175,54 @@ module _ (h : Handle) (r : Resources) (l : IsLawful r) (t : Thing) (is : find (i
       let after : (if dies_at m i p (with_death r.frame t) then 1 else 0) ≡ zero = ap (λ b. if b && p r.frame then 1 else zero) (here_other m i ne) in
       omega (arith, new, after, not_before m i p, count_died (dies_at m i p), l.waits m i p))
 
-  -- another live texture stays
-  stays : (n : ℕ) → is_live_texture n t ≡ false → HasLiveTexture r.things n → HasLiveTexture (die h r).things n
-  stays n e has = let c = count_died (is_live_texture n) in let z : (if is_live_texture n t then 1 else zero) ≡ 0 = ap (λ b. if b then 1 else zero) e in omega (arith, c, z, has)
+  -- what is there as long as what died before, or dies now, stays so
+  stays_dead : (o : Option ℕ) (d : ℕ) → o ≡ Some d → d ≤ r.frame → (n : ℕ) → HasTextureUntil r.things o n → HasTextureUntil (die h r).things o n
+  stays_dead o d e le n has =
+      let c = count_died (is_texture_until o n) in
+      let same : is_texture_until o n (with_death r.frame t) ≡ is_texture_until o n t =
+      (λ j. (ap (λ x. outlives x (Some r.frame)) e ∙ le-leb d r.frame le ∙ ap (outlives o) (sym live)) j && (kind_number t.handle.kind == 3) && (t.handle.serial == n)) in
+      let z : (if is_texture_until o n (with_death r.frame t) then 1 else 0) ≡ (if is_texture_until o n t then 1 else zero) = ap (λ b. if b then 1 else zero) same in
+      omega (arith, c, z, has)
 
-  no_texture : (kind_number t.handle.kind == 3) ≡ false → (n : ℕ) → is_live_texture n t ≡ false
-  no_texture e n = ap (λ b. is_none t.death && b && (t.handle.serial == n)) e ∙ ap (λ b. b && (t.handle.serial == n)) (and_no (is_none t.death))
+  -- another texture stays
+  stays : (o : Option ℕ) (n : ℕ) → is_texture_until o n t ≡ false → HasTextureUntil r.things o n → HasTextureUntil (die h r).things o n
+  stays o n e has = let c = count_died (is_texture_until o n) in let z : (if is_texture_until o n t then 1 else zero) ≡ 0 = ap (λ b. if b then 1 else zero) e in omega (arith, c, z, has)
 
-  other_serial : (n : ℕ) → (n == h.serial) ≡ false → is_live_texture n t ≡ false
-  other_serial n e = ap (λ b. is_none t.death && (kind_number t.handle.kind == 3) && b) (ne_eqb t.handle.serial n (λ s. both_ways (n == h.serial) e (eq-eqb n h.serial (sym s ∙ serial)))) ∙ and_no (is_none t.death && (kind_number t.handle.kind == 3))
+  no_texture : (kind_number t.handle.kind == 3) ≡ false → (o : Option ℕ) (n : ℕ) → is_texture_until o n t ≡ false
+  no_texture e o n = ap (λ b. outlives o t.death && b && (t.handle.serial == n)) e ∙ ap (λ b. b && (t.handle.serial == n)) (and_no (outlives o t.death))
 
-  pair_up : (P Q R : Thing → Type 0) (ts : List Thing) → ((u : Thing) → P u → Q u → R u) → AllByRecursion P ts → AllByRecursion Q ts → AllByRecursion R ts
-  pair_up P Q R [] g a b = tt
-  pair_up P Q R (u ∷ us) g a b = (g u a.0 b.0, pair_up P Q R us g a.1 b.1)
+  other_serial : (o : Option ℕ) (n : ℕ) → (n == h.serial) ≡ false → is_texture_until o n t ≡ false
+  other_serial o n e = ap (λ b. outlives o t.death && (kind_number t.handle.kind == 3) && b) (ne_eqb t.handle.serial n (λ s. both_ways (n == h.serial) e (eq-eqb n h.serial (sym s ∙ serial)))) ∙ and_no (outlives o t.death && (kind_number t.handle.kind == 3))
 
-  held_after : (IsUnheld r.things h.serial ⊎ ((kind_number t.handle.kind == 3) ≡ false)) → AllByRecursion (λ u. u.death ≡ None → HoldsLive (die h r).things u.content) r.things
-  held_after (inl a) = pair_up (λ u. u.death ≡ None → HoldsLive r.things u.content) (λ u. (is_live u && holds_texture h.serial u.content) ≡ false) (λ u. u.death ≡ None → HoldsLive (die h r).things u.content) r.things
-      (λ u g e d. others h.serial (is_live u) u.content (λ m. is_live_texture m t ≡ false) (none_live u.death d) e other_serial r.things (die h r).things stays (g d)) l.attached a
-  held_after (inr e) = all_more (λ u. u.death ≡ None → HoldsLive r.things u.content) (λ u. u.death ≡ None → HoldsLive (die h r).things u.content) (λ u g d. holds_more r.things (die h r).things (λ n. stays n (no_texture e n)) u.content (g d)) r.things l.attached
+  triple_up : (P Q S R : Thing → Type 0) (ts : List Thing) → ((u : Thing) → P u → Q u → S u → R u) → AllByRecursion P ts → AllByRecursion Q ts → AllByRecursion S ts → AllByRecursion R ts
+  triple_up P Q S R [] g a b c = tt
+  triple_up P Q S R (u ∷ us) g a b c = (g u a.0 b.0 c.0, triple_up P Q S R us g a.1 b.1 c.1)
+
+  -- what a frame buffer holds, by its death and whether it holds this thing
+  held_by : (u : Thing) (o : Option ℕ) → u.death ≡ o → Holds r.things u.death u.content → (is_live u && holds_texture h.serial u.content) ≡ false → IfSome u.death (λ d. d ≤ r.frame) → Holds (die h r).things u.death u.content
+  held_by u None e g not_held past =
+      others h.serial u.death u.content (λ m. is_texture_until u.death m t ≡ false) (sym (ap (λ x. is_none x && holds_texture h.serial u.content) e) ∙ not_held) (other_serial u.death) r.things (die h r).things (stays u.death) g
+  held_by u (Some d) e g not_held past =
+      holds_more r.things (die h r).things u.death u.death (stays_dead u.death d e (subst (λ (x : Option ℕ). IfSome x (λ d. d ≤ r.frame)) e past)) u.content g
+
+  held_after : (IsUnheld r.things h.serial ⊎ ((kind_number t.handle.kind == 3) ≡ false)) → AllByRecursion (λ u. Holds (die h r).things u.death u.content) r.things
+  held_after (inl a) = triple_up (λ u. Holds r.things u.death u.content) (λ u. (is_live u && holds_texture h.serial u.content) ≡ false) (λ u. IfSome u.death (λ d. d ≤ r.frame)) (λ u. Holds (die h r).things u.death u.content) r.things
+      (λ u g e past. held_by u u.death refl g e past) l.attached a l.past
+  held_after (inr e) = all_more (λ u. Holds r.things u.death u.content) (λ u. Holds (die h r).things u.death u.content) (λ u g. holds_more r.things (die h r).things u.death u.death (λ n. stays u.death n (no_texture e u.death n)) u.content g) r.things l.attached
+
+  -- what a live thing holds is there as long as it where it dies now
+  until_now : (n : ℕ) → HasTextureUntil r.things None n → HasTextureUntil (die h r).things (Some r.frame) n
+  until_now n has =
+      let c = count_died (is_texture_until (Some r.frame) n) in
+      let same : is_texture_until (Some r.frame) n (with_death r.frame t) ≡ is_texture_until (Some r.frame) n t =
+      (λ j. (le-leb r.frame r.frame (omega arith) ∙ ap (outlives (Some r.frame)) (sym live)) j && (kind_number t.handle.kind == 3) && (t.handle.serial == n)) in
+      let z : (if is_texture_until (Some r.frame) n (with_death r.frame t) then 1 else 0) ≡ (if is_texture_until (Some r.frame) n t then 1 else zero) = ap (λ b. if b then 1 else zero) same in
+      let w = weaker r.frame n r.things in
+      omega (arith, c, z, w, has)
+
+  holds_now : Holds (die h r).things (Some r.frame) t.content
+  holds_now = holds_more r.things (die h r).things None (Some r.frame) until_now t.content
+      (subst (λ (o : Option ℕ). Holds r.things o t.content) live (all_found (λ u. Holds r.things u.death u.content) (is_at h.kind h.index) r.things t l.attached is))
 
   pub lawful_died : IsLawful (die h r)
   lawful_died = record {
@@ -201,7 +236,7 @@ module _ (h : Handle) (r : Resources) (l : IsLawful r) (t : Thing) (is : find (i
     once = λ m i lt. let c = count_died (is_at m i) in let f = free_died m i in omega (arith, c, f, l.once m i lt);
     waits = waits_died;
     past = all_change (with_death r.frame) h.serial (λ u. IfSome u.death (λ d. d ≤ r.frame)) (λ u g. omega arith) r.things l.past;
-    attached = all_change (with_death r.frame) h.serial (λ u. u.death ≡ None → HoldsLive (die h r).things u.content) (λ u g e. absurd (none-some r.frame (sym e))) r.things (held_after unheld);
+    attached = all_at (with_death r.frame) h.serial (λ u. Holds (die h r).things u.death u.content) r.things t there holds_now (held_after unheld);
   }
 
 -- ---- references
@@ -228,7 +263,7 @@ module _ (g : ℕ → ℕ) (s : ℕ) (r : Resources) (l : IsLawful r) (t : Thing
     once = λ m i lt. ap (λ n. count_of i (book_of r m).free + n) (count_referred (is_at m i) refl) ∙ l.once m i lt;
     waits = λ m i p. l.waits m i p ∙ sym (count_referred (dies_at m i p) refl);
     past = all_change (with_references g) s (λ u. IfSome u.death (λ d. d ≤ r.frame)) (λ u g. g) r.things l.past;
-    attached = all_change (with_references g) s (λ u. u.death ≡ None → HoldsLive (on_thing (with_references g) s r).things u.content) (λ u g. g) r.things
-        (all_more (λ u. u.death ≡ None → HoldsLive r.things u.content) (λ u. u.death ≡ None → HoldsLive (on_thing (with_references g) s r).things u.content)
-        (λ u k d. holds_more r.things (on_thing (with_references g) s r).things (λ n has. let e = count_referred (is_live_texture n) refl in omega (arith, e, has)) u.content (k d)) r.things l.attached);
+    attached = all_change (with_references g) s (λ u. Holds (on_thing (with_references g) s r).things u.death u.content) (λ u g. g) r.things
+        (all_more (λ u. Holds r.things u.death u.content) (λ u. Holds (on_thing (with_references g) s r).things u.death u.content)
+        (λ u k. holds_more r.things (on_thing (with_references g) s r).things u.death u.death (λ n has. let e = count_referred (is_texture_until u.death n) refl in omega (arith, e, has)) u.content k) r.things l.attached);
   }

@@ -10,7 +10,7 @@ use Rattle.gfx_model.specs.World.{Content}
 use Rattle.gfx_model.specs.Resources.{Thing, Resources, Book, is_at, book_of, make, lacks_index, lacks_serial, without_top, without_top_index, top_index, greatest_serial, greatest_references}
 use Rattle.schedule_model.specs.Held.{count_of}
 use Rattle.resource_laws.specs.Bare.{bare, bare_of}
-use Rattle.resource_laws.specs.Lawful.{Rises, count_where, dies_at, waits_at, HoldsLive, IsLawful}
+use Rattle.resource_laws.specs.Lawful.{Rises, count_where, dies_at, waits_at, Holds, IsLawful}
 use Rattle.resource_laws.proofs.KindLaws.{kind_below}
 use Rattle.resource_laws.proofs.AttachLaws.{count_snoc, count_map, all_snoc, all_more, has_more, has_bare, holds_more, holds_bare}
 
@@ -40,8 +40,8 @@ lawful_bare r l = record {
   once = λ k i lt. ap (λ n. count_of i (book_of r k).free + n) (count_map bare (is_at k i) (λ t. refl) r.things) ∙ l.once k i lt;
   waits = λ k i p. l.waits k i p ∙ sym (count_map bare (dies_at k i p) (λ t. refl) r.things);
   past = all_bare (λ t. IfSome t.death (λ d. d ≤ r.frame)) (λ t h. h) r.things l.past;
-  attached = all_bare (λ t. t.death ≡ None → HoldsLive (map bare r.things) t.content) (λ t g e. holds_bare (map bare r.things) t.content (g e)) r.things
-      (all_more (λ t. t.death ≡ None → HoldsLive r.things t.content) (λ t. t.death ≡ None → HoldsLive (map bare r.things) t.content) (λ t g e. holds_more r.things (map bare r.things) (has_bare r.things) t.content (g e)) r.things l.attached);
+  attached = all_bare (λ t. Holds (map bare r.things) t.death t.content) (λ t h. holds_bare (map bare r.things) t.death t.content h) r.things
+      (all_more (λ t. Holds r.things t.death t.content) (λ t. Holds (map bare r.things) t.death t.content) (λ t h. holds_more r.things (map bare r.things) t.death t.death (has_bare r.things t.death) t.content h) r.things l.attached);
 }
 
 -- ---- a thing more
@@ -66,11 +66,11 @@ top_count : (free : List ℕ) (i : ℕ) → (length free == 0) ≡ false → (if
 top_count [] i e = absurd cc
 top_count (x ∷ xs) i e = refl
 
-and_false : (b : Bool) → b && false ≡ false
+pub and_false : (b : Bool) → b && false ≡ false
 and_false true = refl
 and_false false = refl
 
-module _ (k : Kind) (info : Info) (c : Content) (r : Resources) (l : IsLawful r) (some : (lacks_index r k).0 ≡ false) (serial : (lacks_serial r).0 ≡ false) (held : HoldsLive r.things c) where
+module _ (k : Kind) (info : Info) (c : Content) (r : Resources) (l : IsLawful r) (some : (lacks_index r k).0 ≡ false) (serial : (lacks_serial r).0 ≡ false) (held : Holds r.things None c) where
   abbrev pub made : Thing
   made = record { handle = record { kind = k; index = top_index (book_of r k).free; serial = r.next_serial; info = info }; birth = r.frame; death = None; content = c; references = 1 }
 
@@ -129,9 +129,9 @@ module _ (k : Kind) (info : Info) (c : Content) (r : Resources) (l : IsLawful r)
     once = once_made;
     waits = waits_made;
     past = all_snoc (λ t. IfSome t.death (λ d. d ≤ r.frame)) r.things made l.past tt;
-    attached = all_snoc (λ t. t.death ≡ None → HoldsLive (r.things ++ made ∷ []) t.content) r.things made
-        (all_more (λ t. t.death ≡ None → HoldsLive r.things t.content) (λ t. t.death ≡ None → HoldsLive (r.things ++ made ∷ []) t.content) (λ t g e. holds_more r.things (r.things ++ made ∷ []) (has_more r.things made) t.content (g e)) r.things l.attached)
-        (λ e. holds_more r.things (r.things ++ made ∷ []) (has_more r.things made) c held);
+    attached = all_snoc (λ t. Holds (r.things ++ made ∷ []) t.death t.content) r.things made
+        (all_more (λ t. Holds r.things t.death t.content) (λ t. Holds (r.things ++ made ∷ []) t.death t.content) (λ t h. holds_more r.things (r.things ++ made ∷ []) t.death t.death (has_more r.things made t.death) t.content h) r.things l.attached)
+        (holds_more r.things (r.things ++ made ∷ []) None None (has_more r.things made None) c held);
   }
 
   -- its place had no thing

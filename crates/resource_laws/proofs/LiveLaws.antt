@@ -1,21 +1,13 @@
 -- A handle that is accepted as live is of one thing.
-use Rattle.std.proofs.Common.{◌≡◌, ℕ, zero, suc, ◌<◌, ◌≤◌, ◌==◌, Bool, true, false, if◌then◌else◌, List, [], ◌∷◌, Option, Some, None, refl, sym, ap, ◌∙◌, subst, arith}
-use Rattle.std.specs.List.{AllByRecursion, find}
+use Rattle.std.proofs.Common.{◌≡◌, ℕ, zero, suc, ◌<◌, ◌≤◌, ◌==◌, Bool, true, false, if◌then◌else◌, List, [], ◌∷◌, Option, Some, None, refl, sym, ap, ◌∙◌, arith}
+use Rattle.std.specs.List.{find}
 use Rattle.std.proofs.lemmas.Bool.{eqb-true}
 use Rattle.std.proofs.lemmas.Option.{same_Some, none-some}
 use Rattle.gfx_model.specs.Words.{Handle, live_word, dying_word, place_state, place_serial, is_live_in}
 use Rattle.gfx_model.specs.Resources.{Thing, Resources, is_at, word_of_thing, word_of_death, is_live_handle, greatest_serial}
 use Rattle.resource_laws.specs.Lawful.{count_where, IsLawful}
+pub use Rattle.resource_laws.proofs.AttachLaws.{all_found}
 use Rattle.resource_laws.proofs.DeathLaws.{and_parts}
-
-all_step : (P : Thing → Type 0) (p : Thing → Bool) (x : Thing) (xs : List Thing) (t : Thing) (b : Bool) → P x → (find p xs ≡ Some t → P t) → (if b then Some x else find p xs) ≡ Some t → P t
-all_step P p x xs t true h g e = subst P (same_Some x t e) h
-all_step P p x xs t false h g e = g e
-
--- a fact of all things is one of what is found
-pub all_found : (P : Thing → Type 0) (p : Thing → Bool) (ts : List Thing) (t : Thing) → AllByRecursion P ts → find p ts ≡ Some t → P t
-all_found P p [] t a e = absurd (none-some t e)
-all_found P p (x ∷ xs) t a e = all_step P p x xs t (p x) a.0 (all_found P p xs t a.1) e
 
 count_step : (p q : Thing → Bool) (x : Thing) (xs : List Thing) (t : Thing) (b : Bool) → q t ≡ true → (find p xs ≡ Some t → 1 ≤ count_where q xs) → (if b then Some x else find p xs) ≡ Some t → 1 ≤ count_where q (x ∷ xs)
 count_step p q x xs t true h g e = let one : (if q x then 1 else 0) ≡ suc zero = ap (λ b. if b then 1 else 0) (ap q (same_Some x t e) ∙ h) in omega (arith, one)

@@ -1,15 +1,15 @@
 -- The start of a frame keeps the state lawful, and so do opening states.
-use Rattle.std.proofs.Common.{◌≡◌, ℕ, zero, suc, ◌+◌, ◌<◌, ◌≤◌, ◌==◌, Bool, true, false, not, ◌&&◌, if◌then◌else◌, List, [], ◌∷◌, map, filter, length, Option, Some, None, IfSome, refl, sym, ap, ◌∙◌, arith, ne_eqb}
+use Rattle.std.proofs.Common.{◌≡◌, ℕ, zero, suc, ◌+◌, ◌<◌, ◌≤◌, ◌==◌, nat_le, Bool, true, false, not, ◌&&◌, if◌then◌else◌, List, [], ◌∷◌, map, filter, length, Option, Some, None, IfSome, refl, sym, ap, ◌∙◌, arith, ne_eqb}
 use Rattle.std.specs.List.{AllByRecursion, range_with_len}
 use Rattle.std.proofs.lemmas.List.{get_or-map, length-map}
 use Rattle.std.proofs.lemmas.Bool.{eqb-true}
 use Rattle.gfx_model.specs.Words.{Kind, layout_kind, vertex_buffer_kind, index_buffer_kind, texture_kind, frame_buffer_kind, program_kind, uniform_kind, kind_number, greatest}
 use Rattle.gfx_model.specs.Resources.{Thing, Resources, Book, new_book, opening, is_at, book_of, pushed_on, is_over, book_at_start, is_kept_death, is_kept_thing, start_frame, greatest_serial, greatest_references}
 use Rattle.schedule_model.specs.Held.{count_of}
-use Rattle.resource_laws.specs.Lawful.{Rises, count_where, dies, dies_at, waits_at, is_live_texture, HasLiveTexture, HoldsLive, IsLawful}
+use Rattle.resource_laws.specs.Lawful.{Rises, count_where, dies, dies_at, waits_at, outlives, is_texture_until, HasTextureUntil, Holds, IsLawful}
 use Rattle.resource_laws.proofs.KindLaws.{kind_below, greatest_same}
 use Rattle.resource_laws.proofs.AttachLaws.{all_more, holds_more}
-use Rattle.resource_laws.proofs.LawfulLaws.{no_book}
+use Rattle.resource_laws.proofs.LawfulLaws.{no_book, and_false}
 use Rattle.resource_laws.proofs.DeathLaws.{and_parts}
 
 -- ---- lists
@@ -56,6 +56,15 @@ all_filter P q (x ∷ xs) a = step (q x) (all_filter P q xs a.1)
     step : (b : Bool) → AllByRecursion P (filter q xs) → AllByRecursion P (if b then x ∷ filter q xs else filter q xs)
     step true h = (a.0, h)
     step false h = h
+
+-- what follows from a fact of what the test takes holds of all that is filtered
+filtered_more : {A : Type 0} (q : A → Bool) (P R : A → Type 0) → ((x : A) → q x ≡ true → P x → R x) → (xs : List A) → AllByRecursion P xs → AllByRecursion R (filter q xs)
+filtered_more q P R g [] a = tt
+filtered_more q P R g (x ∷ xs) a = step (q x) refl (filtered_more q P R g xs a.1)
+  where
+    step : (b : Bool) → q x ≡ b → AllByRecursion R (filter q xs) → AllByRecursion R (if b then x ∷ filter q xs else filter q xs)
+    step true e h = (g x e a.0, h)
+    step false e h = h
 
 rises_weaken : (n m : ℕ) (ts : List Thing) → m ≤ n → Rises n ts → Rises m ts
 rises_weaken n m [] le r = tt
@@ -139,19 +148,24 @@ module _ (r : Resources) (frame : ℕ) (l : IsLawful r) (later : r.frame ≤ fra
       kept b None = refl
       kept b (Some d) = turn b (not (is_over r.latency frame d)) (p d)
 
-  live_kept : (n : ℕ) → HasLiveTexture r.things n → HasLiveTexture (filter (is_kept_thing r.latency frame) r.things) n
-  live_kept n h =
-      let e = count_filter (is_live_texture n) (is_kept_thing r.latency frame) r.things in
-      let same = count_same (λ t. is_kept_thing r.latency frame t && is_live_texture n t) (is_live_texture n) (λ t. lives t.death (kind_number t.handle.kind == 3) (t.handle.serial == n)) r.things in
-      omega (arith, e, same, h)
+  -- what holds is kept no longer than what it holds
+  outlived : (holder : Option ℕ) → is_kept_death r.latency frame holder ≡ true → (o : Option ℕ) (b c : Bool) → is_kept_death r.latency frame o && (outlives holder o && b && c) ≡ outlives holder o && b && c
+  outlived holder kept None b c = refl
+  outlived None kept (Some d) b c = and_false (not (is_over r.latency frame d))
+  outlived (Some f) kept (Some d) b c = by_order (nat_le f d) refl
     where
-      lives : (o : Option ℕ) (b c : Bool) → is_kept_death r.latency frame o && (Rattle.std.specs.Prelude.is_none o && b && c) ≡ Rattle.std.specs.Prelude.is_none o && b && c
-      lives None b c = refl
-      lives (Some d) b c = none (not (is_over r.latency frame d))
-        where
-          none : (x : Bool) → x && false ≡ false
-          none true = refl
-          none false = refl
+      kept_too : nat_le f d ≡ true → not (is_over r.latency frame d) ≡ true
+      kept_too e = grind (arith, kept, e)
+
+      by_order : (x : Bool) → nat_le f d ≡ x → not (is_over r.latency frame d) && (x && b && c) ≡ x && b && c
+      by_order true e = ap (λ y. y && (b && c)) (kept_too e)
+      by_order false e = and_false (not (is_over r.latency frame d))
+
+  until_kept : (holder : Option ℕ) → is_kept_death r.latency frame holder ≡ true → (n : ℕ) → HasTextureUntil r.things holder n → HasTextureUntil (filter (is_kept_thing r.latency frame) r.things) holder n
+  until_kept holder kept n h =
+      let e = count_filter (is_texture_until holder n) (is_kept_thing r.latency frame) r.things in
+      let same = count_same (λ t. is_kept_thing r.latency frame t && is_texture_until holder n t) (is_texture_until holder n) (λ t. outlived holder kept t.death (kind_number t.handle.kind == 3) (t.handle.serial == n)) r.things in
+      omega (arith, e, same, h)
 
   pub lawful_started : IsLawful (start_frame frame r)
   lawful_started = record {
@@ -165,8 +179,8 @@ module _ (r : Resources) (frame : ℕ) (l : IsLawful r) (later : r.frame ≤ fra
     once = λ k i lt. let f = free_is k i in let s = split k i r.things in let o = l.once k i lt in omega (arith, f, s, o);
     waits = waits_kept;
     past = all_filter (λ t. IfSome t.death (λ d. d ≤ frame)) (is_kept_thing r.latency frame) r.things (all_more (λ t. IfSome t.death (λ d. d ≤ r.frame)) (λ t. IfSome t.death (λ d. d ≤ frame)) (λ t h. later_death t.death h) r.things l.past);
-    attached = all_filter (λ t. t.death ≡ None → HoldsLive (filter (is_kept_thing r.latency frame) r.things) t.content) (is_kept_thing r.latency frame) r.things
-        (all_more (λ t. t.death ≡ None → HoldsLive r.things t.content) (λ t. t.death ≡ None → HoldsLive (filter (is_kept_thing r.latency frame) r.things) t.content) (λ t g e. holds_more r.things (filter (is_kept_thing r.latency frame) r.things) live_kept t.content (g e)) r.things l.attached);
+    attached = filtered_more (is_kept_thing r.latency frame) (λ t. Holds r.things t.death t.content) (λ t. Holds (filter (is_kept_thing r.latency frame) r.things) t.death t.content)
+        (λ t kept h. holds_more r.things (filter (is_kept_thing r.latency frame) r.things) t.death t.death (until_kept t.death kept) t.content h) r.things l.attached;
   }
     where
       later_death : (o : Option ℕ) → IfSome o (λ d. d ≤ r.frame) → IfSome o (λ d. d ≤ frame)

@@ -1,9 +1,9 @@
 -- What the state of the calls keeps.
-use Rattle.std.specs.Prelude.{◌≡◌, ℕ, ◌+◌, ◌<◌, ◌≤◌, ◌==◌, Bool, false, ◌&&◌, if◌then◌else◌, List, [], ◌∷◌, length, Option, Some, None, IfSome, ⊤}
+use Rattle.std.specs.Prelude.{◌≡◌, ℕ, ◌+◌, ◌<◌, ◌≤◌, ◌==◌, nat_le, Bool, true, false, ◌&&◌, if◌then◌else◌, List, [], ◌∷◌, length, Option, Some, None, IfSome, ⊤}
 use Rattle.std.specs.List.{AllByRecursion}
 use Rattle.gfx_model.specs.Words.{Kind, texture_kind, all_kinds, is_kind, greatest}
 use Rattle.gfx_model.specs.World.{Content, frame_buffer_content}
-use Rattle.gfx_model.specs.Resources.{Thing, Resources, is_at, is_live, book_of, greatest_references, greatest_serial}
+use Rattle.gfx_model.specs.Resources.{Thing, Resources, is_at, book_of, greatest_references, greatest_serial}
 use Rattle.schedule_model.specs.Held.{count_of}
 
 -- serials ascend, from a number on
@@ -29,18 +29,24 @@ waits_at index p w = (w.0 == index) && p w.1
 abbrev pub dies_at : Kind → ℕ → (ℕ → Bool) → Thing → Bool
 dies_at k index p t = is_at k index t && dies p t.death
 
--- whether a thing is a live texture with a serial
-abbrev pub is_live_texture : ℕ → Thing → Bool
-is_live_texture serial t = is_live t && is_kind t.handle.kind texture_kind && (t.handle.serial == serial)
+-- whether a texture's death, if it has one, comes no earlier than that of what holds it
+abbrev pub outlives : (holder texture : Option ℕ) → Bool
+outlives holder None = true
+outlives None (Some death) = false
+outlives (Some first) (Some death) = nat_le first death
 
--- some live texture has the serial
-abbrev pub HasLiveTexture : List Thing → ℕ → Type 0
-HasLiveTexture things serial = 1 ≤ count_where (is_live_texture serial) things
+-- whether a thing is the texture of a serial, and is there as long as what holds it
+abbrev pub is_texture_until : Option ℕ → ℕ → Thing → Bool
+is_texture_until holder serial t = outlives holder t.death && is_kind t.handle.kind texture_kind && (t.handle.serial == serial)
 
--- the textures that a content holds live
-abbrev pub HoldsLive : List Thing → Content → Type 0
-HoldsLive things (frame_buffer_content color depth) = HasLiveTexture things color × IfSome depth (HasLiveTexture things)
-HoldsLive things _ = ⊤
+-- some texture has the serial, and is there as long as what holds it
+abbrev pub HasTextureUntil : List Thing → Option ℕ → ℕ → Type 0
+HasTextureUntil things holder serial = 1 ≤ count_where (is_texture_until holder serial) things
+
+-- the textures that a content holds are there as long as its thing, which dies in a frame or lives
+abbrev pub Holds : List Thing → Option ℕ → Content → Type 0
+Holds things death (frame_buffer_content color depth) = HasTextureUntil things death color × IfSome depth (HasTextureUntil things death)
+Holds things death _ = ⊤
 
 -- what the calls keep of their state
 pub record IsLawful (r : Resources) : Type 0 where
@@ -57,5 +63,5 @@ pub record IsLawful (r : Resources) : Type 0 where
   -- the waiting indices are those of the dead things, with their deaths
   pub waits : (k : Kind) (index : ℕ) (p : ℕ → Bool) → count_where (waits_at index p) (book_of r k).waiting ≡ count_where (dies_at k index p) r.things
   pub past : AllByRecursion (λ t. IfSome t.death (λ d. d ≤ r.frame)) r.things
-  -- the textures of a live frame buffer live
-  pub attached : AllByRecursion (λ t. t.death ≡ None → HoldsLive r.things t.content) r.things
+  -- the textures of a frame buffer are there as long as it is: those of a live one live
+  pub attached : AllByRecursion (λ t. Holds r.things t.death t.content) r.things

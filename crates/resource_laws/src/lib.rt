@@ -17,7 +17,7 @@ pub fn bare_start_law()
 {}
 
 /// An opening state is lawful: at most one thing stands at a place, serials ascend, a free index has no thing, the
-/// waiting indices are those of dead things, and the textures of a live frame buffer live.
+/// waiting indices are those of dead things, and the textures of a frame buffer are there as long as it is.
 pub fn opening_law()
     ensures { OpeningLaw }
 {}
