@@ -1,0 +1,7 @@
+pub mod FieldLaws
+pub mod Runs
+pub mod Frames
+pub mod Greedy
+pub mod Whole
+pub mod Loops
+pub mod Shown

@@ -1,0 +1,5 @@
+pub mod Film
+pub mod Capture
+pub mod Fault
+pub mod Gives
+pub mod Spelling
