@@ -11,6 +11,7 @@ use Rattle.frame_swap.specs.declared.ends.RenderEnd.{RenderEnd}
 abbrev pub api_table : ApiEnd → TableId
 api_table e = e.seat.table_id
 
+-- the table of the render end
 abbrev pub render_table : RenderEnd → TableId
 render_table e = e.seat.table_id
 
@@ -18,14 +19,18 @@ render_table e = e.seat.table_id
 abbrev pub api_knows : ApiEnd → SwapView
 api_knows e = e.seat.me.0
 
+-- what the render end knows
 abbrev pub render_knows : RenderEnd → SwapView
 render_knows e = e.seat.me.0
 
+-- the frames that the API end has given, in order
 abbrev pub given_by : ApiEnd → List Frame
 given_by e = e.seat.me.0.given
 
+-- the frames that came back to it, in order
 abbrev pub back_by : ApiEnd → List RenderedFrame
 back_by e = e.seat.me.0.back
 
+-- how many frames can be out
 abbrev pub latency_of : ApiEnd → ℕ
 latency_of e = e.latency

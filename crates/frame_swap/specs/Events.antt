@@ -29,6 +29,7 @@ use Rattle.frame_swap.specs.contracts.view.PartJoinView.TheImpl.{ghosts as unite
 
 -- ---- what a table stands for
 
+-- the table: its words, its slots and the views of its ends
 abbrev pub Table : Type 0
 Table = TableState Slot SwapView
 
@@ -162,6 +163,7 @@ pub record PartsHold (latency : ℕ) (m : State) : Type 0 where
   pub taken : IsPrefix m.taken m.given
   pub few : length (out m) ≤ latency
 
+-- what stands for a state under the rule keeps the parts of the schedule's invariant
 abbrev pub RuleKeepsParts : Type 0
 RuleKeepsParts = (latency : ℕ) (s : Table) (m : State) → IsHeld latency s → StandsFor s m → PartsHold latency m
 
@@ -174,14 +176,17 @@ IsPlayed then = (latency slots id : ℕ) (v : SwapView) (hand : Slots) (at : Ste
     → (s : Table) → IsHeld latency s → length s.homes ≡ slots → get_elem? s.views id ≡ some v → slice_index s.words at.word < 18446744073709551616
     → (t : Table) × IsHeld latency t × Plays then id v hand at (tells (slice_index s.words at.word)) s t
 
+-- a split that the table's base admits leaves the rule, and is a cut
 abbrev pub IsCut : (SwapView → SwapView) → (SwapView → SwapView) → Type 0
 IsCut left right = (latency id : ℕ) (v : SwapView) → Splits (IsHeld latency) id v (left v) (right v)
     → (s : Table) → IsHeld latency s → get_elem? s.views id ≡ some v → (t : Table) × IsHeld latency t × Cuts left right id v s t
 
+-- a join that the base admits leaves the rule, and takes the other seat in
 abbrev pub IsTakenIn : (SwapView → SwapView → SwapView) → SwapView → Type 0
 IsTakenIn both spent = (latency id : ℕ) (v : SwapView) (other : ℕ) (w : SwapView) → Joins (IsHeld latency) id v other w (both v w) spent
     → (s : Table) → IsHeld latency s → get_elem? s.views id ≡ some v → ¬ (other ≡ id) → get_elem? s.views other ≡ some w → (t : Table) × IsHeld latency t × TakesIn both spent id v other w s t
 
+-- each kind of step is played so
 abbrev pub AllArePlayed : Type 0
 AllArePlayed = IsPlayed claim_kind.then × IsPlayed give_kind.then × IsPlayed take_kind.then × IsPlayed return_kind.then × IsPlayed back_kind.then
     × IsPlayed stop_kind.then × IsPlayed learn_kind.then × IsPlayed take_here_kind.then × IsPlayed back_here_kind.then

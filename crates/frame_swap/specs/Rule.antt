@@ -115,6 +115,7 @@ pub record IsRing (latency : ℕ) (phases : List Phase) (views : List SwapView) 
   pub seat : ℕ
   pub kept : Kept latency me returned in_hand waiting coming seat phases views
 
+-- the rule: words and slots stand for one list of phases round the ring, and what the ends know is the history of it
 pub record IsHeld (latency : ℕ) (s : State Slot SwapView) : Type 0 where
   pub phases : List Phase
   pub words : s.words ≡ map code phases

@@ -1,5 +1,5 @@
 // A thread that renders, at each latency.
-ghost use Rattle.std.specs.Prelude.{◌≡◌, ◌≤◌, []};
+ghost use Rattle.std.specs.Prelude.{◌≡◌, ◌+◌, ◌≤◌, [], length, IfOk};
 ghost use Rattle.frame_record.specs.Links.{frames_of};
 ghost use Rattle.frame_swap.specs.Ends.{api_table, api_knows, render_table, render_knows};
 
@@ -122,5 +122,80 @@ fn a_thread_renders_at_each_latency(rt: HostRuntime) -> Result<(), Fail> {
         assert!(rt; came.0 == (3, Some(3), Outcome::Shown));
         assert!(rt; came.1 == (4, Some(4), Outcome::Skipped));
     }
+    Ok(())
+}
+
+// The render end takes one frame and gives it back with an outcome.
+fn pass<R: Wait>(rt: &R, end: &mut RenderEnd, outcome: Outcome) -> bool
+    requires { (render_knows end.old).taken ≡ frames_of (render_knows end.old).returned }
+    ensures table { render_table end.new ≡ render_table end.old }
+    ensures none_held { (render_knows end.new).taken ≡ frames_of (render_knows end.new).returned }
+{
+    let Some(frame) = end.take(rt) else {
+        return false;
+    };
+    end.give_back(RenderedFrame { frame, outcome });
+    true
+}
+
+// With two frames out, the oldest comes back and the next is given.
+fn turn<R: Threads + Wait + Sync>(rt: &R, api: &mut ApiEnd, next: Frame) -> Came
+    requires out { length (api_knows api.old).given ≡ length (api_knows api.old).back + 2 }
+    requires latency { 3 ≤ api.old.latency }
+    ensures table { (api_table api.new ≡ api_table api.old) × (api.new.latency ≡ api.old.latency) }
+    ensures out { length (api_knows api.new).given ≡ length (api_knows api.new).back + 2 }
+{
+    let back = api.take_back(rt);
+    api.give(rt, next);
+    seen(&back)
+}
+
+// No frame comes back yet.
+fn none_back(api: &mut ApiEnd) -> Result<(), &'static str>
+    ensures table { (api_table api.new ≡ api_table api.old) × (api.new.latency ≡ api.old.latency) }
+    ensures lists { IfOk result (λ _. ((api_knows api.new).given ≡ (api_knows api.old).given) × ((api_knows api.new).back ≡ (api_knows api.old).back)) }
+{
+    match api.try_take_back() {
+        None => Ok(()),
+        Some(_) => Err("a frame came back"),
+    }
+}
+
+// No frame was given yet.
+fn none_given(end: &mut RenderEnd) -> Result<(), &'static str>
+    requires { (render_knows end.old).taken ≡ frames_of (render_knows end.old).returned }
+    ensures table { render_table end.new ≡ render_table end.old }
+    ensures lists { IfOk result (λ _. (render_knows end.new).taken ≡ frames_of (render_knows end.new).returned) }
+{
+    match end.try_take() {
+        Err(_) => Ok(()),
+        Ok(_) => Err("a frame was given, or the stop"),
+    }
+}
+
+#[test]
+fn two_frames_out_of_three(rt: HostRuntime) -> Result<(), Fail> {
+    let (mut api, mut end) = swap_pair(rt.alloc(), 3)?;
+    none_back(&mut api)?;
+    none_given(&mut end)?;
+    api.give(&rt, frame(&rt, 3)?);
+    api.give(&rt, frame(&rt, 4)?);
+    assert!(rt; pass(&rt, &mut end, Outcome::Shown));
+    let first = turn(&rt, &mut api, frame(&rt, 5)?);
+    assert!(rt; pass(&rt, &mut end, Outcome::PictureFault));
+    assert!(rt; pass(&rt, &mut end, Outcome::Skipped));
+    let second = turn(&rt, &mut api, frame(&rt, 6)?);
+    let third = turn(&rt, &mut api, frame(&rt, 7)?);
+    assert!(rt; pass(&rt, &mut end, Outcome::OutOfMemory));
+    assert!(rt; pass(&rt, &mut end, Outcome::Skipped));
+    let fourth = api.take_back(&rt);
+    let fifth = api.take_back(&rt);
+    assert!(rt; first == (3, Some(3), Outcome::Shown));
+    assert!(rt; second == (4, Some(4), Outcome::PictureFault));
+    assert!(rt; third == (5, Some(5), Outcome::Skipped));
+    assert!(rt; seen(&fourth) == (6, Some(6), Outcome::OutOfMemory));
+    assert!(rt; seen(&fifth) == (7, Some(7), Outcome::Skipped));
+    api.stop();
+    assert!(rt; end.take(&rt).is_none());
     Ok(())
 }
