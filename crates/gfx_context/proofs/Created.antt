@@ -13,7 +13,7 @@ use Rattle.resource_laws.proofs.CallLaws.{all_passed}
 use Rattle.resource_book.specs.Written.{BookView, after_in}
 use Rattle.gfx_context.specs.Kept.{IsTied, IsNext, AreTargets, IsContext}
 use Rattle.gfx_model.specs.Views.{View}
-use Rattle.gfx_context.proofs.Targets.{targets_stay}
+use Rattle.gfx_context.proofs.Stays.{targets_stay}
 use Rattle.gfx_context.specs.States.{ContextView}
 use Rattle.gfx_context.specs.Calls.{IsPlacedBy, Makes}
 use Rattle.gfx_context.proofs.Stays.{stays_unnamed, free_unnamed}

@@ -18,7 +18,7 @@ use Rattle.gfx_context.specs.States.{ContextView}
 use Rattle.gfx_context.specs.Calls.{destroyed}
 use Rattle.gfx_context.proofs.Stays.{stays_named, dying_named}
 use Rattle.gfx_context.proofs.Moves.{kept_moved, kept_same}
-use Rattle.gfx_context.proofs.Targets.{targets_stay}
+use Rattle.gfx_context.proofs.Stays.{targets_stay}
 use Rattle.resource_book.specs.Written.{BookView, after_in}
 use Rattle.resource_book.specs.Answered.{HasLiveThing}
 use Rattle.resource_laws.specs.Lawful.{IsLawful}

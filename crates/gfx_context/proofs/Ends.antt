@@ -14,9 +14,10 @@ use Rattle.resource_book.specs.Written.{BookView}
 use Rattle.gfx_context.specs.Places.{Stays}
 use Rattle.gfx_context.specs.Gathered.{AreCollected, AreGathered, once_below, with_gathered}
 use Rattle.gfx_context.specs.Kept.{IsTied, IsNext, AreOut, AreTargets, IsContext}
-use Rattle.gfx_model.specs.Views.{View}
+use Rattle.gfx_model.specs.Views.{View, Views}
 use Rattle.resource_laws.specs.Lawful.{IsLawful}
-use Rattle.gfx_context.proofs.Targets.{targets_stay, live_targets}
+use Rattle.gfx_context.proofs.Targets.{live_targets}
+use Rattle.gfx_context.proofs.Stays.{targets_stay}
 use Rattle.gfx_context.specs.States.{ContextView}
 use Rattle.gfx_context.specs.Ended.{GivesWork}
 use Rattle.gfx_model.specs.Frames.{collected}
@@ -64,7 +65,7 @@ module _ {L : Type 0} (admits : ℕ → ℕ → List Item → ℕ → Type 0) (v
 -- ---- a frame is given
 
 module _ {L : Type 0} (admits : ℕ → ℕ → List Item → ℕ → Type 0) (views : ℕ) (v : ContextView L) (k : IsContext admits views v) (f : Frame) (given : List Frame) (back : List RenderedFrame) (b : BookView) (s : SeatView) (rs : List Recording) (link : L)
-    (is : given ≡ v.given ++ f ∷ []) (same_back : back ≡ v.back) (empty : rs ≡ []) (number : f.number ≡ v.book.resources.frame) (recordings : f.recordings.items ≡ v.gathered)
+    (is : given ≡ v.given ++ f ∷ []) (same_back : back ≡ v.back) (empty : rs ≡ []) (number : f.number ≡ v.book.resources.frame) (recordings : f.recordings.items ≡ v.gathered) (same_views : f.views ≡ v.book.resources.views)
     (book : b ≡ record v.book { resources = model.start_frame (v.book.resources.frame + 1) v.book.resources }) (seat : s ≡ record (advanced s.base v.seat) { places = s.places }) where
   resources : b.resources ≡ model.start_frame (v.book.resources.frame + 1) v.book.resources
   resources = ap (λ (x : BookView). x.resources) book
@@ -72,6 +73,7 @@ module _ {L : Type 0} (admits : ℕ → ℕ → List Item → ℕ → Type 0) (v
   given_out : AreOut admits views v.seat.places (suc v.seat.frame) (v.out + 1) given v.back
   given_out = out_given admits views v.seat.places v.seat.frame v.given v.back v.out given f k.frames is (number ∙ k.tied.frame)
       (subst (λ (rs : List Recording). AreCollected admits views v.seat.frame v.seat.places rs) (sym recordings) k.gathered.collected)
+      (subst (λ (vs : Views). AreTargets v.seat.frame v.seat.places vs.settings) (sym same_views) k.targets)
 
   none_gathered : v.seat.off ≡ [] → AreGathered admits views s 0 []
   none_gathered none =

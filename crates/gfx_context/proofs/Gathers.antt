@@ -18,6 +18,8 @@ use Rattle.draw_encoder.specs.Bundles.{items_of, BelongTogether}
 use Rattle.draw_encoder.proofs.NameLaws.{item_fits, uniforms_fit}
 use Rattle.frame_record.specs.Kept.{numbers_in}
 use Rattle.gfx_context.specs.Places.{IsUsable}
+use Rattle.gfx_context.specs.States.{ContextView}
+use Rattle.gfx_context.specs.Ended.{Collects}
 use Rattle.gfx_context.specs.Gathered.{encoders_in, IsCollected, AreCollected, AreGathered, AreOfFrame, with_gathered, dropped_in}
 
 pub numbers_snoc : (rs : List Recording) (r : Recording) → numbers_in (rs ++ r ∷ []) ≡ numbers_in rs ++ numbers_of r.items
@@ -71,6 +73,10 @@ module _ (admits : ℕ → ℕ → List Item → ℕ → Type 0) (views : ℕ) (
             (all-snoc (IsCollected admits views v.frame v.places) rs r g.collected (collected_now admits views v r seat b frame named admitted));
       }
 
+-- nothing more was gathered
+pub none_more : (rs : List Recording) → (more : List Recording) × (rs ≡ rs ++ more)
+none_more rs = ([], sym (append-nil rs))
+
 -- ---- none is off
 
 length_none : {A : Type 0} (xs : List A) → length xs ≡ 0 → xs ≡ []
@@ -86,6 +92,19 @@ of_frame admits views seat old begun rs g none same = record {
   once = (λ e. let a = ap (count_of e) none in let b = g.once e in omega arith);
   collected = subst (λ (x : SeatView). AreCollected admits views x.frame x.places rs) same g.collected;
 }
+
+module _ {L : Type 0} (admits : ℕ → ℕ → List Item → ℕ → Type 0) (views : ℕ) (v : ContextView L) (s : SeatView) (rs : List Recording) where
+  -- the bundles of a frame are collected, and what was collected stays
+  pub collects_told : AreGathered admits views s v.begun rs → s.off ≡ [] → (more : List Recording) × (rs ≡ v.gathered ++ more) → s ≡ with_gathered s v.seat → (old : ContextView L) → v ≡ old
+      → Collects admits views old (record v { seat = s; gathered = rs })
+  collects_told g none kept same old e = subst (λ (o : ContextView L). Collects admits views o (record v { seat = s; gathered = rs })) e (record {
+    none_off = none;
+    more = kept.0;
+    kept = kept.1;
+    recordings = of_frame admits views s v.seat v.begun rs g none same;
+    seat = same;
+    same = refl;
+  })
 
 -- a join leaves all else as it was
 pub same_still : (v new old : SeatView) (seat : EncSeat) → new ≡ joined_with v (enc_view seat) → v ≡ with_gathered v old → new ≡ with_gathered new old

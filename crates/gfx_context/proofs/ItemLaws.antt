@@ -21,7 +21,7 @@ use Rattle.gfx_model.specs.Views.{View}
 use Rattle.gfx_context.specs.Laws.{IsOwn, OwnTarget, ItemsLaw, TargetsLaw}
 use Rattle.gfx_context.proofs.Tied.{found_bare}
 
-both : (b c : Bool) → b && c ≡ true → (b ≡ true) × (c ≡ true)
+pub both : (b c : Bool) → b && c ≡ true → (b ≡ true) × (c ≡ true)
 both true true e = (refl, refl)
 both true false e = absurd cc
 both false c e = absurd cc

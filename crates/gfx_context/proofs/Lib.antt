@@ -16,3 +16,4 @@ pub mod Frames
 pub mod Closings
 pub mod Targets
 pub mod ItemLaws
+pub mod Attached

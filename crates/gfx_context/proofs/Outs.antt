@@ -9,7 +9,7 @@ use Rattle.frame_record.specs.declared.frame.Frame.{Frame}
 use Rattle.frame_record.specs.declared.frame.RenderedFrame.{RenderedFrame}
 use Rattle.frame_record.specs.Links.{frames_of, out_of, CameBack}
 use Rattle.gfx_context.specs.Gathered.{AreCollected}
-use Rattle.gfx_context.specs.Kept.{KeepsNames, AreOut}
+use Rattle.gfx_context.specs.Kept.{KeepsNames, AreOut, AreTargets}
 use Rattle.gfx_context.proofs.Stays.{rest_of}
 
 range_snoc : (a n : ℕ) → range_with_len a (suc n) ≡ range_with_len a n ++ (a + n) ∷ []
@@ -30,9 +30,9 @@ module _ (admits : ℕ → ℕ → List Item → ℕ → Type 0) (views : ℕ) (
         names = (subst (AllByRecursion (KeepsNames admits views places)) c.oldest o.names).1;
       }
 
-  pub out_given : (out : ℕ) (now : List Frame) (f : Frame) → AreOut admits views places frame out given back → now ≡ given ++ f ∷ [] → f.number ≡ frame → AreCollected admits views frame places f.recordings.items
+  pub out_given : (out : ℕ) (now : List Frame) (f : Frame) → AreOut admits views places frame out given back → now ≡ given ++ f ∷ [] → f.number ≡ frame → AreCollected admits views frame places f.recordings.items → AreTargets frame places f.views.settings
       → AreOut admits views places (suc frame) (out + 1) now back
-  out_given out now f o is number names =
+  out_given out now f o is number names targets =
       let le : length back ≤ length given = (let m = o.counted in omega arith) in
       let outs : out_of now back ≡ out_of given back ++ f ∷ [] = ap (λ l. out_of l back) is ∙ drop-append-le (length back) given (f ∷ []) le in
       let some = o.some in
@@ -46,5 +46,6 @@ module _ (admits : ℕ → ℕ → List Item → ℕ → Type 0) (views : ℕ) (
         numbers = ap (map (λ x. x.number)) outs ∙ map-append (λ x. x.number) (out_of given back) (f ∷ []) ∙ (λ j. o.numbers j ++ (number ∙ sym last) j ∷ []) ∙ sym (range_snoc (frame - out) out)
             ∙ (λ j. range_with_len (sym from j) (suc out)) ∙ ap (λ (n : ℕ). range_with_len (suc frame - n) n) more;
         names = subst (AllByRecursion (KeepsNames admits views places)) (sym outs)
-            (all-snoc (KeepsNames admits views places) (out_of given back) f o.names (subst (λ (n : ℕ). AreCollected admits views n places f.recordings.items) (sym number) names));
+            (all-snoc (KeepsNames admits views places) (out_of given back) f o.names
+            (record { recordings = subst (λ (n : ℕ). AreCollected admits views n places f.recordings.items) (sym number) names; targets = subst (λ (n : ℕ). AreTargets n places f.views.settings) (sym number) targets }));
       }

@@ -1,11 +1,12 @@
 -- What can be named stays so.
-use Rattle.std.proofs.Common.{◌≡◌, ◌≢◌, ℕ, zero, suc, length, ◌+◌, ◌<◌, ◌≤◌, ◌==◌, ◌&&◌, Bool, true, false, List, [], ◌∷◌, refl, sym, ap, ◌∙◌, subst, arith, IsTrue, map, slice_set}
+use Rattle.std.proofs.Common.{◌≡◌, ◌≢◌, ℕ, zero, suc, length, ◌+◌, ◌<◌, ◌≤◌, ◌==◌, ◌&&◌, Bool, true, false, List, [], ◌∷◌, Option, Some, None, refl, sym, ap, ◌∙◌, subst, arith, IsTrue, map, slice_set}
 use Rattle.std.proofs.lemmas.Bool.{le-leb, true≢false}
 use Rattle.std.specs.List.{AllByRecursion, range_with_len}
 use mathlib.Core.Logic.{dite}
 use native.Mathlib.Decide.{ℕ_discrete}
 use Rattle.schedule_model.proofs.Lists.{all-map}
 use Rattle.gfx_model.specs.Words.{Handle, place_of_handle}
+use Rattle.gfx_model.specs.Views.{View}
 use Rattle.gfx_model.specs.World.{Item}
 use Rattle.schedule_model.specs.Machine.{Place, free, live, dying, place_at, has_usable}
 use Rattle.hold_table.proofs.PlaceLaws.{place-set, place-else}
@@ -17,7 +18,14 @@ use Rattle.draw_encoder.proofs.NameLaws.{item_fits, uniforms_fit}
 use Rattle.frame_record.specs.declared.frame.Frame.{Frame}
 use Rattle.gfx_context.specs.Places.{IsUsable, Stays}
 use Rattle.gfx_context.specs.Gathered.{IsCollected, AreCollected}
-use Rattle.gfx_context.specs.Kept.{KeepsNames}
+use Rattle.gfx_context.specs.Kept.{IsTarget, AreTargets, KeepsNames}
+
+target_stays : (frame : ℕ) (old new : List Place) → Stays frame old new → (o : Option Handle) → IsTarget frame old o → IsTarget frame new o
+target_stays frame old new s None t = tt
+target_stays frame old new s (Some h) t = (t.0, s h t.1)
+
+pub targets_stay : (frame : ℕ) (old new : List Place) → Stays frame old new → (vs : List View) → AreTargets frame old vs → AreTargets frame new vs
+targets_stay frame old new s vs a = all-map (λ view. IsTarget frame old view.target) (λ view. IsTarget frame new view.target) (λ view t. target_stays frame old new s view.target t) vs a
 
 abbrev pub first_of : List ℕ → ℕ
 first_of [] = 0
@@ -49,8 +57,9 @@ module _ (admits : ℕ → ℕ → List Item → ℕ → Type 0) (views : ℕ) (
   frames_stay from zero s (f ∷ fs) e a = absurd (let l = ap length e in omega arith)
   frames_stay from (suc count) s (f ∷ fs) e a =
       let first : f.number ≡ from = ap first_of e in
-      let rest : map (λ f. f.number) fs ≡ range_with_len (from + 1) count = ap rest_of e in (
-        all_stay f.number (s f.number (omega (arith, first)) (omega (arith, first))) f.recordings.items a.0,
+      let rest : map (λ f. f.number) fs ≡ range_with_len (from + 1) count = ap rest_of e in
+      let stays : Stays f.number old new = s f.number (omega (arith, first)) (omega (arith, first)) in (
+        record { recordings = all_stay f.number stays f.recordings.items a.0.recordings; targets = targets_stay f.number old new stays f.views.settings a.0.targets },
         frames_stay (from + 1) count (λ n le lt. s n (omega (arith, le)) (omega (arith, lt))) fs rest a.1,
       )
 

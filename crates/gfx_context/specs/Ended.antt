@@ -28,9 +28,12 @@ use Rattle.gfx_context.specs.States.{ContextView, state_of}
 
 -- ---- the bundles of a frame
 
--- no encoder of the frame is off, the recordings are those of exactly the encoders that were begun, and nothing else changed
+-- no encoder of the frame is off, the recordings are those of exactly the encoders that were begun, what was collected before stays before the others,
+-- and nothing else changed
 pub record Collects {L : Type 0} (admits : ℕ → ℕ → List Item → ℕ → Type 0) (views : ℕ) (old new : ContextView L) : Type 0 where
   pub none_off : new.seat.off ≡ []
+  pub more : List Recording
+  pub kept : new.gathered ≡ old.gathered ++ more
   pub recordings : AreOfFrame admits views old.seat.frame old.seat.places old.begun new.gathered
   pub seat : new.seat ≡ with_gathered new.seat old.seat
   pub same : new ≡ record old { seat = new.seat; gathered = new.gathered }

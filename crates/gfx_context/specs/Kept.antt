@@ -22,18 +22,6 @@ pub record IsTied (r : Resources) (seat : SeatView) : Type 0 where
   pub frame : r.frame ≡ seat.frame
   pub most : seat.frame ≤ 1073741823
 
--- each thing that a frame names can be named in that frame still
-abbrev pub KeepsNames : (admits : ℕ → ℕ → List Item → ℕ → Type 0) (views : ℕ) (places : List Place) → Frame → Type 0
-KeepsNames admits views places f = AreCollected admits views f.number places f.recordings.items
-
--- the frames that are out are those just before this one, and what they name is in its place
-pub record AreOut (admits : ℕ → ℕ → List Item → ℕ → Type 0) (views : ℕ) (places : List Place) (frame out : ℕ) (given : List Frame) (back : List RenderedFrame) : Type 0 where
-  pub counted : length given ≡ length back + out
-  pub prefix : given ≡ frames_of back ++ out_of given back
-  pub some : out ≤ frame
-  pub numbers : map (λ f. f.number) (out_of given back) ≡ range_with_len (frame - out) out
-  pub names : AllByRecursion (KeepsNames admits views places) (out_of given back)
-
 -- a target is the back buffer, or a frame buffer that can be named in the frame
 abbrev pub IsTarget : ℕ → List Place → Option Handle → Type 0
 IsTarget frame places None = ⊤
@@ -42,6 +30,19 @@ IsTarget frame places (Some h) = IsTrue (is_kind h.kind frame_buffer_kind) × Is
 -- the targets of views
 abbrev pub AreTargets : ℕ → List Place → List View → Type 0
 AreTargets frame places vs = AllByRecursion (λ view. IsTarget frame places view.target) vs
+
+-- each thing that a frame names can be named in that frame still: those that its recordings name, and the targets of its views
+pub record KeepsNames (admits : ℕ → ℕ → List Item → ℕ → Type 0) (views : ℕ) (places : List Place) (f : Frame) : Type 0 where
+  pub recordings : AreCollected admits views f.number places f.recordings.items
+  pub targets : AreTargets f.number places f.views.settings
+
+-- the frames that are out are those just before this one, and what they name is in its place
+pub record AreOut (admits : ℕ → ℕ → List Item → ℕ → Type 0) (views : ℕ) (places : List Place) (frame out : ℕ) (given : List Frame) (back : List RenderedFrame) : Type 0 where
+  pub counted : length given ≡ length back + out
+  pub prefix : given ≡ frames_of back ++ out_of given back
+  pub some : out ≤ frame
+  pub numbers : map (λ f. f.number) (out_of given back) ≡ range_with_len (frame - out) out
+  pub names : AllByRecursion (KeepsNames admits views places) (out_of given back)
 
 -- the next serial is one more than the greatest that was given, or none was given and it is the first
 abbrev pub IsNext : (next greatest first : ℕ) → Type 0

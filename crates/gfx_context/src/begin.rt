@@ -1,5 +1,5 @@
 // How encoders begin.
-ghost use Rattle.std.specs.Prelude.{◌≡◌};
+ghost use Rattle.std.specs.Prelude.{◌≡◌, false};
 ghost use Rattle.gfx_model.specs.FrameCalls.{is_room};
 ghost use Rattle.draw_encoder.specs.Seen.{room_seen};
 
@@ -18,9 +18,10 @@ impl<'t, C: Naming, L: FrameLink + Drop> Context<'t, C, L> {
     ghost use Rattle.draw_encoder.specs.Seen.{room_seen};
     ghost use Rattle.gfx_context.specs.Calls.{IsBegin};
 
-    /// Begins an encoder of this frame. `BadSize` exactly where the room is outside its limits; then `NoEncoder` exactly where
+    /// Begins an encoder of this frame; the context is not ended. `BadSize` exactly where the room is outside its limits; then `NoEncoder` exactly where
     /// eight were begun in this frame. After want of memory all is as before.
     pub fn begin(&mut self, room: Room) -> Result<Encoder<'t, C>, Refusal>
+        requires running { self.old.is_ended ≡ false }
         ensures { IsBegin result (room_seen room) self.old self.new }
     {
         if !is_within(room) {

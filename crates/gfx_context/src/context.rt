@@ -20,7 +20,10 @@ pub(crate) const MOST_ENCODERS: usize = 8;
 
 /// The state of the calls of one thread, with its seat of the named table and the link to which its frames go.
 ///
-/// It is ended exactly after a frame that was not given and after want of memory in `frame`; then `shutdown` is all that is of use.
+/// It is ended exactly after a frame that was not given and after want of memory in `frame`; then no encoder begins and no frame ends,
+/// and `shutdown` is all that is of use.
+///
+/// What a frame that is out names stays in its place: the things that its recordings name, and the targets of its views.
 /// Contracts see a `ContextView`.
 #[derive(Drop)]
 pub struct Context<'t, C: Naming, L: FrameLink + Drop> {

@@ -1,5 +1,5 @@
 // The end of a frame.
-ghost use Rattle.std.specs.Prelude.{◌≡◌, ◌<◌, ◌≤◌, ◌+◌, [], ℕ, map, length, true, vec_capacity, MatchResult, MatchOption, IfOk};
+ghost use Rattle.std.specs.Prelude.{◌≡◌, ◌<◌, ◌≤◌, ◌+◌, [], ℕ, map, length, true, false, vec_capacity, MatchResult, MatchOption, IfOk};
 ghost use Rattle.gfx_model.specs.Frames.{collected};
 ghost use Rattle.gfx_model.specs.Resources as model;
 ghost use Rattle.schedule_model.specs.Held.{count_of};
@@ -122,6 +122,7 @@ impl<'t, C: Naming, L: FrameLink + Drop> Context<'t, C, L> {
         requires out { self.old.out < self.old.book.resources.latency }
         requires last { self.old.book.resources.frame < 1073741823 }
         requires taken { self.old.book.post ≡ [] }
+        requires views { work.views ≡ self.old.book.resources.views }
         requires room { (room.items ≡ []) × (8 ≤ vec_capacity room) }
         requires journal { map entry_seen journal.items ≡ collected (recordings_seen self.old.gathered) }
         ensures gives { GivesWork work self.old self.new }
@@ -154,6 +155,7 @@ impl<'t, C: Naming, L: FrameLink + Drop> Context<'t, C, L> {
         requires out { given ≡ true → self.old.out < self.old.book.resources.latency }
         requires last { self.old.book.resources.frame < 1073741823 }
         requires taken { self.old.book.post ≡ [] }
+        requires views { prepared.work.views ≡ self.old.book.resources.views }
         requires room { (prepared.room.items ≡ []) × (8 ≤ vec_capacity prepared.room) }
         requires journal { map entry_seen prepared.journal.items ≡ collected (recordings_seen self.old.gathered) }
         ensures told { result ≡ prepared.told }
@@ -175,11 +177,13 @@ impl<'t, C: Naming, L: FrameLink + Drop> Context<'t, C, L> {
     }
 
     /// Ends the frame whose bundles are all collected: takes the oldest frame that is out back where as many are out as may be,
-    /// gives this frame, and starts the next one. Where the frame that came back was not shown, this one is not given.
+    /// gives this frame, and starts the next one. Where the frame that came back was not shown, this one is not given, and the
+    /// context is ended. It is called where the context is not ended.
     ///
     /// `FramesSpent` exactly where the number is 1,073,741,823. After want of memory nothing came back or was given, and the
     /// context is ended.
     pub fn end<R: Threads + Wait + Sync>(&mut self, rt: &R) -> Result<FrameReport, Refusal>
+        requires running { self.old.is_ended ≡ false }
         requires none_off { self.old.seat.off ≡ [] }
         ensures answer { IsEnd result self.old self.new }
         ensures origin { L.origin self.new.link ≡ L.origin self.old.link }
@@ -207,11 +211,13 @@ impl<'t, C: Naming, L: FrameLink + Drop> Context<'t, C, L> {
 
     /// Ends the frame: collects the bundle of each encoder that was begun in it, and waits for those that have not ended; then
     /// takes the oldest frame that is out back where as many are out as may be, gives this frame, and starts the next one. Where
-    /// the frame that came back was not shown, this one is not given, and the context is ended.
+    /// the frame that came back was not shown, this one is not given, and the context is ended. It is called where the context is
+    /// not ended.
     ///
     /// The bundles are collected whatever is answered. `FramesSpent` exactly where the number is 1,073,741,823. After want of
     /// memory nothing came back or was given, and the context is ended.
     pub fn frame<R: Threads + Wait + Sync>(&mut self, rt: &R) -> Result<FrameReport, Refusal>
+        requires running { self.old.is_ended ≡ false }
         ensures answer { CollectsAndEnds C.admits C.views result self.old self.new }
         ensures origin { L.origin self.new.link ≡ L.origin self.old.link }
     {

@@ -1,7 +1,8 @@
 // The bundle of each encoder is collected once.
-ghost use Rattle.std.specs.Prelude.{◌≡◌, ℕ, suc, ◌<◌, ◌≤◌, ◌++◌, ◌∷◌, [], length, vec_len, vec_capacity};
+ghost use Rattle.std.specs.Prelude.{◌≡◌, ℕ, List, suc, ◌<◌, ◌≤◌, ◌++◌, ◌∷◌, [], length, vec_len, vec_capacity};
 ghost use Rattle.hold_table.specs.Seats.{api_table, api_view, enc_view};
 ghost use Rattle.hold_table.specs.Views.{joined_with};
+ghost use Rattle.draw_encoder.specs.declared.items.Recording.{Recording};
 ghost use Rattle.gfx_context.specs.Gathered.{AreGathered, dropped_in, with_gathered};
 
 use crate::context::Context;
@@ -23,6 +24,7 @@ fn gather<C: Naming>(
     ensures room { vec_capacity gathered.new ≡ vec_capacity gathered.old }
     ensures more { vec_len gathered.new ≡ suc (vec_len gathered.old) }
     ensures seat { api_view api.new ≡ joined_with (api_view api.old) (enc_view bundle.1) }
+    ensures kept { gathered.new.items ≡ gathered.old.items ++ bundle.0 ∷ [] }
     ensures gathered { (begun : ℕ) → AreGathered C.admits C.views (api_view api.old) begun gathered.old.items → AreGathered C.admits C.views (api_view api.new) begun gathered.new.items }
 {
     let (recording, seat) = bundle.part();
@@ -44,6 +46,7 @@ fn gather_all<C: Naming, R: Wait>(
     ensures table { api_table api.new ≡ C.table }
     ensures room { 8 ≤ vec_capacity gathered.new }
     ensures none_off { (api_view api.new).off ≡ [] }
+    ensures kept { (more : List Recording) × (gathered.new.items ≡ gathered.old.items ++ more) }
     ensures same { api_view api.new ≡ with_gathered (api_view api.new) (api_view api.old) }
     ensures gathered { AreGathered C.admits C.views (api_view api.new) begun gathered.new.items }
 {
@@ -72,7 +75,7 @@ impl<'t, C: Naming, L: FrameLink + Drop> Context<'t, C, L> {
     ghost use Rattle.gfx_context.specs.Ended.{Collects};
 
     /// Collects the bundle of each encoder that was begun in this frame and was not collected, and waits for those that have
-    /// not ended.
+    /// not ended. What was collected before stays as it was.
     pub fn collect<R: Wait>(&mut self, rt: &R)
         ensures { Collects C.admits C.views self.old self.new }
     {

@@ -16,7 +16,7 @@ mod tests;
 mod updates;
 mod views;
 
-ghost use Rattle.gfx_context.specs.Laws.{ItemsLaw, TargetsLaw};
+ghost use Rattle.gfx_context.specs.Laws.{ItemsLaw, TargetsLaw, AttachedLaw};
 
 pub use context::Context;
 pub use draw_encoder::{Encoder, Naming, Room, Shared};
@@ -32,4 +32,10 @@ pub fn items_law()
 /// The targets of a frame's views are frame buffers that live or die in it, where their handles are ones that the context gave.
 pub fn targets_law()
     ensures { TargetsLaw }
+{}
+
+/// In each frame in which a frame buffer can be named, the textures that it holds can be named too. What a context keeps of the
+/// targets of frames that are out, it so keeps of their textures.
+pub fn attached_law()
+    ensures { AttachedLaw }
 {}

@@ -110,6 +110,26 @@ fn begun<'t, C: Naming>(
     Context::init(alloc, shared, seat, link, start).ok()
 }
 
+// The answer to a begin, and to the end of a frame, where the context is not ended.
+fn begun_one<'t, C: Naming>(
+    context: &mut Context<'t, C, ListLink>,
+) -> Option<Result<Encoder<'t, C>, Refusal>> {
+    if context.is_ended() {
+        return None;
+    }
+    Some(context.begin(ROOM))
+}
+
+fn ended<C: Naming, R: Threads + Wait + Sync>(
+    rt: &R,
+    context: &mut Context<'_, C, ListLink>,
+) -> Option<Result<FrameReport, Refusal>> {
+    if context.is_ended() {
+        return None;
+    }
+    Some(context.frame(rt))
+}
+
 // A program is made and destroyed in frame 0. The indices of the programs that are made in frames 1 to 4.
 fn made_again<C: Naming, R: Threads + Wait + Sync>(
     rt: &R,
@@ -128,7 +148,7 @@ fn made_again<C: Naming, R: Threads + Wait + Sync>(
     context.destroy(first).ok()?;
     let mut indices = [0u16; 4];
     for place in &mut indices {
-        context.frame(rt).ok()?;
+        ended(rt, &mut context)?.ok()?;
         *place = context.create_program(ProgramKind::Solid).ok()?.index();
     }
     Some(indices)
@@ -177,10 +197,10 @@ fn limits<C: Naming, R: Threads + Wait + Sync>(
     context.create_program(ProgramKind::Solid).ok()?;
     let serials = refused(&mut context);
     for _ in 0..8u8 {
-        context.begin(ROOM).ok()?.end(rt, 0);
+        begun_one(&mut context)?.ok()?.end(rt, 0);
     }
-    let ninth = context.begin(ROOM).err();
-    let frames = context.frame(rt).err();
+    let ninth = begun_one(&mut context)?.err();
+    let frames = ended(rt, &mut context)?.err();
     Some([serials, ninth, frames])
 }
 
@@ -238,7 +258,7 @@ fn beside<C: Naming + Send + Sync, R: Threads + Wait + Sync>(
 {
     let shared = Shared::<C>::new(alloc, table).ok()?;
     let mut context = begun(alloc, &shared, seat, 0, 1, 1)?;
-    let mut encoder = context.begin(ROOM).ok()?;
+    let mut encoder = begun_one(&mut context)?.ok()?;
     let (_, report) = thread::join(
         rt,
         || -> ()
@@ -248,9 +268,9 @@ fn beside<C: Naming + Send + Sync, R: Threads + Wait + Sync>(
             let _ = encoder.touch(1);
             encoder.end(rt, 5);
         },
-        || context.frame(rt),
+        || ended(rt, &mut context),
     );
-    let report = report.ok()?;
+    let report = report?.ok()?;
     Some((report.journal.len(), report.dropped))
 }
 
