@@ -1,16 +1,16 @@
 -- The frames of a capture, and the whole of it.
-use Rattle.std.proofs.Common.{◌≡◌, ℕ, zero, suc, ◌+◌, ◌-◌, ◌*◌, ◌^◌, ◌<◌, ◌≤◌, Bool, true, false, cond, eqb, List, [], ◌∷◌, ◌++◌, length, Option, None, Result, Ok, Err, refl, sym, ap, subst, ◌∙◌, append_assoc, append-nil, arith, suc-mul}
+use Rattle.std.proofs.Common.{◌≡◌, ℕ, zero, suc, ◌+◌, ◌*◌, ◌^◌, ◌<◌, ◌≤◌, cond, eqb, List, [], ◌∷◌, ◌++◌, length, None, Result, Ok, Err, refl, sym, ap, ◌∙◌, append_assoc, arith, suc-mul}
 use Rattle.std.specs.Prelude.{flat_map}
 use Rattle.std.specs.List.{AllByRecursion}
-use Rattle.std.specs.Int.{w16, w32, to_le_bytes}
+use Rattle.std.specs.Int.{w32, to_le_bytes}
 use Rattle.std.proofs.lemmas.Bool.{eqb-true, eq-eqb}
 use Rattle.std.proofs.lemmas.List.{length-append}
 use Rattle.frame_capture.specs.declared.run.Color.{Color}
-use Rattle.frame_capture.specs.Film.{Film, color_bytes, text_head, text_length, texts, CanBeCaptured}
-use Rattle.frame_capture.specs.Capture.{run_bytes, run_pixels, AreRuns, AreRunsOf, AreFrames, IsCapture}
-use Rattle.frame_capture.specs.Fault.{◌>>=◌, Fault, Head, number_at, runs_at, frame_at, frames_at, behind_frames, ended, head_at, shown, misplaced, too_much}
-use Rattle.frame_capture.proofs.FieldLaws.{IsBytes, bind_ok, if_so, ok_is, Takes, Takes-then, wide32, number_takes, number_again, head_bytes, IsHead, head_takes, head_again}
-use Rattle.frame_capture.proofs.Runs.{TakesRuns, runs-take, runs-again}
+use Rattle.frame_capture.specs.Film.{Film, color_bytes, text_head, text_length, texts}
+use Rattle.frame_capture.specs.Capture.{run_bytes, run_pixels, AreRunsOf, AreFrames, IsCapture}
+use Rattle.frame_capture.specs.Fault.{◌>>=◌, Fault, Head, number_at, runs_at, frame_at, frames_at, behind_frames, ended, head_at, shown, misplaced}
+use Rattle.frame_capture.proofs.FieldLaws.{IsBytes, bind_ok, if_so, ok_is, wide32, number_takes, number_again, head_bytes, IsHead, head_takes, head_again}
+use Rattle.frame_capture.proofs.Runs.{runs-take, runs-again}
 
 -- ---- lengths
 

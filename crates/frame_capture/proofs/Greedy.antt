@@ -1,15 +1,15 @@
 -- The longest runs from the left are lawful, and no other runs are.
-use Rattle.std.proofs.Common.{◌≡◌, ◌≢◌, ℕ, zero, suc, ◌+◌, ◌-◌, ◌<◌, ◌≤◌, Bool, true, false, cond, ltb, ◌&&◌, List, [], ◌∷◌, ◌++◌, length, replicate, refl, sym, ap, subst, ◌∙◌, append_assoc, append-nil, arith}
-use Rattle.std.specs.Prelude.{flat_map, ⊤}
+use Rattle.std.proofs.Common.{◌≡◌, ◌≢◌, ℕ, zero, suc, ◌+◌, ◌<◌, ◌≤◌, Bool, true, false, cond, ltb, List, [], ◌∷◌, ◌++◌, length, replicate, refl, sym, ap, subst, ◌∙◌, append_assoc, append-nil, arith}
+use Rattle.std.specs.Prelude.{flat_map}
 use Rattle.std.specs.Int.{w32, to_le_bytes}
 use Rattle.std.proofs.lemmas.Bool.{ltb-true, lt-ltb, and_parts, and_from, false_from_ne_true, both_ways}
-use Rattle.std.proofs.lemmas.List.{replicate_more, append_cancel_left}
+use Rattle.std.proofs.lemmas.List.{replicate_more}
 use Rattle.frame_capture.specs.declared.run.Color.{Color}
 use Rattle.frame_capture.specs.declared.run.Run.{Run}
 use Rattle.frame_capture.specs.Film.{Film, color_bytes}
 use Rattle.frame_capture.specs.Capture.{run_bytes, run_pixels, MayGoOn, AreRuns, AreRunsOf, AreFrames, head_of, IsCapture}
 use Rattle.frame_capture.specs.Fault.{same_color}
-use Rattle.frame_capture.specs.Spelling.{goes_on, color_of, run_with, runs_behind, runs_of}
+use Rattle.frame_capture.specs.Spelling.{goes_on, run_with, runs_behind, runs_of}
 use Rattle.frame_capture.proofs.Runs.{same-color, color-is}
 
 -- a run so far, and the pixels behind it

@@ -5,3 +5,4 @@ pub mod Greedy
 pub mod Whole
 pub mod Loops
 pub mod Shown
+pub mod Rows

@@ -1,10 +1,10 @@
 -- Reading one run after the other, and one frame after the other, as loops do.
-use Rattle.std.proofs.Common.{◌≡◌, ℕ, zero, suc, ◌+◌, ◌-◌, ◌*◌, ◌<◌, ◌≤◌, List, [], ◌∷◌, ◌++◌, length, Option, Some, None, Result, Ok, Err, refl, sym, ap, subst, ◌∙◌, append_assoc, append-nil, arith}
+use Rattle.std.proofs.Common.{◌≡◌, ℕ, suc, ◌+◌, ◌-◌, ◌*◌, ◌<◌, ◌≤◌, List, [], ◌∷◌, ◌++◌, length, Option, Some, Result, Ok, Err, refl, sym, ap, subst, ◌∙◌, append_assoc, append-nil, arith}
 use Rattle.frame_capture.specs.declared.fault.FieldFault.{FieldFault}
 use Rattle.frame_capture.specs.declared.fault.FieldFault.TheVariants as fields
 use Rattle.frame_capture.specs.declared.run.Run.{Run}
 use Rattle.frame_capture.specs.Capture.{run_text}
-use Rattle.frame_capture.specs.Fault.{◌>>=◌, Fault, Head, behind, behind_frames, ended, run_at, runs_at, frame_at, frames_at, head_at, shown}
+use Rattle.frame_capture.specs.Fault.{◌>>=◌, Fault, Head, behind, ended, run_at, runs_at, frame_at, frames_at, head_at, shown}
 use Rattle.frame_capture.specs.Film.{text_head}
 use Rattle.frame_capture.specs.Gives.{Fails, FailsAt, after_texts}
 use Rattle.frame_capture.specs.Gives as gives

@@ -1,14 +1,14 @@
 -- The runs of a frame: what is read was spelled so, and what is spelled so is read.
-use Rattle.std.proofs.Common.{◌≡◌, ◌≢◌, ℕ, zero, suc, ◌+◌, ◌-◌, ◌*◌, ◌<◌, ◌≤◌, Bool, true, false, cond, ltb, leb, eqb, not, ◌&&◌, List, [], ◌∷◌, ◌++◌, length, get_or, replicate, Option, Some, None, Result, Ok, Err, refl, sym, ap, subst, ◌∙◌, append_assoc, append-nil, arith}
+use Rattle.std.proofs.Common.{◌≡◌, ℕ, zero, suc, ◌+◌, ◌-◌, ◌<◌, ◌≤◌, Bool, true, false, cond, ltb, leb, eqb, not, ◌&&◌, List, [], ◌∷◌, ◌++◌, length, Option, Some, None, Result, Ok, Err, refl, sym, ap, subst, ◌∙◌, append_assoc, arith}
 use Rattle.std.specs.Prelude.{flat_map, ⊤}
-use Rattle.std.proofs.lemmas.Bool.{ltb-true, lt-ltb, le-ltb, leb-true, le-leb, eqb-true, eq-eqb, and_parts, and_from, and_left, and_right, not_from_false, not-true, false_from_ne_true, both_ways, cases_lt}
+use Rattle.std.proofs.lemmas.Bool.{ltb-true, lt-ltb, leb-true, le-leb, eqb-true, eq-eqb, and_parts, and_from, not_from_false, not-true, false_from_ne_true, both_ways}
 use Rattle.std.proofs.lemmas.List.{length-append, length-replicate}
 use Rattle.std.proofs.lemmas.List.Concat.{flat_map-append}
 use Rattle.frame_capture.specs.declared.run.Color.{Color}
 use Rattle.frame_capture.specs.declared.run.Run.{Run}
 use Rattle.frame_capture.specs.Film.{color_bytes}
 use Rattle.frame_capture.specs.Capture.{run_bytes, run_pixels, run_text, MayGoOn, AreRuns}
-use Rattle.frame_capture.specs.Fault.{◌>>=◌, same_color, repeats, can_stand, run_of, run_at, runs_at, behind, cut_off, cannot_stand}
+use Rattle.frame_capture.specs.Fault.{same_color, repeats, can_stand, run_of, run_at, runs_at, behind, cannot_stand}
 use Rattle.frame_capture.proofs.FieldLaws.{IsBytes, bind_ok, if_so, ok_is, Takes}
 
 -- ---- colours

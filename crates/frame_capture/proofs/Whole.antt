@@ -1,15 +1,14 @@
 -- Joined picture texts are spelled frame by frame.
-use Rattle.std.proofs.Common.{◌≡◌, ℕ, zero, suc, ◌+◌, ◌-◌, ◌*◌, ◌/◌, ◌<◌, ◌≤◌, Bool, true, false, cond, List, [], ◌∷◌, ◌++◌, length, take, drop, Option, Some, None, refl, sym, ap, subst, ◌∙◌, append_assoc, append-nil, arith, suc-mul}
+use Rattle.std.proofs.Common.{◌≡◌, ℕ, suc, ◌+◌, ◌-◌, ◌*◌, ◌/◌, ◌<◌, ◌≤◌, true, false, cond, List, [], ◌∷◌, ◌++◌, length, take, drop, Some, None, refl, sym, ap, ◌∙◌, append_assoc, append-nil, arith, suc-mul}
 use Rattle.std.specs.Prelude.{flat_map, decimal, codes}
-use Rattle.std.specs.List.{AllByRecursion}
-use Rattle.std.specs.Int.{w16, w32, to_le_bytes}
+use Rattle.std.specs.Int.{w32, to_le_bytes}
 use Rattle.std.proofs.lemmas.List.{length-append, take_at, drop_at}
 use Rattle.std.proofs.lemmas.Nat.{div-mul-add}
 use Rattle.std.proofs.lemmas.Option.{same_Some}
 use Rattle.frame_capture.specs.declared.run.Run.{Run}
 use Rattle.frame_capture.specs.declared.run.Color.{Color}
-use Rattle.frame_capture.specs.Film.{Film, color_bytes, text_head, text_length, texts, CanBeCaptured}
-use Rattle.frame_capture.specs.Capture.{run_bytes, AreRunsOf, AreFrames, head_of, IsCapture}
+use Rattle.frame_capture.specs.Film.{color_bytes, text_head, text_length, texts}
+use Rattle.frame_capture.specs.Capture.{run_bytes, AreFrames, head_of, IsCapture}
 use Rattle.frame_capture.specs.Spelling.{film, AreTexts, AreTextsOf, frame_of, frames_of, runs_of, runs_behind, pixel_at, goes_on, run_with, color_of}
 use Rattle.frame_capture.proofs.Frames.{colors-length, texts_with, AreWhole, texts-length}
 use Rattle.frame_capture.proofs.Greedy.{runs-are}

@@ -1,5 +1,4 @@
-use Rattle.std.proofs.Common.{◌∙◌, ap, subst, sym, arith, Ok}
-use Rattle.frame_capture.specs.Film.{texts}
+use Rattle.std.proofs.Common.{subst, arith}
 use Rattle.frame_capture.specs.Gives.{Shows}
 use Rattle.frame_capture.proofs.Frames.{shown-again}
 use Rattle.frame_capture.proofs.Shown.{is-found}

@@ -1,6 +1,4 @@
-use Rattle.std.proofs.Common.{◌≡◌, ◌∙◌, ◌++◌, ◌+◌, ◌-◌, ◌*◌, ◌/◌, ◌<◌, ◌≤◌, List, ℕ, [], length, take, drop, ap, sym, refl, arith, suc, rules}
-use Rattle.std.specs.Int.{w16, w32, to_le_bytes}
-use Rattle.std.specs.Prelude.{codes}
+use Rattle.std.proofs.Common.{◌≡◌, ◌∙◌, ◌++◌, ◌+◌, ◌-◌, ◌*◌, ◌/◌, List, ℕ, length, take, drop, ap, sym, refl, arith, suc, rules}
 use Rattle.frame_capture.specs.Film.{text_head, text_length}
 use Rattle.frame_capture.specs.Capture.{head_of}
 use Rattle.frame_capture.specs.Spelling.{frame_of, frames_of}
