@@ -1,0 +1,5 @@
+pub mod Pairs
+pub mod Lines
+pub mod Marks
+pub mod Laws
+pub mod Steps
