@@ -216,3 +216,17 @@ pub fn end_of_run(ordered: &[OrderedItem], from: usize, position: u16) -> usize
     }
     ordered.len()
 }
+
+/// For measuring alone.
+pub fn bench_ordered(
+    alloc: Global,
+    views: &ViewTable,
+    recordings: &[Recording],
+    journal: &[JournalEntry],
+) -> Result<Vec<OrderedItem>, AllocError>
+    requires { length journal.now ≤ most_frame_items }
+{
+    let mut all = with_keys(alloc, views, recordings, journal)?;
+    sort(&mut all)?;
+    Ok(all)
+}

@@ -5,7 +5,7 @@ ghost use Rattle.generated_scene.specs.Draws.{lines_of_draw};
 ghost use Rattle.scene_text.specs.Seen.{encoder_line_seen, resource_line_seen, block_seen, frame_seen, name_seen, scene_seen};
 
 use crate::squares::square;
-use gfx_words::ProgramKind;
+use gfx_words::{MOST_ROOM_ITEMS, ProgramKind};
 use scene_text::{
     Clear, EncBlock, EncLine, LayoutPart, ResLine, Room, Scene, SceneFrame, SceneName, Sequence,
 };
@@ -173,7 +173,7 @@ pub fn make_scene(alloc: Global, count: u32) -> Result<Scene, AllocError>
         height: 480,
         encoders: 4,
         room: Room {
-            items: 8191,
+            items: MOST_ROOM_ITEMS,
             bytes: 262_144,
             uniforms: 4096,
         },

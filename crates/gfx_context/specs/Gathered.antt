@@ -34,6 +34,7 @@ pub record IsCollected (admits : ℕ → ℕ → List Item → ℕ → Type 0) (
   pub items : AllByRecursion (FitsItem (IsUsable frame places) views) (items_of r)
   pub uniforms : AllByRecursion (FitsUniform (IsUsable frame places)) (uniforms_seen r.uniforms)
 
+-- each recording was collected so
 abbrev pub AreCollected : (admits : ℕ → ℕ → List Item → ℕ → Type 0) (views frame : ℕ) (places : List Place) → List Recording → Type 0
 AreCollected admits views frame places rs = AllByRecursion (IsCollected admits views frame places) rs
 

@@ -1,18 +1,10 @@
 // How encoders begin.
 ghost use Rattle.std.specs.Prelude.{◌≡◌, false};
-ghost use Rattle.gfx_model.specs.FrameCalls.{is_room};
-ghost use Rattle.draw_encoder.specs.Seen.{room_seen};
 
 use crate::context::{Context, MOST_ENCODERS};
 use draw_encoder::{Encoder, Naming, Room};
 use frame_record::FrameLink;
 use gfx_words::Refusal;
-
-fn is_within(room: Room) -> bool
-    ensures { result ≡ is_room (room_seen room) }
-{
-    1 <= room.items && room.items <= 8191 && room.bytes <= 1_048_576 && room.uniforms <= 8191
-}
 
 impl<'t, C: Naming, L: FrameLink + Drop> Context<'t, C, L> {
     ghost use Rattle.draw_encoder.specs.Seen.{room_seen};
@@ -24,7 +16,7 @@ impl<'t, C: Naming, L: FrameLink + Drop> Context<'t, C, L> {
         requires running { self.old.is_ended ≡ false }
         ensures { IsBegin result (room_seen room) self.old self.new }
     {
-        if !is_within(room) {
+        if !room.is_within_limits() {
             return Err(Refusal::BadSize);
         }
         if self.begun as usize >= MOST_ENCODERS {

@@ -1,5 +1,5 @@
 // Each source and sink once with ample memory, and the faults of those that fail.
-use crate::{Failed, Gate, MemSink, MemSource, NoGate, Sink, Source, StdSink, StdSource, SureSink};
+use crate::{Failed, MemSink, MemSource, Sink, Source, StdSink, StdSource, SureSink};
 use std::io;
 use std::io::{ErrorKind, Write};
 
@@ -82,9 +82,4 @@ fn sure_sink_counts_and_sums(rt: HostRuntime) {
     assert_eq!(rt; sink.put(b"abc"), Ok(3));
     assert_eq!(rt; sink.put(b"\xff"), Ok(1));
     assert_eq!(rt; (sink.count(), sink.sum()), (4, 549));
-}
-
-#[test]
-fn no_gate_holds_nobody(_rt: HostRuntime) {
-    NoGate.at(255, 0);
 }

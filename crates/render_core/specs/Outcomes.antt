@@ -2,14 +2,8 @@
 use Rattle.std.specs.Prelude.{◌≡◌, Bool, true, false, not, List}
 use Rattle.std.specs.List.{list_any}
 use Rattle.frame_record.specs.declared.frame.Outcome.{Outcome}
+pub use Rattle.frame_record.specs.Outcomes.{is_shown}
 use Rattle.frame_record.specs.declared.frame.Outcome.TheVariants as outcomes
-
--- the picture was put whole
-abbrev pub is_shown : Outcome → Bool
-is_shown outcomes.Shown = true
-is_shown outcomes.PictureFault = false
-is_shown outcomes.OutOfMemory = false
-is_shown outcomes.Skipped = false
 
 -- the frame was not drawn
 abbrev pub is_skipped : Outcome → Bool
@@ -22,5 +16,6 @@ is_skipped outcomes.Skipped = true
 abbrev pub has_ended : List Outcome → Bool
 has_ended all = list_any (λ o. not (is_shown o)) all
 
+-- the same as a fact
 abbrev pub IsShown : Outcome → Type 0
 IsShown o = is_shown o ≡ true

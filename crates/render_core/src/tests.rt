@@ -1,5 +1,7 @@
 // Frames rendered, with pictures from outside.
 ghost use Rattle.std.specs.Prelude.{◌≡◌, ◌≤◌, ◌<◌, ◌∷◌, [], IfOk};
+ghost use Rattle.frame_record.specs.Links.{frames_of};
+ghost use Rattle.frame_swap.specs.Ends.{api_table, api_knows, render_table, render_knows};
 
 use crate::{InPlaceLink, Renderer};
 use cmd_buffer::{CmdBuffer, CmdBytes, Command};
@@ -9,12 +11,15 @@ use draw_encoder::{
 };
 use fix_math::{Affine, Rect};
 use frame_record::{Frame, FrameLink, Outcome, collect};
+use frame_swap::{ApiEnd, RenderEnd, swap_pair};
 use gfx_words::{Handle, Info, Kind, StateWord, StencilWord};
-use io_edge::MemSink;
+use io_edge::{MemSink, NoGate};
 use std::alloc::{AllocError, Global};
+use std::snapshot::Snapshot;
 use std::sync::Wait;
 use std::test::Fail;
-use std::thread::Threads;
+use std::thread;
+use std::thread::{Promise, Threads};
 use view_table::ViewTable;
 
 // The types that an item is made of.
@@ -167,6 +172,73 @@ fn a_link_of_each_latency(rt: HostRuntime) -> Result<(), Fail> {
     for latency in 1..4 {
         assert_eq!(rt; through(&rt, rt.alloc(), latency)?, (3, true));
     }
+    Ok(())
+}
+
+// What the renderer's thread promises: it gave back each frame that it took.
+#[derive(Drop)]
+struct Served(Snapshot<RenderEnd>);
+
+impl Promise<(Renderer<MemSink>, RenderEnd)> for Served {
+    ghost use Rattle.std.specs.Prelude.{◌≡◌};
+    ghost use Rattle.frame_record.specs.Links.{frames_of};
+    ghost use Rattle.frame_swap.specs.Ends.{render_table, render_knows};
+
+    ghost kept_by = { λ p r. (render_table r.1 ≡ render_table p.0.value) × ((render_knows r.1).taken ≡ frames_of (render_knows r.1).returned) };
+}
+
+// Two frames by way of a renderer that runs in a thread of its own: their outcomes, and the sink.
+fn beside<R: Threads + Wait + Sync>(
+    rt: &R,
+    renderer: Renderer<MemSink>,
+    mut api: ApiEnd,
+    end: RenderEnd,
+    first: Frame,
+    second: Frame,
+) -> Option<(Outcome, Outcome, MemSink)>
+    requires api { ((api_knows api).given ≡ []) × ((api_knows api).back ≡ []) × (2 ≤ api.latency) × (render_table end ≡ api_table api) }
+    requires end { ((render_knows end).taken ≡ []) × ((render_knows end).returned ≡ []) }
+{
+    thread::scope(
+        thread::scope_env(),
+        rt,
+        |scope|
+            requires api { ((api_knows api).given ≡ []) × ((api_knows api).back ≡ []) × (2 ≤ api.latency) × (render_table end ≡ api_table api) }
+            requires end { ((render_knows end).taken ≡ []) × ((render_knows end).returned ≡ []) }
+        {
+            let promise = Served(Snapshot::of(&end));
+            let job = move || -> (Renderer<MemSink>, RenderEnd)
+                requires { ((render_knows end).taken ≡ []) × ((render_knows end).returned ≡ []) }
+                ensures { (render_table result.1 ≡ render_table end) × ((render_knows result.1).taken ≡ frames_of (render_knows result.1).returned) }
+            { renderer.run(rt, end, &NoGate) };
+            match scope.spawn_with(promise, job) {
+                Ok(handle) => {
+                    api.give(rt, first);
+                    api.give(rt, second);
+                    let one = api.take_back(rt);
+                    let two = api.take_back(rt);
+                    api.stop();
+                    let (renderer, end) = handle.join(rt);
+                    api.close(end);
+                    Some((one.outcome, two.outcome, renderer.into_sink()))
+                }
+                Err(_) => None,
+            }
+        },
+    )
+}
+
+#[test]
+fn a_renderer_that_runs_until_the_stop(rt: HostRuntime) -> Result<(), Fail> {
+    let alloc = rt.alloc();
+    let sink = MemSink::new(alloc, 64, 5, Vec::new(alloc))?;
+    let renderer = Renderer::new(alloc, 2, 1, sink).map_err(|_| "memory")?;
+    let (api, end) = swap_pair(alloc, 2)?;
+    let done = beside(&rt, renderer, api, end, cleared(alloc)?, empty(alloc, 4)?);
+    let (first, second, sink) = done.ok_or("no thread")?;
+    assert_eq!(rt; (first, second), (Outcome::Shown, Outcome::Shown));
+    let twice = b"P6\n2 1\n255\n\0\0\0\0\xff\0P6\n2 1\n255\n\0\0\0\0\xff\0";
+    assert_eq!(rt; sink.bytes(), twice.as_slice());
     Ok(())
 }
 

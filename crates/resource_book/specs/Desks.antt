@@ -1,15 +1,11 @@
 -- A desk as the definitions see it.
-use Rattle.std.specs.Prelude.{ℕ, ◌<◌, ◌≤◌, ◌+◌, ◌*◌, List, map, length, vec_len, vec_capacity}
-use Rattle.std.specs.declared.vec.Vec.{Vec}
+use Rattle.std.specs.Prelude.{ℕ, ◌<◌, ◌≤◌, ◌+◌, ◌*◌, map, length, vec_len, vec_capacity}
+pub use Rattle.cmd_buffer.specs.Payloads.{payloads_seen}
 use Rattle.gfx_model.specs.Resources.{is_live}
 use Rattle.resource_book.specs.declared.desk.Desk.{Desk}
 use Rattle.resource_laws.specs.Lawful.{IsLawful, count_where}
 use Rattle.resource_book.specs.Written.{BookView}
 use Rattle.resource_book.specs.Shelves.{resources_of, HasLimits}
-
--- the bytes of each payload
-abbrev pub payloads_seen : {A : Type 0} → List (Vec ℕ A) → List (List ℕ)
-payloads_seen vs = map (λ v. v.items) vs
 
 -- the state of the calls, and what they wrote
 abbrev pub desk_seen : Desk → BookView

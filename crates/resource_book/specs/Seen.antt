@@ -8,6 +8,7 @@ use Rattle.resource_book.specs.declared.rows.Fact.{Fact}
 use Rattle.resource_book.specs.declared.rows.Fact.TheVariants as facts
 use Rattle.resource_book.specs.declared.rows.Row.{Row}
 
+-- what a row tells of a thing's content
 abbrev pub fact_seen : Fact → world.Content
 fact_seen (facts.Layout l) = world.layout_content l
 fact_seen (facts.Vertices bytes) = world.vertex_content no_layout (replicate bytes 0)
@@ -17,6 +18,7 @@ fact_seen (facts.FrameBuffer color depth) = world.frame_buffer_content color dep
 fact_seen (facts.Program k) = world.program_content (program_seen k)
 fact_seen (facts.Uniform k name) = world.uniform_content name.items (zero_value (uniform_seen k))
 
+-- a row as a thing of the definitions
 abbrev pub row_seen : Row → model.Thing
 row_seen r = record {
   handle = r.handle;
@@ -26,5 +28,6 @@ row_seen r = record {
   references = r.references;
 }
 
+-- rows in order
 abbrev pub rows_seen : List Row → List model.Thing
 rows_seen rows = map row_seen rows

@@ -3,15 +3,15 @@ ghost use Rattle.std.specs.Prelude.{◌≡◌, ◌<◌, length, List, [], ℕ, m
 ghost use Rattle.gfx_model.specs.Resources.{create_frame_buffer};
 ghost use Rattle.gfx_words.specs.Seen.{format_seen, program_seen, uniform_seen};
 ghost use Rattle.scene_model.specs.Scene as model;
-ghost use Rattle.scene_text.specs.Seen.{part_seen, source_seen, name_seen};
-ghost use Rattle.texture_store.specs.Seen.{own_source_seen};
+ghost use Rattle.scene_text.specs.Seen.{part_seen, name_seen};
+ghost use Rattle.gfx_words.specs.Seen.{own_source_seen};
 ghost use Rattle.scene_lines.specs.Played.{LineAnswered, IsCalled, IsSame};
 
 use crate::layouts::layout_of;
 use crate::naming::{bind, named, option_named};
-use gfx_words::{Format, Handle, ProgramKind, UniformKind};
+use gfx_words::{Format, Handle, ProgramKind, TexSource, UniformKind};
 use resource_book::ResourceCalls;
-use scene_text::{LayoutPart, SceneName, TexSource};
+use scene_text::{LayoutPart, SceneName};
 use std::alloc::{AllocError, Global};
 
 pub(crate) fn layout<B: ResourceCalls>(
@@ -67,15 +67,15 @@ pub(crate) fn index_buffer<B: ResourceCalls>(
     bind(handles, name, answer)
 }
 
-/// A source that owns its bytes.
-fn owned(alloc: Global, source: &TexSource) -> Result<texture_store::TexSource, AllocError>
-    ensures { IfOk result (λ s. own_source_seen s ≡ source_seen source.now) }
+/// The same source, with a copy of its bytes.
+fn copied(alloc: Global, source: &TexSource) -> Result<TexSource, AllocError>
+    ensures { IfOk result (λ s. own_source_seen s ≡ own_source_seen source.now) }
 {
     match source {
-        TexSource::Fill { color } => Ok(texture_store::TexSource::Fill(*color)),
-        TexSource::Bytes { bytes } => {
-            let copied = Vec::from_slice(alloc, bytes.as_slice())?;
-            Ok(texture_store::TexSource::Bytes(copied))
+        TexSource::Fill(color) => Ok(TexSource::Fill(*color)),
+        TexSource::Bytes(bytes) => {
+            let bytes = Vec::from_slice(alloc, bytes)?;
+            Ok(TexSource::Bytes(bytes))
         }
     }
 }
@@ -92,10 +92,10 @@ pub(crate) fn texture<B: ResourceCalls>(
     source: &TexSource,
 ) -> Result<bool, AllocError>
     requires { name < length handles.old }
-    ensures answer { (names : List (List ℕ)) → LineAnswered result names (model.texture_line name width height (format_seen format) blit_dst (source_seen source.now)) (B.book calls.old) (B.book calls.new) handles.old handles.new }
+    ensures answer { (names : List (List ℕ)) → LineAnswered result names (model.texture_line name width height (format_seen format) blit_dst (own_source_seen source.now)) (B.book calls.old) (B.book calls.new) handles.old handles.new }
     ensures rest { B.rest calls.new ≡ B.rest calls.old }
 {
-    let source = owned(alloc, source)?;
+    let source = copied(alloc, source)?;
     let answer = calls.create_texture(width, height, format, blit_dst, source);
     bind(handles, name, answer)
 }

@@ -3,9 +3,9 @@ ghost use Rattle.std.specs.Prelude.{◌≡◌, ◌≤◌, length};
 
 use crate::play_lines;
 use fix_math::{Affine, Rect};
-use gfx_words::{Format, Handle, Info, Kind, ProgramKind, UniformKind, ViewMode};
+use gfx_words::{Format, Handle, Info, Kind, ProgramKind, TexSource, UniformKind, ViewMode};
 use resource_book::{Book, Start};
-use scene_text::{LayoutPart, ResLine, SceneName, Sequence, TexSource};
+use scene_text::{LayoutPart, ResLine, SceneName, Sequence};
 use std::alloc::{AllocError, Global};
 use std::process::Abort;
 use vertex_layout::{Attr, AttrType};
@@ -106,9 +106,7 @@ fn creates(
             height: 1,
             format: Format::Rgba8,
             blit_dst: true,
-            source: TexSource::Fill {
-                color: [255, 0, 0, 255],
-            },
+            source: TexSource::Fill([255, 0, 0, 255]),
         },
         ResLine::FrameBuffer {
             name: 5,

@@ -5,6 +5,7 @@ use Rattle.scene_model.specs.Journal.{Entry, Journal}
 use Rattle.scene_text.specs.Seen.{journal_seen}
 use Rattle.scene_text.specs.declared.journal.Journal as code
 
+-- the given journal, if there is one
 abbrev pub order_seen : Option (Bor code.Journal) → Option Journal
 order_seen order = option_map (λ j. journal_seen j.now) order
 

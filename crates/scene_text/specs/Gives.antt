@@ -6,6 +6,7 @@ use Rattle.scene_text.specs.declared.fault.Cause.TheVariants as causes
 use Rattle.scene_text.specs.declared.fault.LineFault.{LineFault}
 use Rattle.scene_text.specs.declared.fault.LineFault.TheVariants as faults
 
+-- the number of a cause
 abbrev pub number_of : Cause → ℕ
 number_of causes.BadByte = bad_byte
 number_of causes.EndsEarly = ends_early

@@ -15,6 +15,7 @@ abbrev pub at : LineFault → ℕ → SceneFault
 at faults.OutOfMemory line = wholes.OutOfMemory
 at (faults.Bad cause) line = wholes.At line (number_of cause)
 
+-- the reading fails at that line and for that cause; want of memory says nothing
 abbrev pub FailsAt : {A : Type 0} → SceneFault → Result A Fault → Type 0
 FailsAt wholes.OutOfMemory read = Unit {0}
 FailsAt (wholes.At line cause) read = read ≡ Err (record { line = line; cause = cause })

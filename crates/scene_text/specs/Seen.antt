@@ -1,18 +1,15 @@
 -- The crate's types as the definitions see them.
 use Rattle.std.specs.Prelude.{ℕ, List, map}
 use Rattle.gfx_model.specs.Vertex as vertex
-use Rattle.gfx_model.specs.Resources as texels
 use Rattle.scene_model.specs.Scene as model
 use Rattle.scene_model.specs.Journal as journals
 use Rattle.gfx_words.specs.Kinds.{format_seen, program_seen, uniform_seen, value_seen, mode_seen}
 use Rattle.fix_math.specs.Seen.{rect_seen, affine_seen}
 use Rattle.vertex_layout.specs.Kinds.{attribute_seen, component_seen}
-pub use Rattle.gfx_words.specs.Seen.{room_seen, entry_seen}
+pub use Rattle.gfx_words.specs.Seen.{room_seen, entry_seen, own_source_seen}
 pub use Rattle.view_table.specs.Seen.{clear_seen}
 use Rattle.scene_text.specs.declared.scene.LayoutPart.{LayoutPart}
 use Rattle.scene_text.specs.declared.scene.LayoutPart.TheVariants as parts
-use Rattle.scene_text.specs.declared.scene.TexSource.{TexSource}
-use Rattle.scene_text.specs.declared.scene.TexSource.TheVariants as sources
 use Rattle.scene_text.specs.declared.scene.ResLine.{ResLine}
 use Rattle.scene_text.specs.declared.scene.ResLine.TheVariants as resources
 use Rattle.scene_text.specs.declared.scene.EncLine.{EncLine}
@@ -23,20 +20,18 @@ use Rattle.scene_text.specs.declared.scene.SceneName.{SceneName}
 use Rattle.scene_text.specs.declared.scene.Scene.{Scene}
 use Rattle.scene_text.specs.declared.journal.Journal.{Journal}
 
+-- a part of a layout
 abbrev pub part_seen : LayoutPart → vertex.LayoutPart
 part_seen (parts.Attribute attr kind count) = vertex.attribute_part (attribute_seen attr) (component_seen kind) count
 part_seen (parts.Skip bytes) = vertex.skip_part bytes
 
-abbrev pub source_seen : TexSource → texels.TexelSource
-source_seen (sources.Fill color) = texels.fill_source color
-source_seen (sources.Bytes bytes) = texels.bytes_source bytes
-
+-- a line of the API thread
 abbrev pub resource_line_seen : ResLine → model.ResourceLine
 resource_line_seen (resources.Layout name ps) = model.layout_line name (map part_seen ps)
 resource_line_seen (resources.VertexBuffer name layout bytes) = model.vertex_buffer_line name layout bytes
 resource_line_seen (resources.IndexBuffer name bytes) = model.index_buffer_line name bytes
 resource_line_seen (resources.Texture name width height format blit_dst source) =
-    model.texture_line name width height (format_seen format) blit_dst (source_seen source)
+    model.texture_line name width height (format_seen format) blit_dst (own_source_seen source)
 resource_line_seen (resources.FrameBuffer name color depth) = model.frame_buffer_line name color depth
 resource_line_seen (resources.Program name kind) = model.program_line name (program_seen kind)
 resource_line_seen (resources.Uniform name kind) = model.uniform_line name (uniform_seen kind)
@@ -52,6 +47,7 @@ resource_line_seen (resources.ViewTransform view transform) = model.view_transfo
 resource_line_seen (resources.ViewReset view) = model.reset_line view
 resource_line_seen (resources.Order views) = model.order_line views
 
+-- a line of an encoder
 abbrev pub encoder_line_seen : EncLine → model.EncoderLine
 encoder_line_seen (lines.State word) = model.state_line word
 encoder_line_seen (lines.Stencil front back) = model.stencil_line front back
@@ -67,15 +63,19 @@ encoder_line_seen (lines.Submit view program depth flags) = model.submit_line vi
 encoder_line_seen (lines.Touch view) = model.touch_line view
 encoder_line_seen (lines.Blit view dst dx dy src sx sy w h) = model.blit_line view dst dx dy src sx sy w h
 
+-- a block of an encoder's lines
 abbrev pub block_seen : EncBlock → model.Block
 block_seen b = record { encoder = b.encoder; lines = map encoder_line_seen b.lines }
 
+-- a frame's lines
 abbrev pub frame_seen : SceneFrame → model.SceneFrame
 frame_seen f = record { before = map resource_line_seen f.before; blocks = map block_seen f.blocks; beside = map resource_line_seen f.beside }
 
+-- a name's bytes
 abbrev pub name_seen : SceneName → List ℕ
 name_seen n = n.text
 
+-- a scene
 abbrev pub scene_seen : Scene → model.Scene
 scene_seen s = record {
   version = s.version;
@@ -88,5 +88,6 @@ scene_seen s = record {
   frames = map frame_seen s.frames;
 }
 
+-- a journal, frame by frame
 abbrev pub journal_seen : Journal → journals.Journal
 journal_seen j = map (map entry_seen) j.frames

@@ -6,6 +6,7 @@ use Rattle.scene_text.specs.declared.stages.Stage.TheVariants as stages
 use Rattle.scene_text.specs.declared.reading.Reading.{Reading}
 use Rattle.scene_text.specs.Seen.{room_seen, frame_seen}
 
+-- how far the reading is
 abbrev pub stage_seen : Stage → model.Stage
 stage_seen stages.AtFront = model.at_front
 stage_seen stages.AtSize = model.at_size
@@ -18,6 +19,7 @@ stage_seen stages.InBlock = model.in_block
 stage_seen stages.InBeside = model.in_beside
 stage_seen stages.AtEnd = model.at_end
 
+-- what was read so far
 abbrev pub reading_seen : Reading → model.Reading
 reading_seen r = record {
   stage = stage_seen r.stage;

@@ -5,6 +5,7 @@ use Rattle.scene_text.specs.declared.words.Word.TheVariants as words
 use Rattle.scene_text.specs.declared.words.Setting.{Setting}
 use Rattle.scene_text.specs.declared.words.Setting.TheVariants as settings
 
+-- the first word of a line
 abbrev pub word_seen : Word → model.Word
 word_seen words.Scene = model.scene_word
 word_seen words.Size = model.size_word
@@ -42,6 +43,7 @@ word_seen words.Submit = model.submit_word
 word_seen words.Touch = model.touch_word
 word_seen words.Blit = model.blit_word
 
+-- the setting that a `view` line names
 abbrev pub setting_seen : Setting → model.Setting
 setting_seen settings.Rect = model.rect_setting
 setting_seen settings.Scissor = model.scissor_setting

@@ -6,6 +6,7 @@ use Rattle.scene_text.specs.declared.spelled.Spelled.{Spelled}
 use Rattle.scene_text.specs.declared.spelled.Spelled.TheVariants as fields
 use Rattle.scene_text.specs.Seen.{part_seen}
 
+-- the text of a field
 abbrev pub spelled : Spelled → List ℕ
 spelled (fields.Text text) = text.now
 spelled (fields.Number n) = decimal n

@@ -4,10 +4,10 @@ ghost use Rattle.std.specs.List.{list_all};
 ghost use Rattle.scene_model.specs.Field.{hex_byte, hex_pairs, hex_bytes, color_field, source_field};
 ghost use Rattle.scene_text.specs.Digits.{is_hex, digit_of, pair_of, pairs_of};
 ghost use Rattle.scene_text.specs.Gives.{Gives, MayGive};
-ghost use Rattle.scene_text.specs.Seen.{source_seen};
+ghost use Rattle.gfx_words.specs.Seen.{own_source_seen};
 
 use crate::fault::{Cause, LineFault};
-use crate::scene::TexSource;
+use gfx_words::TexSource;
 use crate::sequence::Sequence;
 use crate::words::is;
 use std::alloc::Global;
@@ -119,15 +119,15 @@ pub fn hex_bytes(alloc: Global, field: &[u8]) -> Result<Sequence<u8>, LineFault>
 
 /// `fill:COLOR` or `hex:HEX`.
 pub fn source_field(alloc: Global, field: &[u8]) -> Result<TexSource, LineFault>
-    ensures { MayGive source_seen result (source_field field.now) }
+    ensures { MayGive own_source_seen result (source_field field.now) }
 {
     if field.starts_with(b"fill:") {
         let color = color_field(&field[5..])?;
-        return Ok(TexSource::Fill { color });
+        return Ok(TexSource::Fill(color));
     }
     if field.starts_with(b"hex:") {
         let bytes = hex_bytes(alloc, &field[4..])?;
-        return Ok(TexSource::Bytes { bytes });
+        return Ok(TexSource::Bytes(bytes.into_vec()));
     }
     Err(LineFault::Bad(Cause::Misspelt))
 }

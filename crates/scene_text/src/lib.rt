@@ -39,7 +39,7 @@ pub use journal::{Journal, JournalFault};
 pub use journal_reading::read_journal;
 pub use journal_writing::write_journal;
 pub use lawful::fault_place;
-pub use scene::{EncBlock, EncLine, LayoutPart, ResLine, Scene, SceneFrame, SceneName, TexSource};
+pub use scene::{EncBlock, EncLine, LayoutPart, ResLine, Scene, SceneFrame, SceneName};
 pub use scene_writing::write;
 pub use sequence::Sequence;
 pub use text::read;

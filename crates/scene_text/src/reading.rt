@@ -23,7 +23,9 @@ use crate::scene::{ResLine, SceneFrame};
 use crate::splitting::split_fields;
 use crate::stages::{Stage, can_stand};
 use crate::words::{Word, is, line_word};
-use gfx_words::Room;
+use gfx_words::{
+    FEWEST_VIEWS, MOST_ROOM_BYTES, MOST_ROOM_ITEMS, MOST_ROOM_UNIFORMS, MOST_VIEWS, Room,
+};
 use std::alloc::{AllocError, Global};
 
 /// The newest version of scenes that is read.
@@ -73,7 +75,7 @@ fn view_count(version: u8) -> usize
     ensures value { result ≡ views_in version }
     ensures few { result ≤ 512 }
 {
-    if version == 1 { 256 } else { 512 }
+    if version == 1 { FEWEST_VIEWS as usize } else { MOST_VIEWS as usize }
 }
 
 fn follows(encoder: u8, last: Option<u8>) -> bool
@@ -138,9 +140,9 @@ fn room(fields: &[&[u8]]) -> Result<Room, Cause>
     ensures { Gives room_seen result (model.room_form (texts fields.now)) }
 {
     has_count(fields, 4)?;
-    let items = number(field(fields, 1), 1, 8191)?;
-    let bytes = number(field(fields, 2), 0, 1_048_576)?;
-    let uniforms = number(field(fields, 3), 0, 8191)?;
+    let items = number(field(fields, 1), 1, MOST_ROOM_ITEMS)?;
+    let bytes = number(field(fields, 2), 0, MOST_ROOM_BYTES)?;
+    let uniforms = number(field(fields, 3), 0, MOST_ROOM_UNIFORMS)?;
     Ok(Room {
         items,
         bytes,
@@ -159,7 +161,7 @@ impl Reading {
             height: 0,
             encoders: 0,
             room: Room {
-                items: 8191,
+                items: MOST_ROOM_ITEMS,
                 bytes: 262_144,
                 uniforms: 4096,
             },

@@ -2,7 +2,7 @@
 
 use crate::sequence::Sequence;
 use fix_math::{Affine, Rect};
-use gfx_words::{Format, ProgramKind, Room, UniformKind, UniformValue, ViewMode};
+use gfx_words::{Format, ProgramKind, Room, TexSource, UniformKind, UniformValue, ViewMode};
 use vertex_layout::{Attr, AttrType};
 use view_table::Clear;
 
@@ -19,15 +19,6 @@ pub enum LayoutPart {
     Skip {
         bytes: u8,
     },
-}
-
-/// What a texture's texels are at first.
-#[derive(Debug, Drop)]
-pub enum TexSource {
-    /// `fill:COLOR`
-    Fill { color: [u8; 4] },
-    /// `hex:HEX`
-    Bytes { bytes: Sequence<u8> },
 }
 
 /// A resource or view line: a call of the API thread. A name is its place in the scene's list of names.

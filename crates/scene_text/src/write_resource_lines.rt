@@ -7,10 +7,11 @@ ghost use Rattle.scene_model.specs.Scene as model;
 ghost use Rattle.spelling_model.specs.FieldSpelling.{source_spelled};
 ghost use Rattle.spelling_model.specs.LineSpelling.{resource_fields};
 ghost use Rattle.spelling_model.specs.Written.{line_text};
-ghost use Rattle.scene_text.specs.Seen.{name_seen, source_seen, resource_line_seen};
+ghost use Rattle.gfx_words.specs.Seen.{own_source_seen};
+ghost use Rattle.scene_text.specs.Seen.{name_seen, resource_line_seen};
 ghost use Rattle.scene_text.specs.Spelled.{spelled};
 
-use crate::scene::{ResLine, SceneName, TexSource};
+use crate::scene::{ResLine, SceneName};
 use crate::spelled::{
     Spelled, put_line, put_number_line, put_part_line, put_view_integer_line, put_view_line,
 };
@@ -18,17 +19,17 @@ use crate::spelled_words::{
     destination_text, format_text, mode_text, name_text, optional_text, program_text, uniform_text,
 };
 use fix_math::Rect;
-use gfx_words::Format;
+use gfx_words::{Format, TexSource};
 use std::alloc::AllocError;
 use view_table::Clear;
 
 /// What a texture's texels are at first.
 fn source_field(source: &TexSource) -> Spelled<'_>
-    ensures { spelled result ≡ source_spelled (source_seen source.now) }
+    ensures { spelled result ≡ source_spelled (own_source_seen source.now) }
 {
     match source {
-        TexSource::Fill { color } => Spelled::Fill(*color),
-        TexSource::Bytes { bytes } => Spelled::Texels(bytes.as_slice()),
+        TexSource::Fill(color) => Spelled::Fill(*color),
+        TexSource::Bytes(bytes) => Spelled::Texels(bytes),
     }
 }
 
@@ -41,7 +42,7 @@ fn put_texture<'a>(
     kind: (Format, bool),
     source: &'a TexSource,
 ) -> Result<(), AllocError>
-    ensures { IfOk result (λ _. text.new.items ≡ text.old.items ++ line_text (resource_fields (map name_seen names.now) (model.texture_line name sides.0 sides.1 (format_seen kind.0) kind.1 (source_seen source.now)))) }
+    ensures { IfOk result (λ _. text.new.items ≡ text.old.items ++ line_text (resource_fields (map name_seen names.now) (model.texture_line name sides.0 sides.1 (format_seen kind.0) kind.1 (own_source_seen source.now)))) }
 {
     let fields = [
         Spelled::Text(name_text(names, name)),

@@ -1,26 +1,20 @@
 -- Pixels after a clear.
 use Rattle.std.specs.Prelude.{ℕ, ◌+◌, ◌*◌, ◌/◌, ◌%◌, ◌^◌, if◌then◌else◌}
-use Rattle.gfx_model.specs.Number.{is_bit_set, u32_at}
+use Rattle.gfx_model.specs.Number.{u32_at}
 use Rattle.gfx_model.specs.Vertex.{Color}
 use Rattle.gfx_model.specs.Raster.{Rect, contains}
 use Rattle.gfx_model.specs.Views.{Clear}
+pub use Rattle.gfx_model.specs.World.{cleared_color, cleared_word}
 
 -- what lies in a rectangle of a picture of some width is changed
 abbrev pub in_rect : {A : Type 0} → ℕ → Rect → (A → A) → ℕ → A → A
 in_rect width r f i old = if contains r (i % width) (i / width) then f old else old
 
-abbrev pub cleared_color : Clear → Color → Color
-cleared_color c old = if is_bit_set c.flags 0 then c.color else old
-
-abbrev pub cleared_word : Clear → ℕ → ℕ
-cleared_word c word =
-    (if is_bit_set c.flags 1 then c.depth else word % 2 ^ 24)
-    + 2 ^ 24 * (if is_bit_set c.flags 2 then c.stencil else word / 2 ^ 24)
-
--- the depth word that a texel holds, and after the clear
+-- the depth word that a texel holds
 abbrev pub word_in : Color → ℕ
 word_in z = u32_at z 0
 
+-- the same after the clear
 abbrev pub word_cleared : Clear → Color → ℕ
 word_cleared c z = cleared_word c (word_in z)
 

@@ -3,13 +3,10 @@ use Rattle.std.specs.Prelude.{◌≡◌, ℕ, List, ◌++◌, fold, map, take}
 use Rattle.gfx_model.specs.Views.{View}
 use Rattle.gfx_model.specs.World.{Blit, Item, blit_item, clear_surface}
 use Rattle.store_model.specs.Buffers.{Buffers}
-use Rattle.store_model.specs.Textures.{Textures, texels_at}
-use Rattle.store_laws.specs.ByIndex.{Stores, with_buffers, blit_from_texels, on_target, do_by_index}
+use Rattle.store_model.specs.Textures.{Textures}
+pub use Rattle.store_laws.specs.ByIndex.{blit_in}
+use Rattle.store_laws.specs.ByIndex.{Stores, with_buffers, on_target, do_by_index}
 use Rattle.store_laws.specs.Listed.{values_after}
-
--- the textures after a blit
-abbrev pub blit_in : Textures → Blit → Textures
-blit_in h b = blit_from_texels b (texels_at h b.source.index) h
 
 -- some of the first blits are done, and no other
 abbrev pub AreSomeBlits : List Blit → Textures → Textures → Type 0
