@@ -146,3 +146,32 @@ fn a_frame_that_is_made(rt: HostRuntime) -> Result<(), Fail> {
     );
     Ok(())
 }
+
+const THREE_OUT: &[u8] =
+    b"scene 2\nsize 2 2\nencoders 1\nlatency 3\nframe\nview 511 clear 1 ff0000ff 0 0\nencoder 0\ntouch 511\nframe\nframe\nframe\ndone\n";
+
+#[test]
+fn three_frames_out(rt: HostRuntime) -> Result<(), Fail> {
+    let left = left_by(&rt, rt.alloc(), &["play"], THREE_OUT, [&[], &[]], 1000)?;
+    assert_eq!(rt; left.status, Status::Done);
+    assert_eq!(rt; (left.pictures, left.frames), (92, 4));
+    assert_eq!(rt;
+        left.notes.as_slice(),
+        b"frame 0 items 1 dropped 0\nframe 1 items 0 dropped 0\nframe 2 items 0 dropped 0\nframe 3 items 0 dropped 0\n".as_slice()
+    );
+    let left = left_by(&rt, rt.alloc(), &["play"], THREE_OUT, [&[], &[1]], 1000)?;
+    assert_eq!(rt; left.status, Status::PictureFault);
+    assert_eq!(rt; (left.pictures, left.notes.len()), (23, 0));
+    Ok(())
+}
+
+#[test]
+fn an_input_that_is_too_long(rt: HostRuntime) -> Result<(), Fail> {
+    let mut text = vec![in rt.alloc(); b'\n'; 16_777_216]?;
+    let left = left_by(&rt, rt.alloc(), &["play"], &text, [&[], &[]], 1000)?;
+    assert_eq!(rt; left.status, Status::Scene { line: 16_777_217, cause: 2 });
+    text.push(b'\n')?;
+    let left = left_by(&rt, rt.alloc(), &["play"], &text, [&[], &[]], 1000)?;
+    assert_eq!(rt; left.status, Status::TooLong);
+    Ok(())
+}

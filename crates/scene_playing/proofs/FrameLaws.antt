@@ -62,7 +62,7 @@ module _ (s : Scene) (frames : FramesMoreLaw) (lawful : LawfulMoreLaw) (notes_mo
         lawful = lawful s k ends.plan j e ends.planned a.many a.lawful ends.lawful;
         noted = ap (λ (ns : List _). ns ++ note ∷ []) a.noted ∙ ap (λ n. map noted_of (take k (plans s)) ++ n ∷ []) ends.noted ∙ sym (notes_more s k ends.plan ends.planned)
             ∙ ap (λ n. map noted_of (take n (plans s))) (sym many);
-        few = omega (arith, many, all);
+        few = (omega (arith, many, all), omega (arith, many, all));
         seen = ap (map frame_seen) ends.gives ∙ a.seen ∙ ap (scene_frames s) (sym front);
         whole = λ z. absurd cc;
       }
@@ -74,7 +74,7 @@ so_far s k given j notes is_whole whole a =
     record {
       lawful = a.lawful;
       noted = a.noted ∙ ap (λ n. map noted_of (take n (plans s))) (sym a.many);
-      few = omega (arith, same);
+      few = (omega (arith, same), omega (arith, same));
       seen = a.seen ∙ ap (scene_frames s) (sym (ap (λ n. take n j) same ∙ take_all (length j) j (omega arith)));
       whole = λ e. a.all ∙ whole e;
     }

@@ -1,5 +1,5 @@
 -- What the frames of a scene leave.
-use Rattle.std.specs.Prelude.{◌≡◌, ℕ, ◌≤◌, Bool, true, List, map, length, take}
+use Rattle.std.specs.Prelude.{◌≡◌, ℕ, ◌+◌, ◌≤◌, Bool, true, List, map, length, take}
 use Rattle.scene_model.specs.Scene.{Scene}
 use Rattle.scene_model.specs.Fold.{plans}
 use Rattle.scene_model.specs.Journal.{Journal, IsLawfulFront}
@@ -17,11 +17,11 @@ use Rattle.scene_playing.specs.declared.played.FrameNote.{FrameNote}
 abbrev pub note_seen : FrameNote → ℕ × ℕ
 note_seen n = (n.items, n.dropped)
 
--- the frames that ended have a lawful journal and the definition's notes, and those that were given are the first of them by index
+-- the frames that ended have a lawful journal and the definition's notes; those that were given are the first of them by index, and at most the last that ended was not given
 pub record AreEnded (s : Scene) (given : List Frame) (journal : Journal) (notes : List (ℕ × ℕ)) (is_whole : Bool) : Type 0 where
   pub lawful : IsLawfulFront s journal
   pub noted : notes ≡ map noted_of (take (length journal) (plans s))
-  pub few : length given ≤ length journal
+  pub few : (length given ≤ length journal) × (length journal ≤ length given + 1)
   pub seen : map frame_seen given ≡ scene_frames s (take (length given) journal)
   pub whole : is_whole ≡ true → length given ≡ length s.frames
 

@@ -14,7 +14,7 @@ pub struct FrameNote {
 pub struct Played<L: Drop> {
     /// The link, at which no frame is out.
     pub link: L,
-    /// The items of each frame that ended, in the order of their numbers.
+    /// The items of each frame that ended, in the order in which they were numbered, which is lawful for the scene.
     pub journal: Journal,
     /// What each frame that ended notes.
     pub notes: Vec<FrameNote>,

@@ -44,7 +44,7 @@ leaves_all : Laws → (s : Scene) (given : List Frame) (back : List RenderedFram
 leaves_all laws s given back journal notes old new e first has =
     let many = laws.lawful_count s journal e.lawful in
     let whole = e.whole refl in
-    let few = e.few in
+    let few = e.few.0 in
     let some = first.bounded.some_frame in
     let long : length journal ≡ length s.frames = omega arith in
     let count = laws.picture_count s journal many in
@@ -69,15 +69,15 @@ leaves : Laws → (s : Scene) (given : List Frame) (back : List RenderedFrame) (
     → AreEnded s given journal notes is_whole → Firsts s given back journal old → HasTexts outcome old back new → Leaves outcome is_whole s journal notes old new
 leaves laws s given back journal notes outcomes.Shown true old new e first has = leaves_all laws s given back journal notes old new e first has
 leaves laws s given back journal notes outcomes.Shown false old new e first has =
-    ((e.lawful, (length given, e.few, has.0 ∙ ap (λ (ps : List Texels). with_back old.held (flat_map picture_text ps)) first.pictures_are)), tt)
+    ((e.lawful, (length given, e.few.0, has.0 ∙ ap (λ (ps : List Texels). with_back old.held (flat_map picture_text ps)) first.pictures_are)), e.noted)
 leaves laws s given back journal notes outcomes.PictureFault is_whole old new e first has =
     let front = subst (λ (ps : List Texels). HasFront old.held (flat_map picture_text ps) new.held) first.pictures_are has.0 in
-    ((e.lawful, front_of_all old.held new.held (pictures s journal) (length given) front, has.1), tt)
+    ((e.lawful, front_of_all old.held new.held (pictures s journal) (length given) front, has.1), e.noted)
 leaves laws s given back journal notes outcomes.OutOfMemory is_whole old new e first has =
-    let few = e.few in
+    let few = e.few.0 in
     let same = first.same_count in
     let le = has.1 in
-    ((e.lawful, (has.0, omega arith, first_texts s given back journal old new has.0 first (omega arith) has.2)), tt)
+    ((e.lawful, (has.0, omega arith, first_texts s given back journal old new has.0 first (omega arith) has.2)), e.noted)
 leaves laws s given back journal notes outcomes.Skipped is_whole old new e first has = absurd has
 
 -- what is left, with the sink's faults, which are no fewer, and of what it is sure

@@ -30,8 +30,8 @@ IsShowing ends.Done s journal old new old_faults new_faults = IsLawful s journal
 IsShowing ends.PictureFault s journal old new old_faults new_faults = IsLawfulFront s journal × HasFront old (pictures_text s journal) new × Rose old_faults new_faults
 IsShowing ends.OutOfMemory s journal old new old_faults new_faults = IsLawfulFront s journal × HasFirst s journal old new
 
--- where all was shown, the sink counted the texts, and the notes are those of all frames
+-- the notes are those of the frames that ended; where all was shown, of all frames, and the sink counted the texts
 abbrev pub IsCounted : End → Scene → Journal → (notes : List (ℕ × ℕ)) → (old new : Option (ℕ × ℕ)) → Type 0
 IsCounted ends.Done s journal notes old new = (notes ≡ map noted_of (plans s)) × (new ≡ counted old (pictures_text s journal))
-IsCounted ends.PictureFault s journal notes old new = Unit {0}
-IsCounted ends.OutOfMemory s journal notes old new = Unit {0}
+IsCounted ends.PictureFault s journal notes old new = notes ≡ map noted_of (take (length journal) (plans s))
+IsCounted ends.OutOfMemory s journal notes old new = notes ≡ map noted_of (take (length journal) (plans s))

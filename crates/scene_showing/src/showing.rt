@@ -41,9 +41,9 @@ pub enum End {
 #[derive(Drop)]
 pub struct Showing<P: Drop> {
     pub sink: P,
-    /// The items of each frame that ended, in the order of their numbers.
+    /// The items of each frame that ended, in the order in which they were numbered, which is lawful for the scene.
     pub journal: Journal,
-    /// What each frame that ended notes.
+    /// What each frame that ended notes, one each.
     pub notes: Vec<FrameNote>,
     pub end: End,
 }
@@ -137,6 +137,7 @@ impl<P: Drop> Showing<P> {
     pub(crate) fn nothing(alloc: Global, sink: P) -> Showing<P>
         ensures sink { result.sink ≡ sink }
         ensures journal { journal_seen result.journal ≡ [] }
+        ensures notes { result.notes.items ≡ [] }
         ensures end { result.end ≡ ends.OutOfMemory }
     {
         Showing {

@@ -13,15 +13,15 @@ use crate::preparing::Stage;
 use crate::room::DrawingRoom;
 use buffer_store::BufferStore;
 use gfx_words::Handle;
-use int_raster::{DrawList, Surface, draw_view};
+use int_raster::{DrawList, Surface, draw_bands};
 use render_stores::RenderStores;
 use std::alloc::AllocError;
 use std::thread::Threads;
 use store_model::put_back_law;
 use view_table::View;
 
-/// Makes the draws of items on a surface of the stage's sides, and gives their values. Where memory is wanting, nothing
-/// is drawn.
+/// Makes the draws of items on a surface of the stage's sides, in bands where their work is worth it, and gives their values.
+/// Where memory is wanting, nothing is drawn.
 fn draw_surface<R: Threads + Sync>(
     rt: &R,
     surface: &mut Surface,
@@ -37,10 +37,10 @@ fn draw_surface<R: Threads + Sync>(
     ensures color { sides_seen surface.new.color ≡ sides_seen surface.old.color }
     ensures depth { option_map sides_seen surface.new.depth ≡ option_map sides_seen surface.old.depth }
 {
-    let _ = rt;
     let mut list = DrawList::with_room(room.alloc, room.take_list());
     do_items(stage, buffers, items, &mut list, room)?;
-    draw_view(surface, &list);
+    let bands = room.processors.bands(rt, room.pixels);
+    draw_bands(rt, surface, &list, bands);
     room.list = list.into_room();
     Ok(())
 }

@@ -1,6 +1,7 @@
 //! What entering a view does: its clear, its blits, and its draws and touches, each made on the stores of a renderer.
 #![tactic(auto)]
 
+mod bands;
 mod blits;
 mod clearing;
 mod drawing;
@@ -12,6 +13,8 @@ mod ranges;
 mod room;
 mod shapes;
 mod targets;
+#[cfg(test)]
+mod tests;
 mod uniforms;
 
 pub use entering::enter_view;
