@@ -52,3 +52,23 @@ frames_of() {
 size_of() {
     sed -n 's/^size //p' "$1" | head -n 1
 }
+
+# output NAME: the name of what is written, which is no option
+output() {
+    case $1 in
+        -*) fail "$1 stands behind the scene; options stand before it" ;;
+    esac
+    out=$1
+}
+
+# how many bytes one picture of the scene has, with its header
+picture_bytes() {
+    size=$(size_of "$1")
+    header=$(printf 'P6\n%s\n255\n' "$size" | wc -c)
+    echo $((header + 3 * ${size% *} * ${size#* }))
+}
+
+# sums SCENE: the SHA-256 sum of each picture on standard input, a line each
+sums() {
+    split -b "$(picture_bytes "$1")" --filter='sha256sum | cut -d " " -f 1' -
+}
