@@ -10,10 +10,11 @@ use Rattle.scene_model.proofs.LawfulLaws.{own-items}
 use Rattle.shared_keys.specs.declared.marks.Mark.{Mark}
 use Rattle.shared_keys.specs.Pairs.{Sharing, partner_of, least_pair, sharing_views}
 use Rattle.shared_keys.specs.Lines.{encoders_share}
-use Rattle.shared_keys.specs.Marks.{is_one_key, marks_share, IsMarkOf, can_clash, mark_of, tagged_by, marks_by, IsThere}
-use Rattle.shared_keys.specs.Laws.{MarksLaw}
+use Rattle.shared_keys.specs.Marks.{is_one_key, marks_share, IsMarkOf, can_clash, mark_of, tagged_by, marks_by, AreMarksOf, IsThere}
+use Rattle.shared_keys.specs.Laws.{MarksLaw, JournalMarksLaw}
 use Rattle.shared_keys.proofs.Order.{parts, both}
-use Rattle.shared_keys.proofs.Members.{In, any-of, of-any, self-member, member-has, member-left, member-right, member-of-both, of-share, to-share}
+use Rattle.shared_keys.specs.Members.{In}
+use Rattle.shared_keys.proofs.Members.{any-of, of-any, self-member, member-has, member-left, member-right, member-of-both, of-share, to-share}
 use Rattle.shared_keys.proofs.There.{there}
 
 same_from_test : (m n : ℕ) → (m == n) ≡ true → m ≡ n
@@ -175,7 +176,7 @@ of-tagged first (a ∷ rest) t i = elim (member-of-both t (map (λ i. record { e
       record { place = suc later.place; accepted = later.accepted; there = later.there; own = later.own ∙ (let e : first + 1 + later.place ≡ first + suc later.place = omega arith in e); item = later.item }
 ]
 
-to-tagged : (first : ℕ) (encoders : List Accepted) (k : ℕ) (a : Accepted) (i : Item) → slice_get encoders k ≡ Some a → In i a.items → In {A = Tagged} (record { encoder = first + k; item = i }) (tagged_from first encoders)
+pub to-tagged : (first : ℕ) (encoders : List Accepted) (k : ℕ) (a : Accepted) (i : Item) → slice_get encoders k ≡ Some a → In i a.items → In {A = Tagged} (record { encoder = first + k; item = i }) (tagged_from first encoders)
 to-tagged first [] k a i e j = absurd (cc e)
 to-tagged first (b ∷ rest) zero a i e j =
     let same : b ≡ a = cc e in
@@ -263,26 +264,25 @@ apart-test m n l = ap not (other m n l)
     other : (m n : ℕ) → m < n → (m == n) ≡ false
     other m n l = grind (arith, l)
 
-module _ (p : FramePlan) (entries : List Entry) (h : IsLawfulFrame p entries) where
-  mark-there : (t : Tagged) → In t (tagged_from 0 p.encoders) → can_clash t.item ≡ true → In (mark_of p.views t) (marks_by p entries)
-  mark-there t i c =
-      member-map (mark_of p.views) (filter (λ t. can_clash t.item) (tagged_by p.encoders entries)) t
-      (member-filter (λ t. can_clash t.item) (tagged_by p.encoders entries) t (by-has-from p entries t h (of-tagged 0 p.encoders t i)) c)
+from-of : (encoders : List Accepted) (t : Tagged) → IsOf 0 encoders t → In t (tagged_from 0 encoders)
+from-of encoders t o = subst (λ (n : ℕ). In {A = Tagged} (record { encoder = n; item = t.item }) (tagged_from 0 encoders)) (sym o.own) (to-tagged 0 encoders o.place o.accepted t.item o.there o.item)
 
-  of-mark : (m : Mark) → In m (marks_by p entries) → (t : Tagged) × IsOf 0 p.encoders t × (can_clash t.item ≡ true) × (m ≡ mark_of p.views t)
-  of-mark m i =
+pub journal-marks : JournalMarksLaw
+journal-marks p entries h = record {
+  has = λ t i c. member-map (mark_of p.views) (filter (λ t. can_clash t.item) (tagged_by p.encoders entries)) t
+      (member-filter (λ t. can_clash t.item) (tagged_by p.encoders entries) t (by-has-from p entries t h (of-tagged 0 p.encoders t i)) c);
+  of = λ m i.
       let one = member-of-map (mark_of p.views) (filter (λ t. can_clash t.item) (tagged_by p.encoders entries)) m i in
       let two = member-of-filter (λ t. can_clash t.item) (tagged_by p.encoders entries) one.0 one.1 in
-      (one.0, by-is-from p.encoders entries one.0 two.0, two.1, one.2)
+      (one.0, from-of p.encoders one.0 (by-is-from p.encoders entries one.0 two.0), two.1, one.2);
+}
 
-  from-of : (t : Tagged) → IsOf 0 p.encoders t → In t (tagged_from 0 p.encoders)
-  from-of t o = subst (λ (n : ℕ). In {A = Tagged} (record { encoder = n; item = t.item }) (tagged_from 0 p.encoders)) (sym o.own) (to-tagged 0 p.encoders o.place o.accepted t.item o.there o.item)
-
-  marks-then : (v a b : ℕ) → a < b → marks_share (marks_by p entries) v a b ≡ true → encoders_share p.views (tagged_from 0 p.encoders) v a b ≡ true
+module _ (p : FramePlan) (marks : List Mark) (h : AreMarksOf p marks) where
+  marks-then : (v a b : ℕ) → a < b → marks_share marks v a b ≡ true → encoders_share p.views (tagged_from 0 p.encoders) v a b ≡ true
   marks-then v a b l e =
-      let s = of-share (marks_by p entries) v a b e in
-      let left = of-mark s.left s.has_left in
-      let right = of-mark s.right s.has_right in
+      let s = of-share marks v a b e in
+      let left = h.of s.left s.has_left in
+      let right = h.of s.right s.has_right in
       let x = left.0 in
       let y = right.0 in
       let first : x.encoder ≡ a = sym (ap (λ (m : Mark). m.encoder) left.3) ∙ s.first in
@@ -291,9 +291,9 @@ module _ (p : FramePlan) (entries : List Entry) (h : IsLawfulFrame p entries) wh
       let key : is_one_key (mark_of p.views x) (mark_of p.views y) ≡ true = (λ i. is_one_key (sym left.3 i) (sym right.3 i)) ∙ s.clash in
       let told = parts (view_of_item x.item == view_of_item y.item) (clashes p.views x.item y.item) (sym (one-key-is p.views x.encoder y.encoder x.item y.item left.2 right.2) ∙ key) in
       to-encoders p.views (tagged_from 0 p.encoders) v a b x y
-      (from-of x left.1, from-of y right.1, first, view, second, share-from p.views x y (apart-test x.encoder y.encoder (let f = first in let g = second in omega (arith, f, g, l))) told.0 told.1)
+      (left.1, right.1, first, view, second, share-from p.views x y (apart-test x.encoder y.encoder (let f = first in let g = second in omega (arith, f, g, l))) told.0 told.1)
 
-  then-marks : (v a b : ℕ) → encoders_share p.views (tagged_from 0 p.encoders) v a b ≡ true → marks_share (marks_by p entries) v a b ≡ true
+  then-marks : (v a b : ℕ) → encoders_share p.views (tagged_from 0 p.encoders) v a b ≡ true → marks_share marks v a b ≡ true
   then-marks v a b e =
       let found = of-encoders p.views (tagged_from 0 p.encoders) v a b e in
       let x = found.0 in
@@ -301,24 +301,24 @@ module _ (p : FramePlan) (entries : List Entry) (h : IsLawfulFrame p entries) wh
       let t = found.1.1 in
       let told = share-told p.views x y t.5 in
       let can = can-both p.views x.item y.item told.2 in
-      to-share (marks_by p entries) v a b (record {
+      to-share marks v a b (record {
         left = mark_of p.views x;
         right = mark_of p.views y;
-        has_left = mark-there x t.0 can.0;
-        has_right = mark-there y t.1 can.1;
+        has_left = h.has x t.0 can.0;
+        has_right = h.has y t.1 can.1;
         clash = one-key-is p.views x.encoder y.encoder x.item y.item can.0 can.1 ∙ both (view_of_item x.item == view_of_item y.item) (clashes p.views x.item y.item) told.1 told.2;
         first = t.2;
         second = t.4;
         view = t.3;
       })
 
-  pub same-sharing : (v a b : ℕ) → a < b → marks_share (marks_by p entries) v a b ≡ encoders_share p.views (tagged_from 0 p.encoders) v a b
+  pub same-sharing : (v a b : ℕ) → a < b → marks_share marks v a b ≡ encoders_share p.views (tagged_from 0 p.encoders) v a b
   same-sharing v a b l = bool-same _ _ (marks-then v a b l) (then-marks v a b)
 
-  pub marks-own : AllByRecursion (λ a. AllByRecursion (IsThere (view_count p.views)) a.items) p.encoders → AllByRecursion (IsMarkOf (view_count p.views) (length p.encoders)) (marks_by p entries)
-  marks-own all = self-member (marks_by p entries) (IsMarkOf (view_count p.views) (length p.encoders)) (λ m i.
-      let one = of-mark m i in
-      let o = one.1 in
+  pub marks-own : AllByRecursion (λ a. AllByRecursion (IsThere (view_count p.views)) a.items) p.encoders → AllByRecursion (IsMarkOf (view_count p.views) (length p.encoders)) marks
+  marks-own all = self-member marks (IsMarkOf (view_count p.views) (length p.encoders)) (λ m i.
+      let one = h.of m i in
+      let o = of-tagged 0 p.encoders one.0 one.1 in
       let fits : AllByRecursion (IsThere (view_count p.views)) o.accepted.items = member-has (λ a. AllByRecursion (IsThere (view_count p.views)) a.items) p.encoders o.accepted all (member-at p.encoders o.place o.accepted o.there) in
       let low = (member-has (IsThere (view_count p.views)) o.accepted.items one.0.item fits o.item).0 in
       let few = at-below p.encoders o.place o.accepted o.there in
@@ -360,5 +360,5 @@ module _ (f g : Sharing) (same : (v a b : ℕ) → a < b → f v a b ≡ g v a b
   views-same views = views-from (range_with_len 0 views)
 
 pub marks-tell : MarksLaw
-marks-tell s k p entries e h =
-    (marks-own p entries h (there s k p e), views-same (marks_share (marks_by p entries)) (encoders_share p.views (tagged_from 0 p.encoders)) (same-sharing p entries h) (length p.encoders) (view_count p.views))
+marks-tell s k p marks e h =
+    (marks-own p marks h (there s k p e), views-same (marks_share marks) (encoders_share p.views (tagged_from 0 p.encoders)) (same-sharing p marks h) (length p.encoders) (view_count p.views))

@@ -2,7 +2,7 @@
 use Rattle.std.proofs.Common.{◌≡◌, ℕ, ◌+◌, ◌<◌, ◌≤◌, ◌⊎◌, inl, inr, Bool, true, false, nat_lt, ◌&&◌, ◌||◌, ◌==◌, cond, List, [], ◌∷◌, fold, Option, Some, None, refl, sym, ap, subst, ◌∙◌, arith}
 use Rattle.std.specs.Prelude.{⊤}
 use Rattle.shared_keys.specs.Steps.{is_less, with_step, leasts_of}
-use Rattle.shared_keys.proofs.Members.{In}
+use Rattle.shared_keys.specs.Members.{In}
 use Rattle.shared_keys.proofs.Steps.{Step, ViewsAscend}
 
 abbrev pub Pair : Type 0

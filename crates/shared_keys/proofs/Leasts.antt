@@ -7,7 +7,8 @@ use Rattle.shared_keys.specs.declared.marks.Mark.{Mark}
 use Rattle.shared_keys.specs.Pairs.{least_pair, sharing_views}
 use Rattle.shared_keys.specs.Marks.{marks_share, IsMarkOf}
 use Rattle.shared_keys.specs.Steps.{AreInOrder, AreInOrderFrom, steps_of, with_step, leasts_of}
-use Rattle.shared_keys.proofs.Members.{In, member-has, Share, of-share, to-share, share-moves}
+use Rattle.shared_keys.specs.Members.{In}
+use Rattle.shared_keys.proofs.Members.{member-has, Share, of-share, to-share, share-moves}
 use Rattle.shared_keys.proofs.Steps.{Step, ViewsAscend, HasStep, steps-sound, steps-complete, steps-ascend}
 use Rattle.shared_keys.proofs.Kept.{Pair, pair_at, kept-some, kept-none, leasts-up, up-to-over}
 use Rattle.shared_keys.proofs.Views.{least-is, least-none, AllBelow, views-are}

@@ -5,12 +5,9 @@ use Rattle.std.specs.List.Sorted.{IsPermutation}
 use Rattle.std.proofs.lemmas.List.Sorted.{IsPermutation-sym, All-permutation}
 use Rattle.std.proofs.lemmas.List.Elements.{All-from_recursion, recursion_from_All}
 use Rattle.shared_keys.specs.declared.marks.Mark.{Mark}
+use Rattle.shared_keys.specs.Members.{In}
 use Rattle.shared_keys.specs.Marks.{is_one_key, marks_share}
 use Rattle.shared_keys.proofs.Order.{parts, both}
-
-abbrev pub In : {A : Type 0} → A → List A → Type 0
-In x [] = ⊥
-In x (y ∷ ys) = (x ≡ y) ⊎ In x ys
 
 pub any-of : {A : Type 0} (p : A → Bool) (xs : List A) (x : A) → In x xs → p x ≡ true → list_any p xs ≡ true
 any-of p [] x i h = absurd i

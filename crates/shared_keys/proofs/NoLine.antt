@@ -12,7 +12,8 @@ use Rattle.shared_keys.specs.Lines.{encoders_share, shared_views, frame_lines, l
 use Rattle.shared_keys.specs.Marks.{IsThere}
 use Rattle.shared_keys.specs.Laws.{NoLineLaw, FreeLaw}
 use Rattle.shared_keys.proofs.Order.{parts, both}
-use Rattle.shared_keys.proofs.Members.{In, any-of, of-any, member-has}
+use Rattle.shared_keys.specs.Members.{In}
+use Rattle.shared_keys.proofs.Members.{any-of, of-any, member-has}
 use Rattle.shared_keys.proofs.Views.{least-none}
 use Rattle.shared_keys.proofs.There.{all-there}
 use Rattle.shared_keys.proofs.Clashes.{of-encoders, to-encoders, share-told, share-from, of-tagged, member-at, at-below}

@@ -6,7 +6,8 @@ use Rattle.shared_keys.specs.declared.marks.Mark.{Mark}
 use Rattle.shared_keys.specs.Marks.{is_one_key}
 use Rattle.shared_keys.specs.Steps.{ComesBefore, AreInOrderFrom, step_of, steps_from}
 use Rattle.shared_keys.proofs.Order.{parts, both, before-over, between, encoders-rise, views-rise, of-one-key, to-one-key, IsOneKey}
-use Rattle.shared_keys.proofs.Members.{In, member-left, member-right, member-of-both, Share, moved}
+use Rattle.shared_keys.specs.Members.{In}
+use Rattle.shared_keys.proofs.Members.{member-left, member-right, member-of-both, Share, moved}
 
 abbrev pub Step : Type 0
 Step = ℕ × (ℕ × ℕ)

@@ -5,19 +5,23 @@ use Rattle.gfx_model.specs.Views.{view_count}
 use Rattle.scene_model.specs.Scene.{Scene}
 use Rattle.scene_model.specs.Fold.{FramePlan, plans}
 use Rattle.scene_model.specs.Journal.{Entry, Journal, IsLawfulFrame, IsLawful, shares_key, pictures}
+use Rattle.shared_keys.specs.declared.marks.Mark.{Mark}
 use Rattle.shared_keys.specs.Pairs.{sharing_views}
 use Rattle.shared_keys.specs.Lines.{shared_views, shared_lines}
-use Rattle.shared_keys.specs.Marks.{marks_share, marks_by, IsMarkOf, IsThere}
+use Rattle.shared_keys.specs.Marks.{marks_share, marks_by, AreMarksOf, IsMarkOf, IsThere}
 
 -- each accepted item of a scene is of a view that is there, and what a draw draws with is a program
 abbrev pub ThereLaw : Type 0
 ThereLaw = (s : Scene) (k : ℕ) (p : FramePlan) → slice_get (plans s) k ≡ Some p → AllByRecursion (λ a. AllByRecursion (IsThere (view_count p.views)) a.items) p.encoders
 
--- the marks of a scene's frame, by any lawful journal, are of its views and encoders, and tell the definition's views
+-- marks that are just those of the items of a scene's frame are of its views and encoders, and tell the definition's views
 abbrev pub MarksLaw : Type 0
-MarksLaw = (s : Scene) (k : ℕ) (p : FramePlan) (entries : List Entry) → slice_get (plans s) k ≡ Some p → IsLawfulFrame p entries
-    → AllByRecursion (IsMarkOf (view_count p.views) (length p.encoders)) (marks_by p entries)
-    × (sharing_views (marks_share (marks_by p entries)) (length p.encoders) (view_count p.views) ≡ shared_views p)
+MarksLaw = (s : Scene) (k : ℕ) (p : FramePlan) (marks : List Mark) → slice_get (plans s) k ≡ Some p → AreMarksOf p marks
+    → AllByRecursion (IsMarkOf (view_count p.views) (length p.encoders)) marks × (sharing_views (marks_share marks) (length p.encoders) (view_count p.views) ≡ shared_views p)
+
+-- the marks of the items in the order of a lawful journal are just those of the frame's items
+abbrev pub JournalMarksLaw : Type 0
+JournalMarksLaw = (p : FramePlan) (entries : List Entry) → IsLawfulFrame p entries → AreMarksOf p (marks_by p entries)
 
 -- there is no line exactly where no two encoders share a key
 abbrev pub NoLineLaw : Type 0

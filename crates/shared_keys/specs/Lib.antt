@@ -1,3 +1,4 @@
+pub mod Members
 pub mod Pairs
 pub mod Lines
 pub mod Marks

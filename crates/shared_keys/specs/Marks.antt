@@ -5,7 +5,8 @@ use Rattle.gfx_model.specs.Words.{program_kind, is_kind}
 use Rattle.gfx_model.specs.Views.{Views, view_at}
 use Rattle.gfx_model.specs.World.{Item, draw_item, touch_item, blit_item, is_blit, view_of_item, key_of_item}
 use Rattle.scene_model.specs.Fold.{Accepted, FramePlan}
-use Rattle.scene_model.specs.Journal.{Entry, Tagged, item_of, is_marked, is_sequential}
+use Rattle.scene_model.specs.Journal.{Entry, Tagged, tagged_from, item_of, is_marked, is_sequential}
+use Rattle.shared_keys.specs.Members.{In}
 use Rattle.shared_keys.specs.Pairs.{Sharing}
 use Rattle.shared_keys.specs.declared.marks.Mark.{Mark}
 use Rattle.shared_keys.specs.declared.marks.SharedView.{SharedView}
@@ -54,6 +55,11 @@ tagged_by encoders entries = filter_map (λ n. option_map (λ i. record { encode
 -- the marks of the items that can clash, in the order of a journal
 abbrev pub marks_by : FramePlan → List Entry → List Mark
 marks_by p entries = map (mark_of p.views) (filter (λ t. can_clash t.item) (tagged_by p.encoders entries))
+
+-- the marks are just those of the frame's items that can clash
+pub record AreMarksOf (p : FramePlan) (marks : List Mark) : Type 0 where
+  pub has : (t : Tagged) → In t (tagged_from 0 p.encoders) → can_clash t.item ≡ true → In (mark_of p.views t) marks
+  pub of : (m : Mark) → In m marks → (t : Tagged) × In t (tagged_from 0 p.encoders) × (can_clash t.item ≡ true) × (m ≡ mark_of p.views t)
 
 -- ---- items of a scene
 

@@ -1,15 +1,16 @@
 //! Laws over the definitions alone: functions without parameters, each with an empty body, whose contracts are the laws.
-ghost use Rattle.shared_keys.specs.Laws.{ThereLaw, MarksLaw, NoLineLaw, FreeLaw};
+ghost use Rattle.shared_keys.specs.Laws.{ThereLaw, MarksLaw, JournalMarksLaw, NoLineLaw, FreeLaw};
 
 /// Each accepted item of a scene is of a view that is there, and what a draw draws with is a program.
 pub fn there_law()
     ensures { ThereLaw }
 {}
 
-/// The marks of a frame's items, in the order of any lawful journal, are of its views and encoders, and tell the same views and pairs
-/// as the definition.
+/// Marks that are just those of a frame's items, in any order, are of its views and encoders, and tell the same views and pairs as the
+/// definition. So are the marks of the items in the order of a lawful journal.
 pub fn marks_law()
-    ensures { MarksLaw }
+    ensures tell { MarksLaw }
+    ensures by_journal { JournalMarksLaw }
 {}
 
 /// There is no line exactly where no two encoders of the scene share a key.
