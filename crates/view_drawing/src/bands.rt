@@ -50,21 +50,17 @@ impl Processors {
     }
 }
 
+/// How far one place lies behind another, in 1/256 pixel.
+fn distance(from: i32, to: i32) -> i64 {
+    i64::from(to).saturating_sub(i64::from(from))
+}
+
 /// About how many pixels a triangle covers: its area, at most a number.
 fn covered(triangle: &Setup, most: u64) -> u64 {
     let (a, b, c) = (&triangle.a, &triangle.b, &triangle.c);
-    let (right, down) = (
-        i64::from(b.x) - i64::from(a.x),
-        i64::from(b.y) - i64::from(a.y),
-    );
-    let (far, low) = (
-        i64::from(c.x) - i64::from(a.x),
-        i64::from(c.y) - i64::from(a.y),
-    );
-    let twice = right
-        .saturating_mul(low)
-        .saturating_sub(far.saturating_mul(down));
-    (twice.unsigned_abs() / 131_072).min(most)
+    let first = distance(a.x, b.x).saturating_mul(distance(a.y, c.y));
+    let second = distance(a.x, c.x).saturating_mul(distance(a.y, b.y));
+    (first.saturating_sub(second).unsigned_abs() / 131_072).min(most)
 }
 
 /// About how many pixels triangles cover within a cut, each counted as often as it is covered.

@@ -28,12 +28,12 @@ returns c sets s ew eh =
     let indices = indices_at c.args.buffers.now d.indices in
     let vs = draw_vertices vertices indices in
     let rect = view_rect view.rect width height in
-    let cut = rect_seen c.draw_cut.result in
+    let cut = rect_seen c.draw_cut-cut.result in
     let triangles = map setup_seen c.shape_draw.new.room.triangles.items in
     let facings = map (facing_shown d.front d.back) triangles in
     let paint = paint_seen c.args.paint in
     prepared_drawn view cut d vertices indices paint facings width height (fold drawn_prepared s old) (list_width s old ∙ ew) (list_height s old ∙ eh)
-    (λ x y. c.draw_cut.ensures.pixels x y ∙ (λ i. contains (c.view_rect-rect.ensures i) x y && passes_scissor view.scissor x y && passes_scissor d.scissor x y))
+    (λ x y. c.draw_cut-cut.ensures.pixels x y ∙ (λ i. contains (c.view_rect-rect.ensures i) x y && passes_scissor view.scissor x y && passes_scissor d.scissor x y))
     (ap (map (facing_shown d.front d.back)) c.in_ok-shape_draw.ensures
     ∙ (λ i. map (facing_shown d.front d.back) (kept_of (cull_of d.state) (triangles_of (primitive_of d.state) (map (option_and_then (place d.model view.transform (c.view_rect-rect.ensures i))) vs))))
     ∙ facings_kept view rect d vs)
