@@ -1,7 +1,5 @@
 // The resource calls.
-ghost use Rattle.std.specs.List.{list_all};
 ghost use Rattle.gfx_model.specs.Resources as model;
-ghost use Rattle.gfx_model.specs.Resources.{is_kept_thing};
 ghost use Rattle.fix_math.specs.Seen.{rect_seen, affine_seen};
 ghost use Rattle.gfx_words.specs.Seen.{mode_seen, format_seen, program_seen, uniform_seen};
 ghost use Rattle.texture_store.specs.Seen.{own_source_seen};
@@ -244,13 +242,6 @@ impl Book {
         ensures { self.new ≡ record self.old { resources = model.start_frame frame self.old.resources } }
     {
         self.desk.start_frame(frame);
-    }
-
-    /// Whether the start of that frame keeps all things. It looks at the things that wait alone.
-    pub fn keeps_all(&self, frame: u32) -> bool
-        ensures { result ≡ list_all (is_kept_thing self.now.resources.latency frame) self.now.resources.things }
-    {
-        self.desk.shelf.keeps_all(frame)
     }
 
     /// The things.
