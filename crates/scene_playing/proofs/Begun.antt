@@ -19,7 +19,7 @@ begins_more room e old new b = record {
 pub records_still : {L : Type 0} (s : Scene) (f : SceneFrame) (names : List (Option Handle)) (old new : ContextView L) → new ≡ record old { seat = new.seat; begun = new.begun }
     → IsRecording s old.book.resources.frame f names old → IsRecording s new.book.resources.frame f names new
 records_still s f names old new same r =
-    subst (λ c. IsRecording s c.book.resources.frame f names c) (sym same) (record { there = r.there; stands = r.stands; first = r.first })
+    subst (λ c. IsRecording s c.book.resources.frame f names c) (sym same) (record { there = r.there; stands = r.stands; running = r.running; first = r.first })
 
 -- another seat, and another number of encoders
 abbrev with_seat : {L : Type 0} → (new old : ContextView L) → ContextView L

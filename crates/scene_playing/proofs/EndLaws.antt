@@ -62,8 +62,8 @@ module _ (admits : ℕ → ℕ → List Item → ℕ → Type 0) (s : Scene) (ad
 -- the context is at the start of the next frame, when what was written is given up and the next frame starts
 pub at_next : {L : Type 0} (next : NextLaw) (start : BareStartLaw) (s : Scene) (k : ℕ) (f : SceneFrame) (handles : List (Option Handle)) (old new : ContextView L)
     → slice_get s.frames k ≡ Some f → old.book.resources.frame ≡ k → StandsFor (written_by s.names (start_of s k) f) (all_of s k f) old.book handles → old.first ≡ 1 → length handles ≡ length s.names
-    → new.book ≡ started old.book → new.begun ≡ 0 → new.first ≡ old.first → IsAt s (k + 1) handles new
-at_next next start s k f handles old new there number stands first many book begun same =
+    → new.book ≡ started old.book → new.begun ≡ 0 → new.is_ended ≡ false → new.first ≡ old.first → IsAt s (k + 1) handles new
+at_next next start s k f handles old new there number stands first many book begun running same =
     let step : progress_before s (k + 1) ≡ all_of s k f = next s k f there in
     let is : start_of s (k + 1) ≡ at_start (k + 1) (all_of s k f) = ap (at_start (k + 1)) step in
     let old_is : old.book.resources ≡ bare_of (all_of s k f).resources = ap (λ b. b.resources) stands.book_is ∙ ap bare_of stands.resources in
@@ -77,6 +77,7 @@ at_next next start s k f handles old new there number stands first many book beg
         named = subst (λ (p : Progress). AreNamed handles p.bindings) (sym is) stands.named;
       };
       none_begun = begun;
+      running = running;
       first = same ∙ first;
       many = many;
     }
@@ -120,7 +121,7 @@ module _ {L : Type 0} (admits : ℕ → ℕ → List Item → ℕ → Type 0) (s
     seen = seen s k f gone (start_of s k) old.seat.places mid new.seat.base g.frame (written_by s.names (start_of s k) f) handles planned refl stands frame_of views g.is_of
         ∙ ap (frame_data s k (start_of s k) f) (sym ends.journal);
     next = at_next next start s k f handles old new played.there number played.stands played.first played.many
-        (ap (λ v. v.book) g.same ∙ ap (λ v. started v.book) collects.same) (ap (λ v. v.begun) g.same) (ap (λ v. v.first) g.same ∙ ap (λ v. v.first) collects.same);
+        (ap (λ v. v.book) g.same ∙ ap (λ v. started v.book) collects.same) (ap (λ v. v.begun) g.same) (ap (λ v. v.is_ended) g.same ∙ ap (λ v. v.is_ended) collects.same ∙ played.running) (ap (λ v. v.first) g.same ∙ ap (λ v. v.first) collects.same);
   }
   gives false e = ap (λ v. v.given) e ∙ ap (λ v. v.given) collects.same
 

@@ -64,6 +64,7 @@ recording_after s k f dropped before after old new at there played same = (
   record {
     there = there;
     stands = played.stands (nothing_written (start_of s k).resources) (start_of s k) at.stands;
+    running = ap (λ v. v.is_ended) same ∙ at.running;
     first = ap (λ v. v.first) same ∙ at.first;
   },
   none_before dropped (before_of s k f).dropped (played.dropped_are (nothing_written (start_of s k).resources) (start_of s k) at.stands),
@@ -86,6 +87,7 @@ recorded_after s k f dropped before after old mid new recording begun played sam
             (sym (fold-append after_call (nothing_written (start_of s k).resources) (calls_of s.names (start_of s k) f.before) (calls_of s.names (before_of s k f) f.beside)))
             (played.stands (written_before s k f) (before_of s k f) stands);
         begun = ap (λ v. v.begun) same ∙ begun.begun;
+        running = ap (λ v. v.is_ended) same ∙ ap (λ v. v.is_ended) begun.same ∙ recording.running;
         first = ap (λ v. v.first) same ∙ ap (λ v. v.first) begun.same ∙ recording.first;
         many = played.many ∙ many;
       },

@@ -39,8 +39,8 @@ none_named (suc many) (suc n) = none_named many n
 
 -- a new context is at the start of the first frame
 pub at_first : {L : Type 0} (first : FirstLaw) (s : Scene) (start : Start) (c : ContextView L) → start.frame ≡ 0 → start.serial ≡ 1 → start.views ≡ views_of s → start.latency ≡ latency_of s
-    → c.book ≡ opened start → c.begun ≡ 0 → c.first ≡ start.serial → (handles : List (Option Handle)) → handles ≡ replicate (length s.names) None → IsAt s 0 handles c
-at_first first s start c frame serial views latency book begun is handles none =
+    → c.book ≡ opened start → c.begun ≡ 0 → c.is_ended ≡ false → c.first ≡ start.serial → (handles : List (Option Handle)) → handles ≡ replicate (length s.names) None → IsAt s 0 handles c
+at_first first s start c frame serial views latency book begun running is handles none =
     let at : start_of s 0 ≡ at_start 0 (first_progress s) = ap (at_start 0) (first s) in
     let opened_is : opening start.views start.latency start.frame start.serial ≡ (start_of s 0).resources =
     (λ i. opening (views i) (latency i) (frame i) (serial i)) ∙ sym (start_opening (views_of s) (latency_of s) 0 1) ∙ ap (λ (p : Progress). p.resources) (sym at) in
@@ -53,6 +53,7 @@ at_first first s start c frame serial views latency book begun is handles none =
         named = subst (λ hs. AreNamed hs (start_of s 0).bindings) (sym none) (subst (λ (p : Progress). AreNamed (replicate (length s.names) None) p.bindings) (sym at) (none_named (length s.names)));
       };
       none_begun = begun;
+      running = running;
       first = is ∙ serial;
       many = ap length none ∙ length-replicate (length s.names) None;
     }
