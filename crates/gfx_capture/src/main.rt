@@ -8,6 +8,8 @@ mod input;
 mod output;
 mod showing;
 mod status;
+#[cfg(test)]
+mod tests;
 
 use crate::showing::show;
 use crate::status::CaptureStatus;
