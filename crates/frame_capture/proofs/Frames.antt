@@ -159,3 +159,7 @@ shown-again bytes f is =
     let read : head_at bytes ≡ Ok (h, is.frames) = ap head_at is.spelled ∙ head_again h is.frames lawful in
     let others : frames_at head (f.width * f.height) 0 (length f.pictures) is.frames ≡ Ok (texts f) = frames-again head (f.width * f.height) 0 f.pictures is.frames (omega (arith, can.count.1)) is.framed can.whole in
     rw read others
+
+-- no bytes are the capture of pictures with other texts
+pub same-texts : (bytes : List ℕ) (f g : Film) → IsCapture bytes f → IsCapture bytes g → texts f ≡ texts g
+same-texts bytes f g a b = ok_is {E = Fault} (texts f) (texts g) (sym (shown-again bytes f a) ∙ shown-again bytes g b)

@@ -1,9 +1,16 @@
 //! Laws of captures.
-ghost use Rattle.std.specs.Prelude.{◌≡◌, List, ℕ};
-ghost use Rattle.frame_capture.specs.Film.{Film};
+ghost use Rattle.std.specs.Prelude.{◌≡◌, List, ℕ, Ok};
+ghost use Rattle.frame_capture.specs.Film.{Film, texts};
 ghost use Rattle.frame_capture.specs.Capture.{IsCapture};
+ghost use Rattle.frame_capture.specs.Fault.{shown};
 
-/// Each list of pictures has one spelling, and no bytes are the capture of two lists.
+/// Each list of pictures has one spelling.
 pub fn one_spelling()
-    ensures one_capture { (a b : List ℕ) → (f : Film) → IsCapture a f → IsCapture b f → a ≡ b }
+    ensures { (a b : List ℕ) → (f : Film) → IsCapture a f → IsCapture b f → a ≡ b }
+{}
+
+/// A capture is read as the texts of its pictures, so no bytes are the capture of pictures with other texts.
+pub fn one_reading()
+    ensures read { (bytes : List ℕ) → (f : Film) → IsCapture bytes f → shown bytes ≡ Ok (texts f) }
+    ensures alone { (bytes : List ℕ) → (f g : Film) → IsCapture bytes f → IsCapture bytes g → texts f ≡ texts g }
 {}

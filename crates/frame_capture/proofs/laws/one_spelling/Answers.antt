@@ -2,4 +2,4 @@ use Rattle.frame_capture.proofs.Greedy.{one-capture}
 use Rattle.frame_capture.proofs.laws.one_spelling.Goals as goal
 
 pub returns : goal.returns
-returns c = record { one_capture = one-capture }
+returns c = one-capture

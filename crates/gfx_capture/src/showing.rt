@@ -1,0 +1,58 @@
+// Shows a capture.
+ghost use Rattle.std.specs.Prelude.{◌≡◌, ◌≢◌, ◌≤◌, ◌⊎◌, ℕ, List, Some};
+ghost use Rattle.io_edge.specs.Edge.{Rose};
+ghost use Rattle.gfx_capture.specs.Ended.{Ends, status_of};
+
+use crate::input::{InputError, read_all};
+use crate::output::put_all;
+use crate::status::CaptureStatus;
+use frame_capture::{CaptureFault, decode};
+use io_edge::{Sink, Source};
+use std::alloc::Global;
+
+/// The longest capture that is read.
+const LONGEST: usize = 201_326_592;
+
+/// Does the work of `show`.
+fn run<S: Source, P: Sink>(alloc: Global, source: &mut S, sink: &mut P) -> CaptureStatus
+    ensures ends { Ends result (S.left source.old) (S.left source.new) (P.held sink.old) (P.held sink.new)
+        (Rose (S.faults source.old) (S.faults source.new)) (Rose (P.faults sink.old) (P.faults sink.new)) }
+    ensures no_fewer { (S.faults source.old ≤ S.faults source.new) × (P.faults sink.old ≤ P.faults sink.new) }
+{
+    let bytes = match read_all(alloc, source, LONGEST) {
+        Ok(bytes) => bytes,
+        Err(InputError::Fault) => return CaptureStatus::ReadFault,
+        Err(InputError::TooLong) => return CaptureStatus::TooLong,
+        Err(InputError::OutOfMemory) => return CaptureStatus::OutOfMemory,
+    };
+    let texts = match decode(alloc, &bytes) {
+        Ok(texts) => texts,
+        Err(CaptureFault::At { frame, cause }) => return CaptureStatus::Capture { frame, cause },
+        Err(CaptureFault::OutOfMemory) => return CaptureStatus::OutOfMemory,
+    };
+    match put_all(sink, &texts) {
+        Ok(()) => CaptureStatus::Done,
+        Err(_) => CaptureStatus::PictureFault,
+    }
+}
+
+/// Reads a capture to its end, at most 201,326,592 bytes, and puts the joined picture texts that it stands for.
+///
+/// The status says how it ended. `TooLong` and `Capture` come exactly by the bytes, `ReadFault` and `PictureFault` only where that
+/// object's count of faults rose in this call; `OutOfMemory` is free, and the other statuses do not come. After `PictureFault` a front of
+/// the texts was put; after the others but `Done` nothing. On `Done`, `PictureFault` and `Capture` the source was read to its end.
+pub fn show<S: Source, P: Sink>(alloc: Global, source: &mut S, sink: &mut P) -> CaptureStatus
+    // What was read and put after each status, and its cause.
+    ensures ends { Ends result (S.left source.old) (S.left source.new) (P.held sink.old) (P.held sink.new)
+        (Rose (S.faults source.old) (S.faults source.new)) (Rose (P.faults sink.old) (P.faults sink.new)) }
+    // No count of faults falls.
+    ensures no_fewer { (S.faults source.old ≤ S.faults source.new) × (P.faults sink.old ≤ P.faults sink.new) }
+    // Bytes that are too many or no capture are refused, where the source does not fail, unless memory runs out.
+    ensures refused { (bytes : List ℕ) → S.left source.old ≡ Some bytes → ¬ (Rose (S.faults source.old) (S.faults source.new))
+        → status_of bytes ≢ CaptureStatus.Done → (result ≡ status_of bytes) ⊎ (result ≡ CaptureStatus.OutOfMemory) }
+    // Where nothing fails, the status is that of the bytes, unless memory runs out.
+    ensures complete { (bytes : List ℕ) → S.left source.old ≡ Some bytes → ¬ (Rose (S.faults source.old) (S.faults source.new))
+        → ¬ (Rose (P.faults sink.old) (P.faults sink.new)) → (result ≡ status_of bytes) ⊎ (result ≡ CaptureStatus.OutOfMemory) }
+{
+    run(alloc, source, sink)
+}

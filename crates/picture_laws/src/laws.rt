@@ -1,0 +1,7 @@
+//! The law as a contract.
+ghost use Rattle.picture_laws.specs.Whole.{PicturesLaw};
+
+/// Where the views of a scene clear to colours of four bytes, each picture of it has its sides, and for each pixel a colour of four bytes.
+pub fn pictures_law()
+    ensures { PicturesLaw }
+{}
