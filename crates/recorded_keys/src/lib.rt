@@ -1,0 +1,11 @@
+//! The views of one frame in which two encoders share a key, from what the encoders recorded.
+#![tactic(auto)]
+
+mod frames;
+mod keys;
+mod marking;
+
+pub use frames::recorded_views;
+
+#[cfg(test)]
+mod tests;
