@@ -1,0 +1,13 @@
+pub mod Counting
+pub mod Draws
+pub mod Standing
+pub mod Queries
+pub mod Text
+pub mod Fields
+pub mod Seen
+pub mod SeenReading
+pub mod SeenFrames
+pub mod Io
+pub mod Ended
+pub mod Numbers
+pub mod Putting
