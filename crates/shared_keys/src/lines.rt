@@ -1,5 +1,5 @@
 // The lines of a frame.
-ghost use Rattle.std.specs.Prelude.{◌≡◌, ◌++◌, map, IfOk};
+ghost use Rattle.std.specs.Prelude.{◌≡◌, ◌++◌, ℕ, map, take, MatchResult};
 ghost use Rattle.shared_keys.specs.Lines.{shared_line, frame_lines};
 ghost use Rattle.shared_keys.specs.Marks.{shared_seen};
 
@@ -13,7 +13,9 @@ fn push_line(
     frame: usize,
     shared: &SharedView,
 ) -> Result<(), AllocError>
-    ensures { IfOk result (λ _. lines.new.items ≡ lines.old.items ++ shared_line frame (shared_seen shared.now)) }
+    ensures { MatchResult result
+        (λ _. lines.new.items ≡ lines.old.items ++ shared_line frame (shared_seen shared.now))
+        (λ _. lines.new.items ≡ lines.old.items) }
 {
     let SharedView {
         view,
@@ -25,15 +27,17 @@ fn push_line(
     Ok(())
 }
 
-/// Puts the lines of a frame behind others, one for each of its shared views. `Err` only for want of memory; then some of the lines
-/// may be there.
+/// Puts the lines of a frame behind others, one for each of its shared views. `Err` only for want of memory; then the lines of
+/// the first views are there.
 pub fn push_lines(
     alloc: Global,
     lines: &mut Vec<u8>,
     frame: usize,
     shared: &[SharedView],
 ) -> Result<(), AllocError>
-    ensures { IfOk result (λ _. lines.new.items ≡ lines.old.items ++ frame_lines frame (map shared_seen shared.now)) }
+    ensures { MatchResult result
+        (λ _. lines.new.items ≡ lines.old.items ++ frame_lines frame (map shared_seen shared.now))
+        (λ _. (j : ℕ) × (lines.new.items ≡ lines.old.items ++ frame_lines frame (map shared_seen (take j shared.now)))) }
 {
     for view in shared {
         push_line(alloc, lines, frame, view)?;
