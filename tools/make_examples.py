@@ -195,6 +195,9 @@ encoder 0"""]
 
 
 def main():
+    if sys.argv[1:2] in (["--help"], ["-h"]):
+        print(__doc__)
+        return
     here = os.path.dirname(os.path.abspath(__file__))
     folder = sys.argv[1] if len(sys.argv) > 1 else os.path.join(here, "..", "examples")
     scenes = {"triangle": triangle, "depth-order": depth_order, "turning-triangle": turning_triangle}

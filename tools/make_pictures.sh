@@ -4,12 +4,19 @@
 #
 # usage: tools/make_pictures.sh
 #
-# It needs the built program and Netpbm (pnmtopng, pnmsplit, pnmcat). The variable GFX_PLAY may name another program than
+# It needs the built program and Netpbm (the Debian package netpbm). The variable GFX_PLAY may name another program than
 # crates/gfx_play/out/gfx_play. The notes of each play are shown on standard error.
 set -eu
 
-cd "$(dirname "$0")/.."
-player=${GFX_PLAY:-crates/gfx_play/out/gfx_play}
+name=make_pictures.sh
+. "$(dirname "$0")/seeing.sh"
+
+case ${1:-} in
+    --help | -h) help ;;
+esac
+need pnmtopng netpbm
+need_player
+cd "$top"
 frames=$(mktemp -d)
 trap 'rm -rf "$frames"' EXIT
 

@@ -57,6 +57,9 @@ def frame_lines(frame, squares):
 
 
 def main():
+    if sys.argv[1:2] in (["--help"], ["-h"]):
+        print(__doc__)
+        return
     if len(sys.argv) > 2 or not all(word.isdecimal() and 1 <= int(word) <= 1024 for word in sys.argv[1:]):
         sys.exit("usage: tools/make_speed_scene.py [FRAMES], 1 to 1024")
     frames = int(sys.argv[1]) if len(sys.argv) > 1 else 64

@@ -110,6 +110,9 @@ def rows_of(folder, row):
 
 
 def main():
+    if sys.argv[1:2] in ([], ["--help"], ["-h"]):
+        print(__doc__)
+        return
     folder = sys.argv[1]
     print(HEAD)
     for row in sorted(os.listdir(folder)):

@@ -1,10 +1,14 @@
-# What to_png, to_gif, to_video, view, watch, play_many and rerun share. It is read by them and does nothing by itself.
+# What the scripts of this folder in `sh` share. It is read by them and does nothing by itself.
 # Each sets `name` to its own name first.
 
 # the top of the repository
 top=$(cd "$(dirname "$0")/.." && pwd)
 # the program; the variable GFX_PLAY may name another
 player=${GFX_PLAY:-$top/crates/gfx_play/out/gfx_play}
+case $player in
+    /*) ;;
+    *) player=$PWD/$player ;;
+esac
 
 fail() {
     echo "$name: $1" >&2

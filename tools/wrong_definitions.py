@@ -121,6 +121,9 @@ def refusals(folder):
 
 
 def main():
+    if sys.argv[1:2] in (["--help"], ["-h"]):
+        print(__doc__)
+        return
     wanted = sys.argv[1:]
     failed = False
     with tempfile.TemporaryDirectory() as folder:
