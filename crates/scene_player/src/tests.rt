@@ -169,7 +169,13 @@ fn three_frames_out(rt: HostRuntime) -> Result<(), Fail> {
 fn an_input_that_is_too_long(rt: HostRuntime) -> Result<(), Fail> {
     let mut text = vec![in rt.alloc(); b'\n'; 16_777_216]?;
     let left = left_by(&rt, rt.alloc(), &["play"], &text, [&[], &[]], 1000)?;
-    assert_eq!(rt; left.status, Status::Scene { line: 16_777_217, cause: 2 });
+    assert_eq!(rt;
+        left.status,
+        Status::Scene {
+            line: 16_777_217,
+            cause: 2
+        }
+    );
     text.push(b'\n')?;
     let left = left_by(&rt, rt.alloc(), &["play"], &text, [&[], &[]], 1000)?;
     assert_eq!(rt; left.status, Status::TooLong);

@@ -7,9 +7,9 @@ ghost use Rattle.scene_text.specs.Gives.{Gives, MayGive};
 ghost use Rattle.gfx_words.specs.Seen.{own_source_seen};
 
 use crate::fault::{Cause, LineFault};
-use gfx_words::TexSource;
 use crate::sequence::Sequence;
 use crate::words::is;
+use gfx_words::TexSource;
 use std::alloc::Global;
 
 /// Whether a byte is a digit of sixteen: 0 to 9 or a to f.

@@ -75,7 +75,11 @@ fn view_count(version: u8) -> usize
     ensures value { result ≡ views_in version }
     ensures few { result ≤ 512 }
 {
-    if version == 1 { FEWEST_VIEWS as usize } else { MOST_VIEWS as usize }
+    if version == 1 {
+        FEWEST_VIEWS as usize
+    } else {
+        MOST_VIEWS as usize
+    }
 }
 
 fn follows(encoder: u8, last: Option<u8>) -> bool
