@@ -5,6 +5,7 @@ mod DrawnLaws
 mod Facings
 mod Fetches
 mod Folds
+mod Fronts
 mod Parts
 mod Places
 mod TargetLaws

@@ -1,5 +1,5 @@
 -- The triangles of a draw, step by step.
-use Rattle.std.specs.Prelude.{ℕ, Bool, if◌then◌else◌, List, Option, option_and_then, filter_map}
+use Rattle.std.specs.Prelude.{◌≡◌, ◌++◌, ℕ, Bool, if◌then◌else◌, List, Option, None, option_and_then, filter_map, replicate}
 use Rattle.fix_math.specs.Seen.{rect_seen, affine_seen}
 use Rattle.gfx_model.specs.Vertex.{Vertex, Triangle}
 use Rattle.gfx_model.specs.Raster.{ScreenVertex, place}
@@ -22,3 +22,7 @@ kept_of cull triangles = filter_map (kept cull) triangles
 -- the corners of a triangle of a strip, where the first two may change places
 abbrev pub turned : {V : Type 0} → Bool → V → V → V → Triangle V
 turned odd a b c = if odd then record { a = b; b = a; c = c } else record { a = a; b = b; c = c }
+
+-- a list is all of another but for missing things at the end
+abbrev pub IsFrontOf : {V : Type 0} → (front all : List (Option V)) → Type 0
+IsFrontOf front all = (n : ℕ) × (all ≡ front ++ replicate n None)

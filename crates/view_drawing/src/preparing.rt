@@ -12,7 +12,7 @@ ghost use Rattle.store_laws.specs.ByIndex.{vertices_at, indices_at, paint_at};
 ghost use Rattle.store_laws.specs.Listed.{painted_in};
 ghost use Rattle.draw_encoder.specs.declared.items.UniformSet.{UniformSet};
 ghost use Rattle.draw_encoder.specs.Seen.{draw_seen, vertices_seen, indices_seen};
-ghost use Rattle.view_drawing.specs.Shapes.{placed_by, kept_of};
+ghost use Rattle.view_drawing.specs.Shapes.{placed_by, kept_of, IsFrontOf};
 ghost use Rattle.view_drawing.specs.Prepared.{AddsTo};
 
 use crate::bands::covered_by;
@@ -39,7 +39,7 @@ pub(crate) struct Stage<'x> {
     pub(crate) height: u16,
 }
 
-/// Puts the vertices of a draw on the target; a draw without vertices has none.
+/// Puts the vertices of a draw on the target, up to the end of the bytes; a draw without vertices has none.
 fn place_draw(
     room: &mut Vec<Option<ScreenVertex>>,
     buffers: &BufferStore,
@@ -47,7 +47,7 @@ fn place_draw(
     draw: &DrawItem,
     placement: &Placement,
 ) -> Result<(), AllocError>
-    ensures { OnOk result (map (option_map screen_seen) room.new.items ≡ map (placed_by placement.now) (draw_vertices (vertices_at buffers.now (vertices_seen recorded.now draw.now.vertices)) (indices_at buffers.now (indices_seen recorded.now draw.now.indices)))) }
+    ensures { OnOk result (IsFrontOf (map (option_map screen_seen) room.new.items) (map (placed_by placement.now) (draw_vertices (vertices_at buffers.now (vertices_seen recorded.now draw.now.vertices)) (indices_at buffers.now (indices_seen recorded.now draw.now.indices))))) }
 {
     let indices = indices_of(buffers, recorded, &draw.indices);
     match vertices_of(buffers, recorded, &draw.vertices) {

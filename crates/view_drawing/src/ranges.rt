@@ -174,7 +174,7 @@ pub(crate) fn vertex_of(range: &VertexRange<'_>, number: u32) -> Option<Vertex>
 }
 
 /// The index at a place of the bytes. None exactly where its last byte lies past their end.
-fn index_in(bytes: &[u8], first: u32, number: u32) -> Option<u32>
+pub(crate) fn index_in(bytes: &[u8], first: u32, number: u32) -> Option<u32>
     ensures { result ≡ index_at bytes.now (first + number) }
 {
     let at = 2 * (first as usize + number as usize);
@@ -185,7 +185,7 @@ fn index_in(bytes: &[u8], first: u32, number: u32) -> Option<u32>
 }
 
 /// The vertex that an index stands for. None where it is not there or not below the range's count.
-fn vertex_by(range: &VertexRange<'_>, index: Option<u32>) -> Option<Vertex>
+pub(crate) fn vertex_by(range: &VertexRange<'_>, index: Option<u32>) -> Option<Vertex>
     ensures { option_map vertex_seen result ≡ indexed_vertex_of (vertex_range_seen range.now) index }
 {
     let index = index?;
@@ -193,15 +193,4 @@ fn vertex_by(range: &VertexRange<'_>, index: Option<u32>) -> Option<Vertex>
         return None;
     }
     vertex_of(range, index)
-}
-
-/// The vertex that the index of a number stands for, counted from the first one.
-pub(crate) fn indexed_vertex(
-    range: &VertexRange<'_>,
-    indices: &IndexRange<'_>,
-    number: u32,
-) -> Option<Vertex>
-    ensures { option_map vertex_seen result ≡ indexed_vertex_of (vertex_range_seen range.now) (index_at indices.now.bytes.now (indices.now.first + number)) }
-{
-    vertex_by(range, index_in(indices.bytes, indices.first, number))
 }

@@ -6,9 +6,9 @@ ghost use Rattle.vertex_layout.specs.Seen.{vertex_seen};
 ghost use Rattle.tri_cover.specs.Seen.{screen_seen};
 ghost use Rattle.tri_cover.specs.Shown.{setup_seen};
 ghost use Rattle.view_drawing.specs.Ranges.{vertex_range_seen, index_range_seen};
-ghost use Rattle.view_drawing.specs.Shapes.{placed_by, kept, kept_of, turned};
+ghost use Rattle.view_drawing.specs.Shapes.{placed_by, kept, kept_of, turned, IsFrontOf};
 
-use crate::ranges::{IndexRange, VertexRange, indexed_vertex, vertex_of};
+use crate::ranges::{IndexRange, VertexRange, index_in, vertex_by, vertex_of};
 use fix_math::{Affine, Rect};
 use std::alloc::AllocError;
 use tri_cover::{ScreenVertex, Setup, place};
@@ -38,10 +38,14 @@ fn place_plain(
     vertices: &VertexRange<'_>,
 ) -> Result<(), AllocError>
     requires { placed.old.items ≡ [] }
-    ensures { OnOk result (map (option_map screen_seen) placed.new.items ≡ map (placed_by placement.now) (vertices_of (vertex_range_seen vertices.now) None)) }
+    ensures { OnOk result (IsFrontOf (map (option_map screen_seen) placed.new.items) (map (placed_by placement.now) (vertices_of (vertex_range_seen vertices.now) None))) }
 {
     for number in 0..vertices.count {
-        placed.push(placed_vertex(placement, vertex_of(vertices, number)))?;
+        let vertex = vertex_of(vertices, number);
+        if vertex.is_none() {
+            return Ok(());
+        }
+        placed.push(placed_vertex(placement, vertex))?;
     }
     Ok(())
 }
@@ -53,23 +57,26 @@ fn place_indexed(
     indices: &IndexRange<'_>,
 ) -> Result<(), AllocError>
     requires { placed.old.items ≡ [] }
-    ensures { OnOk result (map (option_map screen_seen) placed.new.items ≡ map (placed_by placement.now) (vertices_of (vertex_range_seen vertices.now) (Some (index_range_seen indices.now)))) }
+    ensures { OnOk result (IsFrontOf (map (option_map screen_seen) placed.new.items) (map (placed_by placement.now) (vertices_of (vertex_range_seen vertices.now) (Some (index_range_seen indices.now))))) }
 {
     for number in 0..indices.count {
-        let vertex = indexed_vertex(vertices, indices, number);
-        placed.push(placed_vertex(placement, vertex))?;
+        let index = index_in(indices.bytes, indices.first, number);
+        if index.is_none() {
+            return Ok(());
+        }
+        placed.push(placed_vertex(placement, vertex_by(vertices, index)))?;
     }
     Ok(())
 }
 
-/// Puts the vertices of a draw on the target, one after another.
+/// Puts the vertices of a draw on the target, one after another, up to the end of the bytes.
 pub(crate) fn place_vertices(
     placed: &mut Vec<Option<ScreenVertex>>,
     placement: &Placement,
     vertices: &VertexRange<'_>,
     indices: Option<IndexRange<'_>>,
 ) -> Result<(), AllocError>
-    ensures { OnOk result (map (option_map screen_seen) placed.new.items ≡ map (placed_by placement.now) (vertices_of (vertex_range_seen vertices.now) (option_map index_range_seen indices.entry))) }
+    ensures { OnOk result (IsFrontOf (map (option_map screen_seen) placed.new.items) (map (placed_by placement.now) (vertices_of (vertex_range_seen vertices.now) (option_map index_range_seen indices.entry)))) }
 {
     placed.clear();
     match indices {

@@ -177,12 +177,21 @@ fn a_value_stays_for_the_next_draw(rt: HostRuntime) -> Result<(), Fail> {
     first.scissor = pixel(0);
     second.scissor = pixel(1);
     second.values = 0;
-    let mut view = View::plain();
+    let view = View::plain();
     let stores = enter_two(&rt, rt.alloc(), (3, 1), &view, first, second)?;
     assert_eq!(rt;
         stores.back.color.texels.as_slice(),
         [GREY, GREY, [0; 4]].as_slice()
     );
+    Ok(())
+}
+
+#[test]
+fn a_view_has_a_scissor_too(rt: HostRuntime) -> Result<(), Fail> {
+    let (mut first, mut second) = (draw(&rt, 15, 0, 0), draw(&rt, 15, 0, 0));
+    first.scissor = pixel(0);
+    second.scissor = pixel(1);
+    let mut view = View::plain();
     view.scissor = pixel(1);
     let stores = enter_two(&rt, rt.alloc(), (3, 1), &view, first, second)?;
     assert_eq!(rt;
@@ -286,7 +295,7 @@ fn blits_and_a_sample_of_the_own_target(rt: HostRuntime) -> Result<(), Fail> {
     view.target = Some(Handle::of(Kind::FrameBuffer, 0, 5, Info::Plain));
     let recording = recording(rt.alloc())?;
     let mut item = draw(&rt, 15, 0, 1);
-    item.textures = [Some(texture(1)), None];
+    item.textures[0] = Some(texture(1));
     let item = Item::Draw(item);
     let items = [Recorded {
         recording: &recording,
@@ -318,5 +327,32 @@ fn blits_and_a_sample_of_the_own_target(rt: HostRuntime) -> Result<(), Fail> {
         return Err("no texture".into());
     };
     assert_eq!(rt; drawn.texels.as_slice(), [[0; 4]].as_slice());
+    Ok(())
+}
+
+#[test]
+fn a_count_far_past_the_end(rt: HostRuntime) -> Result<(), Fail> {
+    let mut stores = RenderStores::new(rt.alloc(), 1, 1)?;
+    fill(rt.alloc(), &mut stores)?;
+    if stores.buffers.bytes_of(Kind::IndexBuffer, 0).is_none() {
+        let bytes = b"\x00\x00\x01\x00\x02\x00".as_slice().to_vec(rt.alloc())?;
+        stores.buffers.create_indices(0, bytes);
+    }
+    let mut item = draw(&rt, 15, 0, 0);
+    item.indices = IndexSet::Buffer {
+        buffer: Handle::of(Kind::IndexBuffer, 0, 6, Info::Plain),
+        first: 0,
+        count: 4_294_967_295,
+    };
+    let item = Item::Draw(item);
+    let recording = recording(rt.alloc())?;
+    let items = [Recorded {
+        recording: &recording,
+        item: &item,
+    }];
+    let view = View::plain();
+    let mut room = DrawingRoom::new(rt.alloc());
+    enter_view(&rt, &mut stores, &view, &[], &items, &mut room)?;
+    assert_eq!(rt; stores.back.color.texels.as_slice(), [GREY].as_slice());
     Ok(())
 }
