@@ -10,6 +10,7 @@ pub(crate) fn put_all<P: Sink>(sink: &mut P, text: &[u8]) -> Result<(), Failed>
     ensures whole { OnOk result (P.held sink.new ≡ with_back (P.held sink.old) text.now) }
     ensures front { HasPutFront text.now (P.held sink.old) (P.held sink.new) }
     ensures failed { OnErr result (Rose (P.faults sink.old) (P.faults sink.new)) }
+    ensures sure { P.sure sink.new ≡ P.sure sink.old }
     ensures no_fewer { P.faults sink.old ≤ P.faults sink.new }
 {
     let mut at = 0;

@@ -17,6 +17,7 @@ const LONGEST: usize = 201_326_592;
 fn run<S: Source, P: Sink>(alloc: Global, source: &mut S, sink: &mut P) -> CaptureStatus
     ensures ends { Ends result (S.left source.old) (S.left source.new) (P.held sink.old) (P.held sink.new)
         (Rose (S.faults source.old) (S.faults source.new)) (Rose (P.faults sink.old) (P.faults sink.new)) }
+    ensures sure { P.sure sink.new ≡ P.sure sink.old }
     ensures no_fewer { (S.faults source.old ≤ S.faults source.new) × (P.faults sink.old ≤ P.faults sink.new) }
 {
     let bytes = match read_all(alloc, source, LONGEST) {
@@ -45,7 +46,8 @@ pub fn show<S: Source, P: Sink>(alloc: Global, source: &mut S, sink: &mut P) -> 
     // What was read and put after each status, and its cause.
     ensures ends { Ends result (S.left source.old) (S.left source.new) (P.held sink.old) (P.held sink.new)
         (Rose (S.faults source.old) (S.faults source.new)) (Rose (P.faults sink.old) (P.faults sink.new)) }
-    // No count of faults falls.
+    // The sink keeps its sure length, and no count of faults falls.
+    ensures sure { P.sure sink.new ≡ P.sure sink.old }
     ensures no_fewer { (S.faults source.old ≤ S.faults source.new) × (P.faults sink.old ≤ P.faults sink.new) }
     // Bytes that are too many or no capture are refused, where the source does not fail, unless memory runs out.
     ensures refused { (bytes : List ℕ) → S.left source.old ≡ Some bytes → ¬ (Rose (S.faults source.old) (S.faults source.new))

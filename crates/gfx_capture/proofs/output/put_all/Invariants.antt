@@ -5,6 +5,7 @@ use Rattle.gfx_capture.proofs.output.put_all.Given as goal
 abbrev pub invariant-loop-at : goal.invariant-loop-at
 invariant-loop-at g l = record {
   within : l.at ≤ length l.text;
+  sure : g.P.Sink.sure l.sink ≡ g.P.Sink.sure l.fn.sink;
   held : g.P.Sink.held l.sink ≡ with_back (g.P.Sink.held l.fn.sink) (take l.at l.text);
   faults : g.P.Sink.faults l.fn.sink ≤ g.P.Sink.faults l.sink;
 }
