@@ -3,6 +3,7 @@
 
 mod frames;
 mod keys;
+pub mod laws;
 mod marking;
 
 pub use frames::recorded_views;

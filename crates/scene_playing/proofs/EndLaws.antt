@@ -14,6 +14,7 @@ use Rattle.scene_model.specs.Scene.{SceneFrame, Scene, views_of}
 use Rattle.scene_model.specs.Fold.{Progress, FramePlan, plan_of, plans, at_start}
 use Rattle.scene_model.specs.Journal.{IsLawfulFrame}
 use Rattle.scene_model.specs.Output.{frame_items, frame_dropped}
+use Rattle.scene_laws.specs.Gathered.{IsGathered}
 use Rattle.scene_laws.specs.SceneFrames.{frame_data, written_by}
 use Rattle.scene_progress.specs.Progress.{progress_before, start_of, before_of, all_of}
 use Rattle.scene_progress.specs.Notes.{noted_of}
@@ -35,6 +36,7 @@ use Rattle.context_frames.specs.Laws.{RecordedLaw, GivenFrameLaw}
 use Rattle.context_frames.specs.Recorded.{IsRecorded}
 use Rattle.scene_playing.specs.Recording.{IsAt, IsRecorded as IsPlayed}
 use Rattle.scene_playing.specs.Steps.{IsGiven, IsGivenWhere, FrameEnds}
+use Rattle.scene_playing.proofs.Gathered.{gathered, of_plan}
 
 -- ---- what was recorded
 
@@ -114,12 +116,17 @@ module _ {L : Type 0} (admits : ℕ → ℕ → List Item → ℕ → Type 0) (s
   stands : StandsFor (written_by s.names (start_of s k) f) (all_of s k f) mid.book handles
   stands = subst (λ v. StandsFor (written_by s.names (start_of s k) f) (all_of s k f) v.book handles) (sym collects.same) played.stands
 
-  gives : (b : Bool) → GivesWhere b mid new → IsGivenWhere b s k f entries handles old new
+  gives : (b : Bool) → GivesWhere b mid new → IsGivenWhere b s k f plan entries handles old new
   gives true g = record {
     frame = g.frame;
     given = g.given ∙ ap (λ fs. fs ++ g.frame ∷ []) (ap (λ v. v.given) collects.same);
     seen = seen s k f gone (start_of s k) old.seat.places mid new.seat.base g.frame (written_by s.names (start_of s k) f) handles planned refl stands frame_of views g.is_of
         ∙ ap (frame_data s k (start_of s k) f) (sym ends.journal);
+    gathered = record {
+      gathered = subst (λ (rs : List Recording). IsGathered plan (recordings_seen rs)) (sym g.is_of.recordings) (gathered s k plan planned views old.seat.places mid.gathered (of_plan s k f gone (before_of s k f) (all_of s k f) old.seat.places mid.gathered frame_of));
+      views = g.is_of.views ∙ ap (λ b. b.resources.views) stands.book_is ∙ ap (λ r. r.views) stands.resources;
+      journal = g.is_of.journal ∙ sym ends.journal;
+    };
     next = at_next next start s k f handles old new played.there number played.stands played.first played.many
         (ap (λ v. v.book) g.same ∙ ap (λ v. started v.book) collects.same) (ap (λ v. v.begun) g.same) (ap (λ v. v.is_ended) g.same ∙ ap (λ v. v.is_ended) collects.same ∙ played.running) (ap (λ v. v.first) g.same ∙ ap (λ v. v.first) collects.same);
   }

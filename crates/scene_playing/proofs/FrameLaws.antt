@@ -26,6 +26,8 @@ use Rattle.scene_playing.specs.Recording.{IsAt}
 use Rattle.scene_playing.specs.Steps.{IsGiven, FrameEnds, first_after}
 use Rattle.frame_record.specs.Links.{frames_of}
 use Rattle.scene_playing.specs.Frames.{AreEnded, ArePlayed}
+use Rattle.scene_playing.specs.Given.{HavePlans}
+use Rattle.scene_playing.proofs.Gathered.{entries_more, plans_more}
 
 -- the first k frames of a scene ended, and all were given
 pub record AreGiven (s : Scene) (k : ℕ) (given : List Frame) (journal : Journal) (notes : List (ℕ × ℕ)) : Type 0 where
@@ -34,9 +36,10 @@ pub record AreGiven (s : Scene) (k : ℕ) (given : List Frame) (journal : Journa
   pub noted : notes ≡ map noted_of (take k (plans s))
   pub all : length given ≡ k
   pub seen : map frame_seen given ≡ scene_frames s journal
+  pub gathered : HavePlans (plans s) journal given
 
 pub none_given : (s : Scene) → NoneLawfulLaw → NoFramesLaw → AreGiven s 0 [] [] []
-none_given s lawful frames = record { lawful = lawful s; many = refl; noted = refl; all = refl; seen = sym (frames s) }
+none_given s lawful frames = record { lawful = lawful s; many = refl; noted = refl; all = refl; seen = sym (frames s); gathered = tt }
 
 module _ (s : Scene) (frames : FramesMoreLaw) (lawful : LawfulMoreLaw) (notes_more : NotedMoreLaw) where
   -- one frame more ended and was given
@@ -49,6 +52,8 @@ module _ (s : Scene) (frames : FramesMoreLaw) (lawful : LawfulMoreLaw) (notes_mo
     all = ap length ends.gives.given ∙ length-append old.given (ends.gives.frame ∷ []) ∙ ap (λ n. n + 1) a.all;
     seen = ap (map frame_seen) ends.gives.given ∙ map-append frame_seen old.given (ends.gives.frame ∷ [])
         ∙ ap (λ fs. fs ++ frame_seen ends.gives.frame ∷ []) a.seen ∙ ap (λ d. scene_frames s j ++ d ∷ []) ends.gives.seen ∙ sym (frames s k f j e there a.many);
+    gathered = subst (λ (fs : List Frame). HavePlans (plans s) (j ++ e ∷ []) fs) (sym ends.gives.given)
+        (plans_more (plans s) j old.given ends.plan e ends.gives.frame a.gathered (a.many ∙ sym a.all) (ap (slice_get (plans s)) a.all ∙ ends.planned) ends.gives.gathered);
   }
 
   -- one frame more ended and was not given
@@ -64,6 +69,7 @@ module _ (s : Scene) (frames : FramesMoreLaw) (lawful : LawfulMoreLaw) (notes_mo
             ∙ ap (λ n. map noted_of (take n (plans s))) (sym many);
         few = (omega (arith, many, all), omega (arith, many, all));
         seen = ap (map frame_seen) ends.gives ∙ a.seen ∙ ap (scene_frames s) (sym front);
+        gathered = subst (λ (fs : List Frame). HavePlans (plans s) (j ++ e ∷ []) fs) (sym ends.gives) (entries_more (plans s) j old.given e a.gathered);
         whole = λ z. absurd cc;
       }
 
@@ -76,6 +82,7 @@ so_far s k given j notes is_whole whole a =
       noted = a.noted ∙ ap (λ n. map noted_of (take n (plans s))) (sym a.many);
       few = (omega (arith, same), omega (arith, same));
       seen = a.seen ∙ ap (scene_frames s) (sym (ap (λ n. take n j) same ∙ take_all (length j) j (omega arith)));
+      gathered = a.gathered;
       whole = λ e. a.all ∙ whole e;
     }
 

@@ -7,7 +7,7 @@ use Rattle.gfx_model.specs.Words.{Handle}
 use Rattle.call_laws.specs.Calls.{Written, after_call, nothing_written}
 use Rattle.spelling_model.specs.Readable.{IsReadable}
 use Rattle.scene_model.specs.Scene.{SceneFrame, Scene}
-use Rattle.scene_model.specs.Fold.{Progress}
+use Rattle.scene_model.specs.Fold.{Progress, FramePlan}
 use Rattle.scene_laws.specs.SceneFrames.{calls_of, written_by}
 use Rattle.scene_progress.specs.Progress.{start_of, before_of, all_of}
 use Rattle.scene_progress.proofs.Given.{Keeps, in_frame, lines_keep}
@@ -111,9 +111,9 @@ dropped_now s k f handles c before beside r first all =
 
 -- ---- what ended since the frame's start
 
-gives_since : {L : Type 0} (s : Scene) (k : ℕ) (f : SceneFrame) (e : List Entry) (b : Bool) (handles : List (Option Handle)) (old mid new : ContextView L) → mid.given ≡ old.given → IsGivenWhere b s k f e handles mid new → IsGivenWhere b s k f e handles old new
-gives_since s k f e true handles old mid new same g = record { frame = g.frame; given = g.given ∙ ap (λ fs. fs ++ g.frame ∷ []) same; seen = g.seen; next = g.next }
-gives_since s k f e false handles old mid new same g = g ∙ same
+gives_since : {L : Type 0} (s : Scene) (k : ℕ) (f : SceneFrame) (p : FramePlan) (e : List Entry) (b : Bool) (handles : List (Option Handle)) (old mid new : ContextView L) → mid.given ≡ old.given → IsGivenWhere b s k f p e handles mid new → IsGivenWhere b s k f p e handles old new
+gives_since s k f p e true handles old mid new same g = record { frame = g.frame; given = g.given ∙ ap (λ fs. fs ++ g.frame ∷ []) same; seen = g.seen; gathered = g.gathered; next = g.next }
+gives_since s k f p e false handles old mid new same g = g ∙ same
 
 ends_since : {L : Type 0} (s : Scene) (n k : ℕ) (f : SceneFrame) (e : List Entry) (note : ℕ × ℕ) (b : Bool) (handles : List (Option Handle)) (old mid new : ContextView L) → n ≡ k → mid.given ≡ old.given
     → FrameEnds s n f e note b handles mid new → FrameEnds s k f e note b handles old new
@@ -122,7 +122,7 @@ ends_since s n k f e note b handles old mid new is same ends = subst (λ (m : �
   planned = ends.planned;
   lawful = ends.lawful;
   noted = ends.noted;
-  gives = gives_since s n f e b handles old mid new same ends.gives;
+  gives = gives_since s n f ends.plan e b handles old mid new same ends.gives;
 })
 
 pub ended_since : {L E : Type 0} (r : Result EndedFrame E) (s : Scene) (n k : ℕ) (f : SceneFrame) (handles : List (Option Handle)) (old mid new : ContextView L) → n ≡ k → mid.given ≡ old.given

@@ -1,4 +1,5 @@
 pub mod Recording
+pub mod Given
 pub mod Steps
 pub mod Order
 pub mod Frames

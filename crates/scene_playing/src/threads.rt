@@ -1,5 +1,5 @@
 // Recorder threads around all frames.
-ghost use Rattle.std.specs.Prelude.{◌≡◌, ◌≤◌, ◌+◌, ℕ, List, [], map, None};
+ghost use Rattle.std.specs.Prelude.{◌≡◌, ◌≤◌, ◌+◌, ℕ, List, [], map, MatchOption};
 ghost use Rattle.gfx_model.specs.World.{Item};
 ghost use Rattle.scene_model.specs.Scene.{views_of};
 ghost use Rattle.spelling_model.specs.Readable.{IsReadable};
@@ -28,7 +28,7 @@ use std::thread::Threads;
 // How many recorders are started: one for each encoder but the first, and none where an order is given.
 fn recorders(encoders: u8, order: Option<&Journal>) -> u8
     requires { 1 ≤ encoders }
-    ensures beside { order.entry ≡ None → result + 1 ≡ encoders }
+    ensures { MatchOption order.entry (result + 1 ≡ encoders) (λ _. result ≡ 0) }
 {
     match order {
         None => encoders - 1,

@@ -6,7 +6,10 @@ use Rattle.std.proofs.lemmas.List.FromFn.{length-range_with_len, length-map-rang
 use Rattle.gfx_words.specs.declared.journal.JournalEntry.{JournalEntry}
 use Rattle.scene_model.specs.Scene.{Scene, SceneFrame}
 use Rattle.scene_model.specs.Fold.{Accepted, Progress, accepted_of, recording_of, at_start, after_lines, plan_of, plans_from, plans, first_progress}
-use Rattle.scene_model.specs.Journal.{Entry, ordinals_of, HasInOrder, AreLawful, IsLawful}
+use Rattle.scene_model.specs.Journal.{Entry, Journal, ordinals_of, HasInOrder, AreLawful, IsLawful}
+use Rattle.scene_progress.specs.Laws.{LawfulCountLaw}
+use Rattle.frame_record.specs.declared.frame.Frame.{Frame}
+use Rattle.scene_playing.specs.Frames.{AreEnded}
 use Rattle.scene_text.specs.Journals.{counts_in, counts_of}
 use Rattle.scene_text.specs.Seen.{entry_seen}
 
@@ -87,3 +90,12 @@ in_frames s k gone p (f ∷ fs) (entries ∷ rest) h l =
 
 pub of_lawful : (s : Scene) (frames : List (List JournalEntry)) → IsLawful s (map (map entry_seen) frames) → map (entry_counts s.encoders) frames ≡ counts_of (plans s)
 of_lawful s frames h = in_frames s 0 [] (first_progress s) s.frames frames h.0 h.1
+
+-- where all frames were given, the journal of those that ended is lawful for the scene
+pub lawful_when_whole : (s : Scene) (given : List Frame) (journal : Journal) (notes : List (ℕ × ℕ)) → LawfulCountLaw → (is_whole : Bool) → is_whole ≡ true → AreEnded s given journal notes is_whole → IsLawful s journal
+lawful_when_whole s given journal notes law is_whole is e =
+    let many = law s journal e.lawful in
+    let whole = e.whole is in
+    let few = e.few.0 in
+    let long : length journal ≡ length s.frames = omega (arith, many, whole, few) in
+    (e.lawful, long)

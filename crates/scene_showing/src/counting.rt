@@ -8,15 +8,17 @@ ghost use Rattle.scene_text.specs.Bounds.{IsBounded};
 ghost use Rattle.scene_text.specs.Journals.{counts_of};
 ghost use Rattle.scene_text.specs.Seen.{entry_seen, scene_seen};
 
-use crate::showing::{End, show_scene};
+use frame_keeping::KeepingLink;
 use gfx_words::JournalEntry;
-use io_edge::{NoGate, SureSink};
+use io_edge::NoGate;
+use scene_playing::play_frames;
+use scene_progress::lawful_law;
 use scene_text::{Scene, Sequence};
 use std::alloc::{AllocError, Global};
 use std::sync::Wait;
 use std::thread::Threads;
 
-/// How many items each encoder of each frame has: the frames are played, and their pictures counted and not kept.
+/// How many items each encoder of each frame has: the frames are recorded, and nothing is rendered.
 ///
 /// The scene is one that was read, or keeps the same bounds. `Err` only for want of memory.
 pub fn item_counts<R: Threads + Wait + Sync>(
@@ -28,11 +30,13 @@ pub fn item_counts<R: Threads + Wait + Sync>(
     requires bounded { IsBounded (scene_seen scene.now) }
     ensures { IfOk result (λ counts. counts.items ≡ counts_of (plans (scene_seen scene.now))) }
 {
-    let showing = show_scene(rt, &NoGate, alloc, scene, SureSink::new());
-    match showing.end {
-        End::Done => counts_of_frames(alloc, showing.journal.frames.as_slice(), scene.encoders),
-        _ => Err(AllocError),
+    lawful_law();
+    let link = KeepingLink::new(alloc, scene.latency)?;
+    let played = play_frames(rt, &NoGate, alloc, None, scene, link);
+    if !played.is_whole {
+        return Err(AllocError);
     }
+    counts_of_frames(alloc, played.journal.frames.as_slice(), scene.encoders)
 }
 
 /// How many entries each encoder has in each frame of a journal.
