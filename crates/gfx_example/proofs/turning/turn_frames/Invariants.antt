@@ -1,0 +1,11 @@
+use Rattle.std.proofs.Common.{◌≡◌}
+use Rattle.render_core.specs.Ended.{first_outcome}
+use Rattle.gfx_example.specs.Turning.{IsAt}
+use Rattle.gfx_example.proofs.turning.turn_frames.Given as goal
+
+abbrev pub invariant-loop-number : goal.invariant-loop-number
+invariant-loop-number g l = record {
+  at : IsAt l.number l.context;
+  outcome : l.outcome ≡ first_outcome l.context.back;
+  origin : g.L.FrameLink.origin l.context.link ≡ g.L.FrameLink.origin l.fn.context.link;
+}

@@ -1,0 +1,4 @@
+pub mod Ring
+pub mod Frames
+pub mod Turning
+pub mod Spinning

@@ -1,0 +1,27 @@
+//! `gfx_example`: a ring of sixteen small triangles that turns, without scene text, as an engine draws it. The pictures of sixteen frames
+//! go to standard output, one behind the other, in the P6 format.
+//!
+//! The exit status is 0 where all pictures were written, 4 where a write failed, and 8 where memory ran out.
+#![tactic(auto)]
+
+mod recording;
+mod ring;
+mod spinning;
+mod things;
+mod turning;
+
+use crate::spinning::spin;
+use io_edge::StdSink;
+use std::process::ExitCode;
+
+#[cfg(test)]
+mod tests;
+
+/// How many frames a whole turn has.
+const FRAMES: u16 = 16;
+
+fn main(rt: HostRuntime) -> ExitCode {
+    let pictures = StdSink::new(rt.stdout());
+    let spun = spin(&rt, rt.alloc(), FRAMES, pictures);
+    ExitCode::from(spun.end.number())
+}
