@@ -1,0 +1,4 @@
+mod Pieces
+mod Ends
+mod Lists
+mod Free

@@ -1,0 +1,5 @@
+pub mod Io
+pub mod Numbers
+pub mod Listed
+pub mod Ended
+pub mod Putting

@@ -1,0 +1,127 @@
+// The call.
+ghost use Rattle.std.specs.Prelude.{◌≡◌, ◌↔◌, ◌≤◌, ◌<◌, false, ℕ, List, Some, Ok, Err, length, IfOk};
+ghost use Rattle.io_edge.specs.Edge.{Rose};
+ghost use Rattle.scene_model.specs.Scene as model;
+ghost use Rattle.scene_model.specs.Grammar.{Fault, whole_language, scene_of};
+ghost use Rattle.scene_model.specs.Journal.{Journal, IsLawful, shares_key, pictures};
+ghost use Rattle.spelling_model.specs.Readable.{IsReadable};
+ghost use Rattle.scene_text.specs.Bounds.{IsBounded};
+ghost use Rattle.scene_text.specs.Seen.{scene_seen};
+ghost use Rattle.shared_keys.specs.Lines.{shared_lines};
+ghost use Rattle.gfx_shares.specs.Io.{longest};
+ghost use Rattle.gfx_shares.specs.Ended.{Ended, EndsAs};
+ghost use Rattle.gfx_shares.specs.Putting.{IsNoted};
+
+use crate::input::{InputError, read_all};
+use crate::lines::lines_of;
+use crate::output::put_all;
+use crate::status::SharesStatus;
+use crate::views::scene_views;
+use io_edge::{Sink, Source};
+use scene_text::{Scene, SceneFault, read};
+use shared_keys::laws::{free_law, no_line_law};
+use std::alloc::{AllocError, Global};
+use std::sync::Wait;
+use std::thread::Threads;
+
+/// The lines of a scene.
+fn scene_lines<R: Threads + Wait + Sync>(
+    rt: &R,
+    alloc: Global,
+    scene: &Scene,
+) -> Result<Vec<u8>, AllocError>
+    requires readable { IsReadable (scene_seen scene.now) }
+    requires bounded { IsBounded (scene_seen scene.now) }
+    ensures { IfOk result (λ lines. lines.items ≡ shared_lines (scene_seen scene.now)) }
+{
+    let lists = scene_views(rt, alloc, scene)?;
+    let lines = lines_of(alloc, lists.as_slice())?;
+    Ok(lines)
+}
+
+/// Puts the lines of a scene.
+fn note_scene<R: Threads + Wait + Sync, N: Sink>(
+    rt: &R,
+    alloc: Global,
+    scene: &Scene,
+    notes: &mut N,
+) -> SharesStatus
+    requires readable { IsReadable (scene_seen scene.now) }
+    requires bounded { IsBounded (scene_seen scene.now) }
+    ensures noted { IsNoted result (shared_lines (scene_seen scene.now)) (N.held notes.old) (N.held notes.new) (Rose (N.faults notes.old) (N.faults notes.new)) }
+    ensures sure { N.sure notes.new ≡ N.sure notes.old }
+    ensures no_fewer { N.faults notes.old ≤ N.faults notes.new }
+{
+    match scene_lines(rt, alloc, scene) {
+        Ok(lines) => match put_all(notes, lines.as_slice()) {
+            Ok(()) => SharesStatus::Done,
+            Err(_) => SharesStatus::NoteFault,
+        },
+        Err(_) => SharesStatus::OutOfMemory,
+    }
+}
+
+/// Reads the source, and puts the lines of the scene that it gives.
+fn run<R: Threads + Wait + Sync, S: Source, N: Sink>(
+    rt: &R,
+    alloc: Global,
+    source: &mut S,
+    notes: &mut N,
+) -> SharesStatus
+    ensures ended { Ended result (S.left source.old) (S.left source.new) (N.held notes.old) (N.held notes.new) (Rose (S.faults source.old) (S.faults source.new)) (Rose (N.faults notes.old) (N.faults notes.new)) }
+    ensures sure { N.sure notes.new ≡ N.sure notes.old }
+    ensures no_fewer { (S.faults source.old ≤ S.faults source.new) × (N.faults notes.old ≤ N.faults notes.new) }
+{
+    let bytes = match read_all(alloc, source) {
+        Ok(bytes) => bytes,
+        Err(InputError::Fault) => return SharesStatus::ReadFault,
+        Err(InputError::TooLong) => return SharesStatus::TooLong,
+        Err(InputError::OutOfMemory) => return SharesStatus::OutOfMemory,
+    };
+    match read(alloc, &bytes) {
+        Ok(scene) => note_scene(rt, alloc, &scene, notes),
+        Err(SceneFault::At { line, cause }) => SharesStatus::Scene { line, cause },
+        Err(SceneFault::OutOfMemory) => SharesStatus::OutOfMemory,
+    }
+}
+
+/// Reads a scene to its end, at most 16,777,216 bytes, and puts one line for each frame and each of its views in which two encoders
+/// share a key: `frame K view V encoders A B`, the frames and in each frame the views ascending, A and B the least pair of such
+/// encoders. Where no line is put, the pictures do not depend on the threads' schedule.
+///
+/// All frames are recorded, by recorder threads where they can be started, before a line is put; none is rendered. Resource calls of
+/// the scene's lines that are refused are dropped, as in a play.
+///
+/// The status says how it ended. `Scene` and `TooLong` come exactly by the bytes; `ReadFault` and `NoteFault` only where that object's
+/// count of faults rose in this call; `OutOfMemory` is free. After `NoteFault` a front of the lines was put, and after the others but
+/// `Done` nothing. On `Done`, `Scene` and `NoteFault` the source was read to its end. It may wait for its own threads.
+pub fn shares<R: Threads + Wait + Sync, S: Source, N: Sink>(
+    rt: &R,
+    alloc: Global,
+    source: &mut S,
+    notes: &mut N,
+) -> SharesStatus
+    // What was read and what the notes are after each status, and its cause.
+    ensures ended { Ended result (S.left source.old) (S.left source.new) (N.held notes.old) (N.held notes.new) (Rose (S.faults source.old) (S.faults source.new)) (Rose (N.faults notes.old) (N.faults notes.new)) }
+    // The sink keeps its sure length, and no count of faults falls.
+    ensures sure { N.sure notes.new ≡ N.sure notes.old }
+    ensures no_fewer { (S.faults source.old ≤ S.faults source.new) × (N.faults notes.old ≤ N.faults notes.new) }
+    // Where it was done, nothing was put exactly where no two encoders of a frame share a key.
+    ensures silent { (bytes text : List ℕ) (s : model.Scene) → S.left source.old ≡ Some bytes → scene_of whole_language bytes ≡ Ok s → N.held notes.old ≡ Some text
+        → result ≡ SharesStatus.Done → (N.held notes.new ≡ Some text) ↔ (shares_key s ≡ false) }
+    // Then every two lawful journals give the same pictures.
+    ensures free { (bytes text : List ℕ) (s : model.Scene) → S.left source.old ≡ Some bytes → scene_of whole_language bytes ≡ Ok s → N.held notes.old ≡ Some text
+        → result ≡ SharesStatus.Done → N.held notes.new ≡ Some text → (j k : Journal) → IsLawful s j → IsLawful s k → pictures s j ≡ pictures s k }
+    // Where the source told too many bytes and did not fail.
+    ensures too_long { (bytes : List ℕ) → S.left source.old ≡ Some bytes → longest < length bytes → (Rose (S.faults source.old) (S.faults source.new) → ⊥) → EndsAs SharesStatus.TooLong result }
+    // Where it told bytes that are no scene.
+    ensures refused { (bytes : List ℕ) (fault : Fault) → S.left source.old ≡ Some bytes → length bytes ≤ longest → scene_of whole_language bytes ≡ Err fault
+        → (Rose (S.faults source.old) (S.faults source.new) → ⊥) → EndsAs (SharesStatus.Scene fault.line fault.cause) result }
+    // Where it told a scene, and nothing failed.
+    ensures complete { (bytes : List ℕ) (s : model.Scene) → S.left source.old ≡ Some bytes → length bytes ≤ longest → scene_of whole_language bytes ≡ Ok s
+        → (Rose (S.faults source.old) (S.faults source.new) → ⊥) → (Rose (N.faults notes.old) (N.faults notes.new) → ⊥) → EndsAs SharesStatus.Done result }
+{
+    no_line_law();
+    free_law();
+    run(rt, alloc, source, notes)
+}

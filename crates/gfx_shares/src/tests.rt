@@ -1,0 +1,98 @@
+// Scenes that share and that do not, texts that are none, and reads and writes that fail. The lines are those that the documents state.
+use crate::sharing::shares;
+use crate::status::SharesStatus;
+use io_edge::{MemSink, MemSource};
+use std::alloc::{AllocError, Global};
+use std::sync::Wait;
+use std::test::Fail;
+use std::thread::Threads;
+
+const TWO_BLITS: &[u8] =
+    b"scene 1\nsize 1 1\nencoders 2\nframe\nframe\ntexture a 1 1 rgba8 dst fill:00000000\ntexture b 1 1 rgba8 dst fill:00000000\nencoder 0\nblit 3 a 0 0 b 0 0 1 1\nencoder 1\nblit 3 b 0 0 a 0 0 1 1\ndone\n";
+
+// What a run left: its status and the lines.
+#[derive(Drop)]
+struct Left {
+    status: SharesStatus,
+    lines: Vec<u8>,
+}
+
+fn left_by<R: Threads + Wait + Sync>(
+    rt: &R,
+    alloc: Global,
+    text: &[u8],
+    source_fails: &[u32],
+    capacity: usize,
+) -> Result<Left, AllocError> {
+    let mut source = MemSource::new(text.to_vec(alloc)?, source_fails.to_vec(alloc)?);
+    let mut notes = MemSink::new(alloc, capacity, 7, Vec::new(alloc))?;
+    let status = shares(rt, alloc, &mut source, &mut notes);
+    Ok(Left {
+        status,
+        lines: notes.bytes().to_vec(alloc)?,
+    })
+}
+
+#[test]
+fn two_encoders_share_or_not(rt: HostRuntime) -> Result<(), Fail> {
+    let scenes: [(&[u8], &[u8]); 6] = [
+        (
+            b"scene 1\nsize 1 1\nencoders 2\nframe\nprogram s solid\nencoder 0\nsubmit 0 s 5 255\nencoder 1\nsubmit 0 s 5 255\ndone\n",
+            b"frame 0 view 0 encoders 0 1\n",
+        ),
+        (
+            b"scene 1\nsize 1 1\nencoders 2\nframe\nprogram s solid\nencoder 0\nsubmit 0 s 5 255\nencoder 1\nsubmit 0 s 3 255\ndone\n",
+            b"",
+        ),
+        (
+            b"scene 1\nsize 1 1\nencoders 2\nframe\nprogram s solid\nview 7 mode sequential\nencoder 0\nsubmit 7 s 5 255\nencoder 1\nsubmit 7 s 3 255\ndone\n",
+            b"frame 0 view 7 encoders 0 1\n",
+        ),
+        (
+            b"scene 1\nsize 1 1\nencoders 2\nframe\nencoder 0\ntouch 0\nencoder 1\ntouch 0\ndone\n",
+            b"",
+        ),
+        (
+            b"scene 2\nsize 1 1\nencoders 2\nlatency 3\nframe\nuniform i int\nencoder 0\nset i 1\ntouch 0\nencoder 1\nset i 2\ntouch 0\ndone\n",
+            b"frame 0 view 0 encoders 0 1\n",
+        ),
+        (TWO_BLITS, b"frame 1 view 3 encoders 0 1\n"),
+    ];
+    for (text, lines) in scenes {
+        let left = left_by(&rt, rt.alloc(), text, &[], 1000)?;
+        assert_eq!(rt; left.status, SharesStatus::Done);
+        assert_eq!(rt; left.lines.as_slice(), lines);
+    }
+    Ok(())
+}
+
+#[test]
+fn the_first_line_that_fails(rt: HostRuntime) -> Result<(), Fail> {
+    let texts: [(&[u8], u32, u8); 4] = [
+        (b"", 1, 2),
+        (b"scene 3\n", 1, 12),
+        (b"scene 1\nsize 1 1\nencoders 9\n", 3, 7),
+        (
+            b"scene 1\nsize 1 1\nencoders 1\nframe\nencoder 0\nsubmit 0 s 5 255\ndone\n",
+            6,
+            10,
+        ),
+    ];
+    for (text, line, cause) in texts {
+        let left = left_by(&rt, rt.alloc(), text, &[], 1000)?;
+        assert_eq!(rt; left.status, SharesStatus::Scene { line, cause });
+        assert_eq!(rt; left.lines.len(), 0);
+    }
+    Ok(())
+}
+
+#[test]
+fn a_read_and_a_write_that_fail(rt: HostRuntime) -> Result<(), Fail> {
+    let unread = left_by(&rt, rt.alloc(), TWO_BLITS, &[0], 1000)?;
+    assert_eq!(rt; unread.status, SharesStatus::ReadFault);
+    assert_eq!(rt; unread.lines.len(), 0);
+    let cut = left_by(&rt, rt.alloc(), TWO_BLITS, &[], 9)?;
+    assert_eq!(rt; cut.status, SharesStatus::NoteFault);
+    assert_eq!(rt; cut.lines.as_slice(), b"frame 1 v".as_slice());
+    Ok(())
+}
