@@ -1,60 +1,108 @@
 -- The status of told bytes follows from what stands after it.
-use Rattle.std.proofs.Common.{◌≡◌, ◌≢◌, ◌∙◌, ℕ, ◌<◌, ◌≤◌, ltb, List, [], ◌++◌, length, take, Option, Some, None, Result, Ok, Err, refl, sym, ap, subst, inl, inr, ◌⊎◌, arith, append-nil}
+use Rattle.std.proofs.Common.{◌≡◌, ◌≢◌, ◌∙◌, ℕ, ◌<◌, ◌≤◌, ltb, List, [], ◌++◌, length, Option, Some, None, Result, Ok, Err, refl, sym, ap, subst, inl, inr, ◌⊎◌, arith}
 use Rattle.std.proofs.lemmas.Bool.{lt-ltb, le-ltb}
 use Rattle.std.proofs.lemmas.List.{length-append}
-use Rattle.io_edge.specs.Edge.{with_front, with_back, IsSpent}
-use Rattle.frame_capture.specs.Film.{Film, texts}
+use Rattle.io_edge.specs.Edge.{with_front}
+use Rattle.scene_model.specs.Scene.{Scene}
+use Rattle.scene_model.specs.Grammar.{scene_of, whole_language}
+use Rattle.scene_model.specs.Journal.{Journal}
+use Rattle.scene_model.specs.Run.{longest_input}
+use Rattle.scene_player.specs.Io.{Reading, HasFailedToGive, AreLeft, HasMoreThan, Putting, HasFailedToTake}
+use Rattle.frame_capture.specs.Film.{Film}
 use Rattle.frame_capture.specs.Capture.{IsCapture}
-use Rattle.frame_capture.specs.Fault.{Fault, shown}
+use Rattle.frame_capture.specs.Fault.{shown}
 use Rattle.frame_capture.proofs.Frames.{shown-again}
+use Rattle.gfx_capture.specs.declared.words.Mode.{Mode}
+use Rattle.gfx_capture.specs.declared.words.Mode.TheVariants as modes
 use Rattle.gfx_capture.specs.declared.status.CaptureStatus.{CaptureStatus}
 use Rattle.gfx_capture.specs.declared.status.CaptureStatus.TheVariants as status
-use Rattle.gfx_capture.specs.Ended.{AreLeft, Ends, HasMoreThan, IsRead, by_reading, longest_capture, status_of}
+use Rattle.gfx_capture.specs.Filmed.{all_texts_length, longest_texts}
+use Rattle.gfx_capture.specs.Ended.{AreTaken, Ends, EndsAs, EndsRecord, EndsShow, HasGiven, IsGiven, IsPlayed, IsRead, by_reading, longest_capture, record_status, show_status, status_of, status_of_scene}
 
--- what was read to the end is what was left
-pub are-left : (before after : Option (List ℕ)) (bytes : List ℕ) → before ≡ with_front bytes after → IsSpent after → AreLeft before bytes
-are-left before None bytes e spent = subst (λ (o : Option (List ℕ)). AreLeft o bytes) (sym e) tt
-are-left before (Some rest) bytes e spent = subst (λ (o : Option (List ℕ)). AreLeft o bytes) (sym e) (ap (λ (r : List ℕ). bytes ++ r) spent ∙ append-nil bytes)
+-- ---- the bytes
 
 told-is : (before : Option (List ℕ)) (bytes other : List ℕ) → before ≡ Some bytes → AreLeft before other → bytes ≡ other
 told-is before bytes other e left = subst (λ (o : Option (List ℕ)). AreLeft o other) e left
 
--- bytes that are few enough have the status of what is read
-few-status : (bytes : List ℕ) → length bytes ≤ longest_capture → status_of bytes ≡ by_reading (shown bytes)
-few-status bytes few = rw (le-ltb longest_capture (length bytes) few) refl
-
-many-status : (bytes : List ℕ) → longest_capture < length bytes → status_of bytes ≡ status.TooLong
-many-status bytes many = rw (lt-ltb longest_capture (length bytes) many) refl
-
-many-told : (bytes : List ℕ) (before : Option (List ℕ)) → before ≡ Some bytes → HasMoreThan longest_capture before → longest_capture < length bytes
-many-told bytes before e h = go h.rest (sym e ∙ h.left_is)
+many-told : (most : ℕ) (bytes : List ℕ) (before : Option (List ℕ)) → before ≡ Some bytes → HasMoreThan most before → most < length bytes
+many-told most bytes before e h = go h.rest (sym e ∙ h.left_is)
   where
-    go : (rest : Option (List ℕ)) → Some bytes ≡ with_front h.bytes rest → longest_capture < length bytes
+    go : (rest : Option (List ℕ)) → Some bytes ≡ with_front h.bytes rest → most < length bytes
     go None e = absurd cc
     go (Some rest) e = let same : bytes ≡ h.bytes ++ rest = cc in omega (arith, ap length same, length-append h.bytes rest, h.many)
 
-module _ (before after old new : Option (List ℕ)) (R P : Type 0) (bytes : List ℕ) (told : before ≡ Some bytes) where
-  -- bytes that were read, as those that were told
-  read-status : (other : List ℕ) → IsRead other before after → status_of bytes ≡ by_reading (shown other)
-  read-status other read = ap status_of (told-is before bytes other told read.were_left) ∙ few-status other read.few
+few-shown : (bytes : List ℕ) → length bytes ≤ longest_capture → show_status bytes ≡ by_reading (shown bytes)
+few-shown bytes few = rw (le-ltb longest_capture (length bytes) few) refl
 
-  is-done : (other : List ℕ) (f : Film) → IsRead other before after → IsCapture other f → status_of bytes ≡ status.Done
-  is-done other f read is = read-status other read ∙ ap by_reading (shown-again other f is)
+many-shown : (bytes : List ℕ) → longest_capture < length bytes → show_status bytes ≡ status.TooLong
+many-shown bytes many = rw (lt-ltb longest_capture (length bytes) many) refl
 
-  pub as-defined : (st : CaptureStatus) → Ends st before after old new R P → (R → ⊥) → (P → ⊥) → (st ≡ status_of bytes) ⊎ (st ≡ status.OutOfMemory)
-  as-defined status.Done h given taken = inl (sym (is-done h.0 h.2 h.1 h.3))
-  as-defined status.PictureFault h given taken = absurd (taken h.5)
-  as-defined (status.Capture frame cause) h given taken = inl (sym (read-status h.0 h.1 ∙ ap by_reading h.2))
-  as-defined status.ReadFault h given taken = absurd (given h.0)
-  as-defined status.TooLong h given taken = inl (sym (many-status bytes (many-told bytes before told h.0)))
-  as-defined status.OutOfMemory h given taken = inr refl
-  as-defined status.Usage h given taken = absurd h
+few-recorded : (bytes : List ℕ) → length bytes ≤ longest_input → record_status bytes ≡ status_of_scene (scene_of whole_language bytes)
+few-recorded bytes few = rw (le-ltb longest_input (length bytes) few) refl
 
-  pub as-refused : (st : CaptureStatus) → Ends st before after old new R P → (R → ⊥) → status_of bytes ≢ status.Done → (st ≡ status_of bytes) ⊎ (st ≡ status.OutOfMemory)
-  as-refused status.Done h given other = inl (sym (is-done h.0 h.2 h.1 h.3))
-  as-refused status.PictureFault h given other = absurd (other (is-done h.0 h.2 h.1 h.3))
-  as-refused (status.Capture frame cause) h given other = inl (sym (read-status h.0 h.1 ∙ ap by_reading h.2))
-  as-refused status.ReadFault h given other = absurd (given h.0)
-  as-refused status.TooLong h given other = inl (sym (many-status bytes (many-told bytes before told h.0)))
-  as-refused status.OutOfMemory h given other = inr refl
-  as-refused status.Usage h given other = absurd h
+many-recorded : (bytes : List ℕ) → longest_input < length bytes → record_status bytes ≡ status.TooLong
+many-recorded bytes many = rw (lt-ltb longest_input (length bytes) many) refl
+
+small-scene : (s : Scene) → all_texts_length s ≤ longest_texts → status_of_scene (Ok s) ≡ status.Done
+small-scene s small = rw (le-ltb longest_texts (all_texts_length s) small) refl
+
+large-scene : (s : Scene) → longest_texts < all_texts_length s → status_of_scene (Ok s) ≡ status.TooLarge
+large-scene s large = rw (lt-ltb longest_texts (all_texts_length s) large) refl
+
+module _ (source : Reading) (j : Journal) (sink noted : Putting) (bytes : List ℕ) (told : source.before ≡ Some bytes) (given : HasFailedToGive source → ⊥) where
+  -- ---- `show`
+
+  read-shown : (other : List ℕ) → IsRead longest_capture other source → show_status bytes ≡ by_reading (shown other)
+  read-shown other read = ap show_status (told-is source.before bytes other told read.were_left) ∙ few-shown other read.few
+
+  shown-done : (other : List ℕ) (f : Film) → IsRead longest_capture other source → IsCapture other f → show_status bytes ≡ status.Done
+  shown-done other f read is = read-shown other read ∙ ap by_reading (shown-again other f is)
+
+  show-as : (st : CaptureStatus) → EndsShow st source sink → (HasFailedToTake sink → show_status bytes ≡ status.Done → ⊥) → EndsAs (show_status bytes) st
+  show-as status.Done h fair = inl (sym (shown-done h.0 h.2 h.1 h.3))
+  show-as status.PictureFault h fair = absurd (fair h.5 (shown-done h.0 h.2 h.1 h.3))
+  show-as (status.Capture frame cause) h fair = inl (sym (read-shown h.0 h.1 ∙ ap by_reading h.2))
+  show-as status.ReadFault h fair = absurd (given h.0)
+  show-as status.TooLong h fair = inl (sym (many-shown bytes (many-told longest_capture bytes source.before told h.0)))
+  show-as status.OutOfMemory h fair = inr refl
+  show-as status.Usage h fair = absurd h
+  show-as (status.Scene line cause) h fair = absurd h
+  show-as status.NoteFault h fair = absurd h
+  show-as status.TooLarge h fair = absurd h
+
+  -- ---- `record`
+
+  read-recorded : (other : List ℕ) → IsRead longest_input other source → record_status bytes ≡ status_of_scene (scene_of whole_language other)
+  read-recorded other read = ap record_status (told-is source.before bytes other told read.were_left) ∙ few-recorded other read.few
+
+  given-scene : (s : Scene) → HasGiven s source → record_status bytes ≡ status_of_scene (Ok s)
+  given-scene s h = read-recorded h.bytes h.read ∙ ap status_of_scene h.is
+
+  played-done : (s : Scene) → IsPlayed s source j → record_status bytes ≡ status.Done
+  played-done s h = given-scene s h.given ∙ small-scene s h.small
+
+  record-as : (st : CaptureStatus) → EndsRecord st source j sink noted → (HasFailedToTake sink → record_status bytes ≡ status.Done → ⊥) → (HasFailedToTake noted → record_status bytes ≡ status.Done → ⊥)
+      → EndsAs (record_status bytes) st
+  record-as status.Done h fair fair-notes = inl (sym (played-done h.0 h.1))
+  record-as status.PictureFault h fair fair-notes = absurd (fair h.5 (played-done h.0 h.1))
+  record-as status.NoteFault h fair fair-notes = absurd (fair-notes h.4 (played-done h.0 h.1))
+  record-as (status.Scene line cause) h fair fair-notes = inl (sym (read-recorded h.0 h.1 ∙ ap status_of_scene h.2))
+  record-as status.TooLarge h fair fair-notes = inl (sym (given-scene h.0 h.1 ∙ large-scene h.0 h.2))
+  record-as status.TooLong h fair fair-notes = inl (sym (many-recorded bytes (many-told longest_input bytes source.before told h.0)))
+  record-as status.ReadFault h fair fair-notes = absurd (given h.0)
+  record-as status.OutOfMemory h fair fair-notes = inr refl
+  record-as status.Usage h fair fair-notes = absurd h
+  record-as (status.Capture frame cause) h fair fair-notes = absurd h
+
+module _ (source : Reading) (j : Journal) (sink noted : Putting) (bytes : List ℕ) where
+  -- ---- the whole run
+
+  pub as-defined : (mode : Option Mode) (st : CaptureStatus) → Ends st mode source j sink noted → IsGiven mode source bytes → AreTaken mode sink noted → EndsAs (status_of mode bytes) st
+  as-defined None st h given taken = inl h.0
+  as-defined (Some modes.Record) st h given taken = record-as source j sink noted bytes given.0 given.1 st h (λ failed done. taken.0 failed) (λ failed done. taken.1 failed)
+  as-defined (Some modes.Show) st h given taken = show-as source j sink noted bytes given.0 given.1 st h.0 (λ failed done. taken failed)
+
+  pub as-refused : (mode : Option Mode) (st : CaptureStatus) → Ends st mode source j sink noted → IsGiven mode source bytes → status_of mode bytes ≢ status.Done → EndsAs (status_of mode bytes) st
+  as-refused None st h given other = inl h.0
+  as-refused (Some modes.Record) st h given other = record-as source j sink noted bytes given.0 given.1 st h (λ failed done. other done) (λ failed done. other done)
+  as-refused (Some modes.Show) st h given other = show-as source j sink noted bytes given.0 given.1 st h.0 (λ failed done. other done)

@@ -1,2 +1,7 @@
 pub mod Pieces
+pub mod Filmed
+pub mod Captures
+pub mod Sinks
+pub mod Played
+pub mod Recorded
 pub mod Endings

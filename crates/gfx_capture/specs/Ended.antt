@@ -1,9 +1,19 @@
--- What is known after a capture was shown, for each status with which the run may end.
-use Rattle.std.specs.Prelude.{◌≡◌, ℕ, ◌<◌, ◌≤◌, nat_lt, if◌then◌else◌, List, length, take, Option, Some, None, Result, Ok, Err, ⊤}
-use Rattle.io_edge.specs.Edge.{with_front, with_back, IsSpent}
+-- What is known after a run, for each status with which it may end.
+use Rattle.std.specs.Prelude.{◌≡◌, ◌⊎◌, ℕ, ◌<◌, ◌≤◌, nat_lt, if◌then◌else◌, false, List, [], length, Option, Some, None, Result, Ok, Err, ⊤}
+use Rattle.io_edge.specs.Edge.{IsSpent}
+use Rattle.scene_model.specs.Scene.{Scene}
+use Rattle.scene_model.specs.Grammar as grammar
+use Rattle.scene_model.specs.Grammar.{scene_of, whole_language}
+use Rattle.scene_model.specs.Journal.{Journal, IsLawful, IsLawfulFront}
+use Rattle.scene_model.specs.Output.{notes}
+use Rattle.scene_model.specs.Run.{longest_input}
+use Rattle.scene_player.specs.Io.{Reading, HasFailedToGive, IsUnread, AreLeft, HasMoreThan, Putting, HasFailedToTake, IsUntouched, HasPut, HasPutFront}
 use Rattle.frame_capture.specs.Film.{Film, texts}
 use Rattle.frame_capture.specs.Capture.{IsCapture}
 use Rattle.frame_capture.specs.Fault.{Fault, shown}
+use Rattle.gfx_capture.specs.Filmed.{all_texts_length, longest_texts, IsCaptureOf}
+use Rattle.gfx_capture.specs.declared.words.Mode.{Mode}
+use Rattle.gfx_capture.specs.declared.words.Mode.TheVariants as modes
 use Rattle.gfx_capture.specs.declared.status.CaptureStatus.{CaptureStatus}
 use Rattle.gfx_capture.specs.declared.status.CaptureStatus.TheVariants as status
 
@@ -11,46 +21,115 @@ use Rattle.gfx_capture.specs.declared.status.CaptureStatus.TheVariants as status
 abbrev pub longest_capture : ℕ
 longest_capture = 201326592
 
--- the bytes are those that were left, where it was told
-abbrev pub AreLeft : Option (List ℕ) → List ℕ → Type 0
-AreLeft None bytes = ⊤
-AreLeft (Some told) bytes = told ≡ bytes
+-- ---- what was read, and where nothing was put
 
--- more bytes than these were left, with what is left after them
-pub record HasMoreThan (n : ℕ) (left : Option (List ℕ)) : Type 0 where
+-- the source gave these bytes, no more than so many, and was read to its end
+pub record IsRead (most : ℕ) (bytes : List ℕ) (source : Reading) : Type 0 where
+  pub were_left : AreLeft source.before bytes
+  pub spent : IsSpent source.after
+  pub few : length bytes ≤ most
+
+-- the source gave a text of this scene, which is not too long, and was read to its end
+pub record HasGiven (s : Scene) (source : Reading) : Type 0 where
   pub bytes : List ℕ
-  pub rest : Option (List ℕ)
-  pub left_is : left ≡ with_front bytes rest
-  pub many : n < length bytes
+  pub read : IsRead longest_input bytes source
+  pub is : scene_of whole_language bytes ≡ Ok s
 
--- a front of the text was put
-abbrev pub HasPutFront : List ℕ → (old new : Option (List ℕ)) → Type 0
-HasPutFront text old new = (n : ℕ) × (new ≡ with_back old (take n text))
+-- no frame ended, and nothing was put
+pub record IsBlank (journal : Journal) (sink noted : Putting) : Type 0 where
+  pub no_frame : journal ≡ []
+  pub not_put : IsUntouched sink
+  pub not_noted : IsUntouched noted
 
--- the source gave these bytes and was read to its end
-pub record IsRead (bytes : List ℕ) (before after : Option (List ℕ)) : Type 0 where
-  pub were_left : AreLeft before bytes
-  pub spent : IsSpent after
-  pub few : length bytes ≤ longest_capture
+-- ---- `record`
 
--- what was left before and after, what the sink held before and holds now, and whether the counts of faults rose
-abbrev pub Ends : CaptureStatus → (before after old new : Option (List ℕ)) → (read_failed put_failed : Type 0) → Type 0
-Ends status.Done before after old new read_failed put_failed =
-    (bytes : List ℕ) × IsRead bytes before after × (f : Film) × IsCapture bytes f × (new ≡ with_back old (texts f))
-Ends status.PictureFault before after old new read_failed put_failed =
-    (bytes : List ℕ) × IsRead bytes before after × (f : Film) × IsCapture bytes f × HasPutFront (texts f) old new × put_failed
-Ends (status.Capture frame cause) before after old new read_failed put_failed =
-    (bytes : List ℕ) × IsRead bytes before after × (shown bytes ≡ Err (record { frame = frame; cause = cause })) × (new ≡ old)
-Ends status.ReadFault before after old new read_failed put_failed = read_failed × (new ≡ old)
-Ends status.TooLong before after old new read_failed put_failed = HasMoreThan longest_capture before × (new ≡ old)
-Ends status.OutOfMemory before after old new read_failed put_failed = new ≡ old
-Ends _ before after old new read_failed put_failed = ⊥
+-- the scene was given and was played by this lawful journal, and its picture texts are not too long
+pub record IsPlayed (s : Scene) (source : Reading) (journal : Journal) : Type 0 where
+  pub given : HasGiven s source
+  pub small : all_texts_length s ≤ longest_texts
+  pub lawful : IsLawful s journal
 
--- the status of what was read
+-- memory ran out: before the scene was played; in the play, of which the journal is lawful as far as it goes; or behind it, when the
+-- scene's notes stand
+abbrev pub IsStarved : Reading → Journal → (noted : Putting) → Type 0
+IsStarved source journal noted =
+    ((journal ≡ []) × IsUntouched noted)
+    ⊎ ((s : Scene) × HasGiven s source × ((IsLawfulFront s journal × IsUntouched noted) ⊎ (IsLawful s journal × HasPut (notes s journal false) noted)))
+
+-- what stands after `record`
+abbrev pub EndsRecord : CaptureStatus → Reading → Journal → (sink noted : Putting) → Type 0
+EndsRecord status.Done source journal sink noted =
+    (s : Scene) × IsPlayed s source journal × (capture : List ℕ) × IsCaptureOf s journal capture × HasPut capture sink × HasPut (notes s journal false) noted
+EndsRecord status.PictureFault source journal sink noted =
+    (s : Scene) × IsPlayed s source journal × (capture : List ℕ) × IsCaptureOf s journal capture × HasPutFront capture sink × HasFailedToTake sink × HasPut (notes s journal false) noted
+EndsRecord status.NoteFault source journal sink noted =
+    (s : Scene) × IsPlayed s source journal × IsUntouched sink × HasPutFront (notes s journal false) noted × HasFailedToTake noted
+EndsRecord (status.Scene line cause) source journal sink noted =
+    (bytes : List ℕ) × IsRead longest_input bytes source × (scene_of whole_language bytes ≡ Err (record { line = line; cause = cause })) × IsBlank journal sink noted
+EndsRecord status.TooLarge source journal sink noted = (s : Scene) × HasGiven s source × (longest_texts < all_texts_length s) × IsBlank journal sink noted
+EndsRecord status.TooLong source journal sink noted = HasMoreThan longest_input source.before × IsBlank journal sink noted
+EndsRecord status.ReadFault source journal sink noted = HasFailedToGive source × IsBlank journal sink noted
+EndsRecord status.OutOfMemory source journal sink noted = IsUntouched sink × IsStarved source journal noted
+EndsRecord _ source journal sink noted = ⊥
+
+-- the status of a scene that was read: that of its fault, or of its pictures
+abbrev pub status_of_scene : Result Scene grammar.Fault → CaptureStatus
+status_of_scene (Ok s) = if nat_lt longest_texts (all_texts_length s) then status.TooLarge else status.Done
+status_of_scene (Err fault) = status.Scene fault.line fault.cause
+
+-- the status of bytes that are recorded, where nothing fails
+abbrev pub record_status : List ℕ → CaptureStatus
+record_status bytes = if nat_lt longest_input (length bytes) then status.TooLong else status_of_scene (scene_of whole_language bytes)
+
+-- ---- `show`
+
+-- what stands after `show`
+abbrev pub EndsShow : CaptureStatus → Reading → (sink : Putting) → Type 0
+EndsShow status.Done source sink =
+    (bytes : List ℕ) × IsRead longest_capture bytes source × (f : Film) × IsCapture bytes f × HasPut (texts f) sink
+EndsShow status.PictureFault source sink =
+    (bytes : List ℕ) × IsRead longest_capture bytes source × (f : Film) × IsCapture bytes f × HasPutFront (texts f) sink × HasFailedToTake sink
+EndsShow (status.Capture frame cause) source sink =
+    (bytes : List ℕ) × IsRead longest_capture bytes source × (shown bytes ≡ Err (record { frame = frame; cause = cause })) × IsUntouched sink
+EndsShow status.ReadFault source sink = HasFailedToGive source × IsUntouched sink
+EndsShow status.TooLong source sink = HasMoreThan longest_capture source.before × IsUntouched sink
+EndsShow status.OutOfMemory source sink = IsUntouched sink
+EndsShow _ source sink = ⊥
+
+-- the status of what was read of a capture
 abbrev pub by_reading : Result (List ℕ) Fault → CaptureStatus
 by_reading (Ok text) = status.Done
 by_reading (Err fault) = status.Capture fault.frame fault.cause
 
--- the status of these bytes, where nothing fails
-abbrev pub status_of : List ℕ → CaptureStatus
-status_of bytes = if nat_lt longest_capture (length bytes) then status.TooLong else by_reading (shown bytes)
+-- the status of bytes that are shown, where nothing fails
+abbrev pub show_status : List ℕ → CaptureStatus
+show_status bytes = if nat_lt longest_capture (length bytes) then status.TooLong else by_reading (shown bytes)
+
+-- ---- the whole run
+
+-- the end of a run; words that name nothing are refused, and nothing is read
+abbrev pub Ends : CaptureStatus → Option Mode → Reading → Journal → (sink noted : Putting) → Type 0
+Ends st None source journal sink noted = (st ≡ status.Usage) × IsUnread source × IsBlank journal sink noted
+Ends st (Some modes.Record) source journal sink noted = EndsRecord st source journal sink noted
+Ends st (Some modes.Show) source journal sink noted = EndsShow st source sink × (journal ≡ []) × IsUntouched noted
+
+-- the status of the words and the bytes, where nothing fails
+abbrev pub status_of : Option Mode → List ℕ → CaptureStatus
+status_of None bytes = status.Usage
+status_of (Some modes.Record) bytes = record_status bytes
+status_of (Some modes.Show) bytes = show_status bytes
+
+-- the source told these bytes as those that were left, and did not fail, if it is read
+abbrev pub IsGiven : Option Mode → Reading → List ℕ → Type 0
+IsGiven None source bytes = ⊤
+IsGiven (Some m) source bytes = (source.before ≡ Some bytes) × (HasFailedToGive source → ⊥)
+
+-- the sink did not fail, nor did the notes, if they are put to
+abbrev pub AreTaken : Option Mode → (sink noted : Putting) → Type 0
+AreTaken None sink noted = ⊤
+AreTaken (Some modes.Record) sink noted = (HasFailedToTake sink → ⊥) × (HasFailedToTake noted → ⊥)
+AreTaken (Some modes.Show) sink noted = HasFailedToTake sink → ⊥
+
+-- the run ends so, or for want of memory
+abbrev pub EndsAs : (wanted st : CaptureStatus) → Type 0
+EndsAs wanted st = (st ≡ wanted) ⊎ (st ≡ status.OutOfMemory)

@@ -1,7 +1,7 @@
 // Reads a source to its end.
 ghost use Rattle.std.specs.Prelude.{◌≡◌, ◌≤◌, length, IfOk, IsErrOf};
 ghost use Rattle.io_edge.specs.Edge.{with_front, IsSpent, Rose};
-ghost use Rattle.gfx_capture.specs.Ended.{HasMoreThan};
+ghost use Rattle.scene_player.specs.Io.{HasMoreThan};
 ghost use Rattle.gfx_capture.specs.declared.input.InputError.TheVariants.{OutOfMemory, Fault};
 
 use io_edge::{Failed, Source};

@@ -1,43 +1,62 @@
-//! `gfx_capture show`: shows the pictures of the capture on standard input, as joined picture texts on standard output.
+//! `gfx_capture record`: plays the scene on standard input, and writes the capture of its pictures to standard output, its notes to
+//! standard error. `gfx_capture show`: shows the pictures of the capture on standard input, as joined picture texts on standard output.
 //!
-//! The exit status is the number of the run's status: 0 done, 1 refused words, 3 a read failed, 4 a write failed, 6 an input that is too
-//! long, 8 memory ran out, 10 no capture.
+//! The exit status is the number of the run's status: 0 done, 1 refused words, 2 no scene, 3 a read failed, 4 a write failed, 5 a write of
+//! the notes failed, 6 an input that is too long, 8 memory ran out, 9 pictures that are too large, 10 no capture.
 #![tactic(auto)]
 
+mod captured;
+mod given;
 mod input;
+pub mod laws;
 mod output;
+mod recording;
+mod run;
 mod showing;
+mod size;
 mod status;
 #[cfg(test)]
 mod tests;
+mod words;
 
-use crate::showing::show;
-use crate::status::CaptureStatus;
-use io_edge::{StdSink, StdSource};
+pub use crate::captured::Captured;
+pub use crate::run::capture;
+pub use crate::status::CaptureStatus;
+use io_edge::{NoGate, StdSink, StdSource};
 use std::alloc::{Alloc, Global};
 use std::env::{self, Env};
 use std::io::{self, ErrorKind};
 use std::process::ExitCode;
 
-/// Whether the program's name is followed by the word `show` alone. A word that is no text is an error, and so is want of memory.
-fn is_show<R: Env + Alloc<A = Global>>(rt: &R) -> io::Result<bool> {
-    let mut words = env::args(rt)?.skip(1);
-    let Some(first) = words.next() else {
-        return Ok(false);
-    };
-    Ok(first.as_str() == "show" && words.next().is_none())
+/// The words after the program's name. A word that is no text is an error, and so is want of memory.
+fn command_words<R: Env + Alloc<A = Global>>(rt: &R) -> io::Result<Vec<String>> {
+    let mut words = Vec::new(rt.alloc());
+    for word in env::args(rt)?.skip(1) {
+        words.push(word)?;
+    }
+    Ok(words)
 }
 
 fn main(rt: HostRuntime) -> ExitCode {
-    let status = match is_show(&rt) {
-        Ok(true) => {
-            let mut source = StdSource::new(rt.stdin());
-            let mut sink = StdSink::new(rt.stdout());
-            show(rt.alloc(), &mut source, &mut sink)
+    let words = match command_words(&rt) {
+        Ok(words) => words,
+        Err(fault) if fault.kind() == ErrorKind::OutOfMemory => {
+            return ExitCode::from(CaptureStatus::OutOfMemory.number());
         }
-        Err(fault) if fault.kind() == ErrorKind::OutOfMemory => CaptureStatus::OutOfMemory,
-        // A word that is no text is a faulty command line.
-        _ => CaptureStatus::Usage,
+        // A word that is no text is a faulty command line, as no word is.
+        Err(_) => Vec::new(rt.alloc()),
     };
-    ExitCode::from(status.number())
+    let mut source = StdSource::new(rt.stdin());
+    let mut sink = StdSink::new(rt.stdout());
+    let mut notes = StdSink::new(rt.stderr());
+    let captured = capture(
+        &rt,
+        rt.alloc(),
+        &words,
+        &mut source,
+        &mut sink,
+        &mut notes,
+        &NoGate,
+    );
+    ExitCode::from(captured.status.number())
 }

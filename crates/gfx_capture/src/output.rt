@@ -1,14 +1,14 @@
 // Writes a text to a sink.
 ghost use Rattle.std.specs.Prelude.{◌≡◌, ◌≤◌, OnOk, OnErr};
 ghost use Rattle.io_edge.specs.Edge.{with_back, Rose};
-ghost use Rattle.gfx_capture.specs.Ended.{HasPutFront};
+ghost use Rattle.scene_player.specs.Io.{HasPutFront, putting};
 
 use io_edge::{Failed, Sink};
 
 /// Puts the text until all of it is taken.
 pub(crate) fn put_all<P: Sink>(sink: &mut P, text: &[u8]) -> Result<(), Failed>
     ensures whole { OnOk result (P.held sink.new ≡ with_back (P.held sink.old) text.now) }
-    ensures front { HasPutFront text.now (P.held sink.old) (P.held sink.new) }
+    ensures front { HasPutFront text.now (putting (P.held sink.old) (P.held sink.new) (P.faults sink.old) (P.faults sink.new)) }
     ensures failed { OnErr result (Rose (P.faults sink.old) (P.faults sink.new)) }
     ensures sure { P.sure sink.new ≡ P.sure sink.old }
     ensures no_fewer { P.faults sink.old ≤ P.faults sink.new }

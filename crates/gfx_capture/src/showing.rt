@@ -1,7 +1,7 @@
 // Shows a capture.
-ghost use Rattle.std.specs.Prelude.{◌≡◌, ◌≢◌, ◌≤◌, ◌⊎◌, ℕ, List, Some};
-ghost use Rattle.io_edge.specs.Edge.{Rose};
-ghost use Rattle.gfx_capture.specs.Ended.{Ends, status_of};
+ghost use Rattle.std.specs.Prelude.{◌≡◌, ◌≤◌};
+ghost use Rattle.scene_player.specs.Io.{putting, reading};
+ghost use Rattle.gfx_capture.specs.Ended.{EndsShow};
 
 use crate::input::{InputError, read_all};
 use crate::output::put_all;
@@ -11,16 +11,22 @@ use io_edge::{Sink, Source};
 use std::alloc::Global;
 
 /// The longest capture that is read.
-const LONGEST: usize = 201_326_592;
+const LONGEST_CAPTURE: usize = 201_326_592;
 
-/// Does the work of `show`.
-fn run<S: Source, P: Sink>(alloc: Global, source: &mut S, sink: &mut P) -> CaptureStatus
-    ensures ends { Ends result (S.left source.old) (S.left source.new) (P.held sink.old) (P.held sink.new)
-        (Rose (S.faults source.old) (S.faults source.new)) (Rose (P.faults sink.old) (P.faults sink.new)) }
+/// Reads a capture to its end, at most 201,326,592 bytes, and puts the joined picture texts that it stands for.
+///
+/// The status says how it ended. `TooLong` and `Capture` come exactly by the bytes, `ReadFault` and `PictureFault` only where that
+/// object's count of faults rose in this call; `OutOfMemory` is free, and the other statuses do not come. After `PictureFault` a front of
+/// the texts was put; after the others but `Done` nothing. On `Done`, `PictureFault` and `Capture` the source was read to its end.
+pub fn show<S: Source, P: Sink>(alloc: Global, source: &mut S, sink: &mut P) -> CaptureStatus
+    // What was read and put after each status, and its cause.
+    ensures ends { EndsShow result (reading (S.left source.old) (S.left source.new) (S.faults source.old) (S.faults source.new))
+        (putting (P.held sink.old) (P.held sink.new) (P.faults sink.old) (P.faults sink.new)) }
+    // The sink keeps its sure length, and no count of faults falls.
     ensures sure { P.sure sink.new ≡ P.sure sink.old }
     ensures no_fewer { (S.faults source.old ≤ S.faults source.new) × (P.faults sink.old ≤ P.faults sink.new) }
 {
-    let bytes = match read_all(alloc, source, LONGEST) {
+    let bytes = match read_all(alloc, source, LONGEST_CAPTURE) {
         Ok(bytes) => bytes,
         Err(InputError::Fault) => return CaptureStatus::ReadFault,
         Err(InputError::TooLong) => return CaptureStatus::TooLong,
@@ -35,26 +41,4 @@ fn run<S: Source, P: Sink>(alloc: Global, source: &mut S, sink: &mut P) -> Captu
         Ok(()) => CaptureStatus::Done,
         Err(_) => CaptureStatus::PictureFault,
     }
-}
-
-/// Reads a capture to its end, at most 201,326,592 bytes, and puts the joined picture texts that it stands for.
-///
-/// The status says how it ended. `TooLong` and `Capture` come exactly by the bytes, `ReadFault` and `PictureFault` only where that
-/// object's count of faults rose in this call; `OutOfMemory` is free, and the other statuses do not come. After `PictureFault` a front of
-/// the texts was put; after the others but `Done` nothing. On `Done`, `PictureFault` and `Capture` the source was read to its end.
-pub fn show<S: Source, P: Sink>(alloc: Global, source: &mut S, sink: &mut P) -> CaptureStatus
-    // What was read and put after each status, and its cause.
-    ensures ends { Ends result (S.left source.old) (S.left source.new) (P.held sink.old) (P.held sink.new)
-        (Rose (S.faults source.old) (S.faults source.new)) (Rose (P.faults sink.old) (P.faults sink.new)) }
-    // The sink keeps its sure length, and no count of faults falls.
-    ensures sure { P.sure sink.new ≡ P.sure sink.old }
-    ensures no_fewer { (S.faults source.old ≤ S.faults source.new) × (P.faults sink.old ≤ P.faults sink.new) }
-    // Bytes that are too many or no capture are refused, where the source does not fail, unless memory runs out.
-    ensures refused { (bytes : List ℕ) → S.left source.old ≡ Some bytes → ¬ (Rose (S.faults source.old) (S.faults source.new))
-        → status_of bytes ≢ CaptureStatus.Done → (result ≡ status_of bytes) ⊎ (result ≡ CaptureStatus.OutOfMemory) }
-    // Where nothing fails, the status is that of the bytes, unless memory runs out.
-    ensures complete { (bytes : List ℕ) → S.left source.old ≡ Some bytes → ¬ (Rose (S.faults source.old) (S.faults source.new))
-        → ¬ (Rose (P.faults sink.old) (P.faults sink.new)) → (result ≡ status_of bytes) ⊎ (result ≡ CaptureStatus.OutOfMemory) }
-{
-    run(alloc, source, sink)
 }

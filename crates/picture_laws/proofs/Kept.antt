@@ -13,7 +13,7 @@ use Rattle.gfx_model.specs.Views.{View, view_at}
 use Rattle.gfx_model.specs.World.{Surface, World, first_world, joined_pixels, depth_bytes, pixels_of, with_texel_list, on_each_pixel, cleared, clear_surface, on_surface, with_changed, surface_of, set_uniform, UniformSet, copied, texels_of, content_of, Item, draw_item, touch_item, blit_item, Draw, Paint, paint_of, painted_by, drawn_on, Facing, after_facing, painted, is_in_cut, facings_of, do_item, enter_view, FrameContent, ordered, entered_views, frame_step, begin_frame, is_of_view, is_blit}
 use Rattle.scene_model.specs.Fold.{FramePlan, plans}
 use Rattle.scene_model.specs.Journal.{Journal, frame_content, pictures_from}
-use Rattle.picture_laws.specs.Whole.{IsFour, AreWhole, ClearsToColors, PicturesLaw}
+use Rattle.picture_laws.specs.Whole.{IsFour, AreWhole, ClearsToColors, ClearedLaw}
 
 -- ---- pixels
 
@@ -196,5 +196,5 @@ first-whole width height =
       deep = length-replicate n no_color;
     }
 
-pub pictures-law : PicturesLaw
-pictures-law s j four = pictures-kept s.width s.height (first_world s.width s.height) (plans s) j four (first-whole s.width s.height)
+pub cleared-law : ClearedLaw
+cleared-law s j four = pictures-kept s.width s.height (first_world s.width s.height) (plans s) j four (first-whole s.width s.height)

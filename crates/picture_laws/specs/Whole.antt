@@ -7,6 +7,7 @@ use Rattle.gfx_model.specs.Views.{Views, view_at}
 use Rattle.scene_model.specs.Scene.{Scene}
 use Rattle.scene_model.specs.Fold.{plans}
 use Rattle.scene_model.specs.Journal.{Journal, pictures}
+use Rattle.spelling_model.specs.Readable.{IsReadable}
 
 -- a colour of four bytes
 abbrev pub IsFour : Color → Type 0
@@ -28,5 +29,9 @@ abbrev pub HasClears : Scene → Type 0
 HasClears s = AllByRecursion (λ p. ClearsToColors p.views) (plans s)
 
 -- the pictures of such a scene are whole, by any journal
-abbrev pub PicturesLaw : Type 0
-PicturesLaw = (s : Scene) (j : Journal) → HasClears s → AllByRecursion (AreWhole s.width s.height) (pictures s j)
+abbrev pub ClearedLaw : Type 0
+ClearedLaw = (s : Scene) (j : Journal) → HasClears s → AllByRecursion (AreWhole s.width s.height) (pictures s j)
+
+-- the pictures of a readable scene are whole, by any journal
+abbrev pub WholeLaw : Type 0
+WholeLaw = (s : Scene) (j : Journal) → IsReadable s → AllByRecursion (AreWhole s.width s.height) (pictures s j)
