@@ -1,5 +1,5 @@
 // What a load says.
-ghost use Rattle.std.specs.Prelude.{◌<◌};
+ghost use Rattle.std.specs.Prelude.{◌<◌, ◌≤◌, vec_len};
 
 use gfx_words::{ProgramKind, UniformKind};
 
@@ -16,10 +16,11 @@ pub enum BlockLine {
     Frame,
 }
 
-/// A caller, 0 to 7, and its lines.
+/// A caller, 0 to 7, and its lines, at most 16,777,216.
 #[derive(Drop)]
 pub struct Block {
     pub caller: u8,
     pub lines: Vec<BlockLine>,
     pub ghost small: { caller < 8 },
+    pub ghost few: { vec_len lines ≤ 16777216 },
 }

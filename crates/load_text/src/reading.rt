@@ -14,6 +14,9 @@ use crate::stages::{Reading, Stage};
 use crate::words::{program_word, uniform_word};
 use std::alloc::{AllocError, Global};
 
+// A text of at most 16,777,216 bytes has fewer lines.
+const MOST_LINES: usize = 16_777_216;
+
 /// A block more, without lines.
 fn add_block(alloc: Global, blocks: &mut Vec<Block>, caller: u8) -> Result<(), AllocError>
     requires { caller < 8 }
@@ -27,12 +30,23 @@ fn add_block(alloc: Global, blocks: &mut Vec<Block>, caller: u8) -> Result<(), A
     Ok(())
 }
 
+/// A line more in a block. A block of so many lines, which no text has, is as where there is no memory.
+fn push_line(block: &mut Block, line: BlockLine) -> Result<(), AllocError>
+    ensures { IfOk result (λ _. block_seen block.new ≡ text.with_one (line_seen line) (block_seen block.old)) }
+{
+    if block.lines.len() >= MOST_LINES {
+        return Err(AllocError);
+    }
+    block.lines.push(line)?;
+    Ok(())
+}
+
 /// A line more in the last block.
 fn add_line(blocks: &mut Vec<Block>, line: BlockLine) -> Result<(), AllocError>
     ensures { IfOk result (λ _. map block_seen blocks.new.items ≡ on_last (text.with_one (line_seen line)) (map block_seen blocks.old.items)) }
 {
     match blocks.last_mut() {
-        Some(block) => block.lines.push(line)?,
+        Some(block) => push_line(block, line)?,
         None => drop(line),
     }
     Ok(())
