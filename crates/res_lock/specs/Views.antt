@@ -93,6 +93,10 @@ GoesOn callers seen log = IsPrefix seen log × IsWholeIn callers seen log
 abbrev pub Mine : Type 0
 Mine = Me (Unit {0}) PassView
 
+-- the next caller has made nothing of what the first pass has seen
+abbrev pub Looks : Step (Unit {0}) → Mine → ℕ → Mine → Type 0
+Looks st m r m' = (m' ≡ m) × (0 < m.0.next → part_of m.0.next m.0.seen ≡ [])
+
 -- what was heard is learnt: both histories are beginnings of the longer one, which has the whole part of each of their callers
 abbrev pub Learns : Step (Unit {0}) → Mine → ℕ → Mine → Type 0
 Learns st m r m' = (h : Heard) → m.0.heard ≡ Some h

@@ -6,7 +6,7 @@ ghost use Rattle.res_lock.specs.Seen.{entry_seen};
 ghost use Rattle.res_lock.specs.Views.{first_view, split_from, split_off, joined_with, pen_view, written_in, GoesOn};
 
 use crate::entry::Entry;
-use crate::view::{Append, GivePen, Hear, Law, Learn, SplitOff, TakePen, View, Written};
+use crate::view::{Append, GivePen, Hear, Law, Learn, Look, SplitOff, TakePen, View, Written};
 use atomic_table::{Seat, Table};
 use std::alloc::{AllocError, Global};
 use std::marker::Brand;
@@ -91,6 +91,7 @@ impl LogTable {
         ensures same { (caller_of first.new ≡ caller_of first.old) × (made_by first.new ≡ made_by first.old) }
         ensures other { (pass_view result ≡ split_off (pass_view first.old)) × (caller_of result ≡ (pass_view first.old).next) × (made_by result ≡ 0) }
     {
+        self.table.shared.load::<Look>(&mut first.seat, 0);
         let seat = self.table.shared.split_seat::<SplitOff>(&mut first.seat);
         let caller = first.next as u32;
         first.next += 1;

@@ -38,6 +38,15 @@ impl Split<View> for SplitOff {
     ghost right = { split_off };
 }
 
+/// The first pass looks before it splits off the pass of the next caller.
+pub struct Look;
+
+impl Play<(), View> for Look {
+    ghost use Rattle.res_lock.specs.Views.{Looks};
+
+    ghost then = { Looks };
+}
+
 /// Another pass is joined.
 pub struct Hear;
 

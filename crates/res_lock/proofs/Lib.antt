@@ -1,0 +1,4 @@
+pub mod PartLaws
+pub mod Totals
+pub mod Keeps
+pub mod Steps
