@@ -2,3 +2,4 @@ pub mod PartLaws
 pub mod Totals
 pub mod Keeps
 pub mod Steps
+pub mod ThingLaws

@@ -10,12 +10,7 @@ use Rattle.gfx_model.specs.FrameCalls.{CallState, begin_encoder, end_frame, fram
 use Rattle.gfx_words.specs.declared.refusals.Refusal.{Refusal}
 use Rattle.gfx_words.specs.Seen.{refusal_seen}
 use Rattle.frame_record.specs.declared.frame.Outcome.{Outcome}
-use Rattle.frame_record.specs.declared.frame.Outcome.TheVariants as outcomes
-
--- TEMP
-abbrev pub is_shown_outcome : Outcome → Bool
-is_shown_outcome outcomes.Shown = true
-is_shown_outcome _ = false
+use Rattle.gfx_context.specs.Ended.{is_shown_outcome}
 
 -- ---- entries
 

@@ -3,3 +3,5 @@ pub mod Views
 pub mod Rule
 pub mod Seen
 pub mod Seats
+pub mod Called
+pub mod Locked

@@ -2,8 +2,12 @@
 #![tactic(auto)]
 
 mod entry;
+mod log;
+mod naming;
 mod table;
+mod things;
 mod view;
 
 pub use entry::{Entry, LockRefusal, ResCall, ResReply};
+pub use naming::HistoryNaming;
 pub use table::{HistoryTable, ResPass};

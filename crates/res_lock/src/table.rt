@@ -124,19 +124,22 @@ impl LogTable {
     }
 
     /// Appends an entry, which is the next one of the pass's caller.
-    pub fn append(&self, pass: &mut ResPass, pen: Pen, entry: &Entry) -> Pen
-        requires table { (pass_table pass.old ≡ log_table self.now) × (pen_table pen ≡ log_table self.now) }
+    pub fn append(&self, pass: &mut ResPass, pen: &mut Pen, entry: &Entry)
+        requires table { (pass_table pass.old ≡ log_table self.now) × (pen_table pen.old ≡ log_table self.now) }
         requires entry { entry.now.caller ≡ caller_of pass.old }
-        requires few { (made_by pass.old < 4294967295) × (length (pen_log pen) < 18446744073709551615) }
-        ensures table { (pass_table pass.new ≡ log_table self.now) × (pen_table result ≡ log_table self.now) }
-        ensures pen { pen_log result ≡ pen_log pen ++ entry_seen entry.now ∷ [] }
-        ensures pass { pass_view pass.new ≡ record (pass_view pass.old) { seen = pen_log result } }
+        requires few { (made_by pass.old < 4294967295) × (length (pen_log pen.old) < 18446744073709551615) }
+        ensures table { (pass_table pass.new ≡ log_table self.now) × (pen_table pen.new ≡ log_table self.now) }
+        ensures pen { pen_log pen.new ≡ pen_log pen.old ++ entry_seen entry.now ∷ [] }
+        ensures pass { pass_view pass.new ≡ record (pass_view pass.old) { seen = pen_log pen.new } }
         ensures same { (caller_of pass.new ≡ caller_of pass.old) × (made_by pass.new ≡ made_by pass.old + 1) }
-        ensures on { GoesOn (pass_view pass.old).callers (pass_view pass.old).seen (pen_log pen) }
+        ensures on { GoesOn (pass_view pass.old).callers (pass_view pass.old).seen (pen_log pen.old) }
     {
-        self.append_as::<Brand>(pass, pen, entry)
+        let seat = self.table.shared.split_seat::<GivePen>(&mut pen.seat);
+        let Pen { seat } = self.append_as::<Brand>(pass, Pen { seat }, entry);
+        self.table.shared.join_seat::<TakePen>(&mut pen.seat, seat);
     }
 
+    /// The same with the right to append handed over and back.
     fn append_as<W: Written>(&self, pass: &mut ResPass, pen: Pen, entry: &Entry) -> Pen
         requires named { entry_seen entry.now ≡ W.entry }
         requires table { (pass_table pass.old ≡ log_table self.now) × (pen_table pen ≡ log_table self.now) }
