@@ -2,4 +2,5 @@ pub mod PartLaws
 pub mod Totals
 pub mod Keeps
 pub mod Steps
-pub mod ThingLaws
+pub mod HistoryLaws
+pub mod KeptLaws

@@ -1,12 +1,15 @@
 -- What lies behind the lock.
-use Rattle.std.specs.Prelude.{◌≡◌, ◌<◌, List, vec_len, vec_capacity}
+use Rattle.std.specs.Prelude.{◌≡◌, ◌<◌, ◌+◌, List, [], ◌∷◌, ◌++◌, vec_len, vec_capacity}
 use Rattle.atomic_table.specs.Seated.{TableId}
 use Rattle.gfx_model.specs.FrameCalls.{CallState}
 use Rattle.resource_laws.specs.Bare.{bare_of}
 use Rattle.gfx_context.specs.States.{ContextView, state_of}
-use Rattle.res_lock.specs.Histories.{LockEntry, state_after, IsLegal}
+use Rattle.res_lock.specs.Histories.{LockCall, Reply, LockEntry, state_after, IsLegal}
 use Rattle.res_lock.specs.Seen.{entries_seen}
-use Rattle.res_lock.specs.Seats.{pen_table}
+use Rattle.res_lock.specs.Views.{GoesOn}
+use Rattle.res_lock.specs.Seats.{pen_table, pass_view, caller_of, made_by}
+use Rattle.res_lock.specs.Called.{IsSamePass}
+use Rattle.res_lock.specs.declared.table.ResPass.{ResPass}
 use Rattle.res_lock.specs.declared.log.Log.{Log}
 
 -- the entries of a log
@@ -20,6 +23,15 @@ table_of_log l = pen_table l.pen
 -- a log has room for an entry
 abbrev pub HasRoom : Log → Type 0
 HasRoom l = vec_len l.history < vec_capacity l.history
+
+-- an entry of a pass is appended: the history has gone on from what the pass had seen, with no call of the pass, and the pass has seen it
+pub record Adds (call : LockCall) (reply : Reply) (old new : Log) (p q : ResPass) : Type 0 where
+  pub entries : log_entries new ≡ log_entries old ++ record { caller = caller_of p; ordinal = made_by p; call = call; reply = reply } ∷ []
+  pub table : table_of_log new ≡ table_of_log old
+  pub on : GoesOn (pass_view p).callers (pass_view p).seen (log_entries old)
+  pub view : pass_view q ≡ record (pass_view p) { seen = log_entries new }
+  pub made : made_by q ≡ made_by p + 1
+  pub same : IsSamePass p q
 
 -- a context, and the history of its calls
 pub record LockView (L : Type 0) : Type 0 where

@@ -4,6 +4,7 @@
 mod entry;
 mod log;
 mod naming;
+mod state;
 mod table;
 mod things;
 mod view;

@@ -1,11 +1,15 @@
 // The history, and the right to append to it.
-ghost use Rattle.std.specs.Prelude.{◌≡◌, ◌<◌, ◌+◌, [], ◌∷◌, ◌++◌, IfErr, IfOk, OnOk, OnErr, MatchResult};
+ghost use Rattle.std.specs.Prelude.{◌≡◌, ◌<◌, ◌+◌, [], ◌∷◌, ◌++◌, IfErr, IfOk, OnOk, OnErr, MatchResult, MatchOption};
+ghost use Rattle.gfx_words.specs.Seen.{refusal_seen};
+ghost use Rattle.res_lock.specs.Histories.{refused};
+ghost use Rattle.res_lock.specs.declared.entry.LockRefusal.TheVariants as lock_refusals;
 ghost use Rattle.res_lock.specs.Seen.{call_seen, reply_seen, entries_seen};
 ghost use Rattle.res_lock.specs.Seats.{log_table, pass_table, pass_view, pen_table, pen_log, caller_of, made_by};
 ghost use Rattle.res_lock.specs.Views.{GoesOn};
 
-use crate::entry::{Entry, ResCall, ResReply};
+use crate::entry::{Entry, LockRefusal, ResCall, ResReply};
 use crate::table::{LogTable, Pen, ResPass};
+use gfx_words::Refusal;
 use std::alloc::{AllocError, Global};
 
 /// The entries of a history, and the right to append to it.
@@ -17,7 +21,7 @@ pub(crate) struct Log {
 }
 
 impl Log {
-    ghost use Rattle.res_lock.specs.Locked.{log_entries, table_of_log, HasRoom};
+    ghost use Rattle.res_lock.specs.Locked.{log_entries, table_of_log, HasRoom, Adds};
 
     /// An empty log with room for an entry. `Err` only for want of memory; the pen comes back.
     pub fn new(alloc: Global, pen: Pen) -> Result<Log, Pen>
@@ -45,11 +49,7 @@ impl Log {
         requires table { (log_table table.now ≡ table_of_log self.old) × (pass_table pass.old ≡ table_of_log self.old) }
         requires room { HasRoom self.old }
         requires few { made_by pass.old < 4294967295 }
-        ensures table { (table_of_log self.new ≡ table_of_log self.old) × (pass_table pass.new ≡ pass_table pass.old) }
-        ensures entries { log_entries self.new ≡ log_entries self.old ++ record { caller = caller_of pass.old; ordinal = made_by pass.old; call = call_seen call; reply = reply_seen reply } ∷ [] }
-        ensures pass { pass_view pass.new ≡ record (pass_view pass.old) { seen = log_entries self.new } }
-        ensures same { (caller_of pass.new ≡ caller_of pass.old) × (made_by pass.new ≡ made_by pass.old + 1) }
-        ensures on { GoesOn (pass_view pass.old).callers (pass_view pass.old).seen (log_entries self.old) }
+        ensures { Adds (call_seen call) (reply_seen reply) self.old self.new pass.old pass.new }
     {
         let entry = Entry {
             caller: pass.caller(),
@@ -59,5 +59,27 @@ impl Log {
         };
         table.append(pass, &mut self.pen, &entry);
         self.history.push_reserved(entry);
+    }
+
+    /// Appends a call that is refused, except where there was no memory.
+    pub fn refuse(
+        &mut self,
+        table: &LogTable,
+        pass: &mut ResPass,
+        call: ResCall,
+        refusal: Refusal,
+    ) -> LockRefusal
+        requires table { (log_table table.now ≡ table_of_log self.old) × (pass_table pass.old ≡ table_of_log self.old) }
+        requires room { HasRoom self.old }
+        requires few { made_by pass.old < 4294967295 }
+        ensures same { result ≡ lock_refusals.Refused refusal }
+        ensures adds { MatchOption (refusal_seen refusal)
+            ((self.new ≡ self.old) × (pass.new ≡ pass.old))
+            (λ x. Adds (call_seen call) (refused refusal) self.old self.new pass.old pass.new) }
+    {
+        if !matches!(refusal, Refusal::OutOfMemory) {
+            self.append(table, pass, call, ResReply::Refused { refusal });
+        }
+        LockRefusal::Refused(refusal)
     }
 }

@@ -1,0 +1,76 @@
+// A context and the history of its calls, as they lie behind the lock.
+ghost use Rattle.std.specs.Prelude.{◌≡◌, ◌<◌, false, [], Ok, Err, IfOk, IfErr};
+ghost use Rattle.gfx_model.specs.FrameCalls.{frame_refusal, end_frame};
+ghost use Rattle.draw_encoder.specs.Seen.{room_seen};
+ghost use Rattle.gfx_context.specs.States.{state_of};
+ghost use Rattle.res_lock.specs.Seen.{call_seen};
+ghost use Rattle.res_lock.specs.Seats.{log_table, pass_table, pen_table, pen_log, made_by};
+ghost use Rattle.res_lock.specs.Called.{IsCreate, IsThingChange, IsViewChange, IsSamePass, IsCreated, IsChanged, IsFramed, IsBegun};
+
+use crate::entry::{LockRefusal, ResCall, ResReply};
+use crate::log::Log;
+use crate::naming::HistoryNaming;
+use crate::table::{LogTable, Pen, ResPass};
+use crate::things::{change_thing, change_view, create};
+use draw_encoder::{Encoder, Naming};
+use frame_record::{FrameLink, Outcome};
+use gfx_context::{Context, FrameReport};
+use gfx_words::{Handle, Refusal, Room};
+use std::alloc::Global;
+use std::marker::{Model, PhantomData};
+use std::sync::Wait;
+use std::thread::Threads;
+
+/// A context, and the history of its calls. The history is legal from its start, and the context is in the state after it.
+/// Contracts see a `LockView`.
+#[derive(Drop)]
+pub(crate) struct LockState<'t, C: Naming, L: FrameLink + Drop, H: HistoryNaming> {
+    context: Context<'t, C, L>,
+    log: Log,
+    of: PhantomData<H>,
+}
+
+impl<'t, C: Naming, L: FrameLink + Drop, H: HistoryNaming> Model for LockState<'t, C, L, H> {
+    ghost use Rattle.std.specs.Prelude.{◌≡◌};
+    ghost use Rattle.res_lock.specs.Locked.{LockView, IsKept, log_entries, table_of_log};
+
+    ghost Value = { LockView L };
+
+    ghost view = { λ s. record { context = s.context; history = log_entries s.log } };
+
+    ghost invariant = { λ s. (table_of_log s.log ≡ H.table) × IsKept H.start (record { context = s.context; history = log_entries s.log }) };
+}
+
+impl<'t, C: Naming, L: FrameLink + Drop, H: HistoryNaming> LockState<'t, C, L, H> {
+    /// Makes a thing.
+    pub fn create(
+        &mut self,
+        table: &LogTable,
+        pass: &mut ResPass,
+        call: ResCall,
+    ) -> Result<Handle, LockRefusal>
+        requires create { IsCreate (call_seen call) }
+        requires tables { (log_table table.now ≡ H.table) × (pass_table pass.old ≡ H.table) }
+        requires few { made_by pass.old < 4294967295 }
+        ensures pass { IsSamePass pass.old pass.new }
+        ensures answer { IsCreated H.start (call_seen call) result pass.old pass.new }
+    {
+        if self.log.reserve().is_err() {
+            return Err(LockRefusal::Refused(Refusal::OutOfMemory));
+        }
+        if self.context.is_ended() {
+            let frame = self.context.frame_number();
+            self.log
+                .append(table, pass, call, ResReply::Ended { frame });
+            return Err(LockRefusal::Ended { frame });
+        }
+        match create(&mut self.context, &call) {
+            Ok(handle) => {
+                self.log
+                    .append(table, pass, call, ResReply::Made { handle });
+                Ok(handle)
+            }
+            Err(refusal) => Err(self.log.refuse(table, pass, call, refusal)),
+        }
+    }
+}
