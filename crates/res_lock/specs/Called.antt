@@ -1,5 +1,5 @@
 -- How the calls through the lock are answered.
-use Rattle.std.specs.Prelude.{◌≡◌, ◌⊎◌, ℕ, ◌+◌, Bool, true, false, List, [], ◌∷◌, ◌++◌, Option, Some, None, Result, MatchResult, MatchOption, ⊤}
+use Rattle.std.specs.Prelude.{◌≡◌, ◌⊎◌, ℕ, ◌+◌, Bool, true, false, List, [], ◌∷◌, ◌++◌, Option, Some, None, Result, Ok, Err, MatchResult, MatchOption, ⊤}
 use Rattle.gfx_model.specs.Words.{Handle}
 use Rattle.gfx_model.specs.Recorder.{Room}
 use Rattle.gfx_model.specs.Resources as model
@@ -60,24 +60,20 @@ IsCreate (on_things (model.create_program kind)) = ⊤
 IsCreate (on_things (model.create_uniform name kind)) = ⊤
 IsCreate _ = ⊥
 
--- the calls that change things, or let them die
-abbrev pub IsThingChange : LockCall → Type 0
-IsThingChange (on_things (model.update_buffer buffer offset bytes)) = ⊤
-IsThingChange (on_things (model.update_texture texture rect bytes)) = ⊤
-IsThingChange (on_things (model.destroy thing)) = ⊤
-IsThingChange _ = ⊥
-
--- the calls that set views
-abbrev pub IsViewChange : LockCall → Type 0
-IsViewChange (on_things (model.set_view_rect view rect)) = ⊤
-IsViewChange (on_things (model.set_view_scissor view rect)) = ⊤
-IsViewChange (on_things (model.set_view_clear view clear)) = ⊤
-IsViewChange (on_things (model.set_view_mode view mode)) = ⊤
-IsViewChange (on_things (model.set_view_transform view transform)) = ⊤
-IsViewChange (on_things (model.set_view_target view target)) = ⊤
-IsViewChange (on_things (model.set_view_order ids)) = ⊤
-IsViewChange (on_things (model.reset_view view)) = ⊤
-IsViewChange _ = ⊥
+-- the calls that change things or views, or let things die
+abbrev pub IsChange : LockCall → Type 0
+IsChange (on_things (model.update_buffer buffer offset bytes)) = ⊤
+IsChange (on_things (model.update_texture texture rect bytes)) = ⊤
+IsChange (on_things (model.destroy thing)) = ⊤
+IsChange (on_things (model.set_view_rect view rect)) = ⊤
+IsChange (on_things (model.set_view_scissor view rect)) = ⊤
+IsChange (on_things (model.set_view_clear view clear)) = ⊤
+IsChange (on_things (model.set_view_mode view mode)) = ⊤
+IsChange (on_things (model.set_view_transform view transform)) = ⊤
+IsChange (on_things (model.set_view_target view target)) = ⊤
+IsChange (on_things (model.set_view_order ids)) = ⊤
+IsChange (on_things (model.reset_view view)) = ⊤
+IsChange _ = ⊥
 
 -- ---- what a pass learns
 
@@ -117,6 +113,16 @@ abbrev pub reply_of : (given : Bool) → (number : ℕ) → Option BackNote → 
 reply_of true number back = given number
 reply_of false number None = given number
 reply_of false number (Some note) = ending number note.outcome
+
+-- how a refused end of a frame is told: where there was no memory in the context, the frame is not given
+abbrev pub refusal_reply : ℕ → Refusal → Option model.Refusal → Reply
+refusal_reply number r None = ending number outcomes.OutOfMemory
+refusal_reply number r (Some x) = refused r
+
+-- how the context's answer is told
+abbrev pub frame_reply : ℕ → Result FrameReport Refusal → Reply
+frame_reply number (Ok report) = reply_of report.given report.number report.back
+frame_reply number (Err r) = refusal_reply number r (refusal_seen r)
 
 -- the end of a frame for which there was no memory: none for the entry, and nothing happened; or none in the context, which is ended
 abbrev pub IsOutOfMemory : CallState → (old new : ResPass) → Type 0

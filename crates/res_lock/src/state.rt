@@ -3,18 +3,18 @@ ghost use Rattle.std.specs.Prelude.{◌≡◌, ◌<◌, false, [], Ok, Err, IfOk
 ghost use Rattle.gfx_model.specs.FrameCalls.{frame_refusal, end_frame};
 ghost use Rattle.draw_encoder.specs.Seen.{room_seen};
 ghost use Rattle.gfx_context.specs.States.{state_of};
-ghost use Rattle.res_lock.specs.Seen.{call_seen};
+ghost use Rattle.res_lock.specs.Seen.{call_seen, reply_seen};
 ghost use Rattle.res_lock.specs.Seats.{log_table, pass_table, pen_table, pen_log, made_by};
-ghost use Rattle.res_lock.specs.Called.{IsCreate, IsThingChange, IsViewChange, IsSamePass, IsCreated, IsChanged, IsFramed, IsBegun};
+ghost use Rattle.res_lock.specs.Called.{IsCreate, IsChange, IsSamePass, IsCreated, IsChanged, IsFramed, IsBegun, reply_of, frame_reply};
 
 use crate::entry::{LockRefusal, ResCall, ResReply};
 use crate::log::Log;
 use crate::naming::HistoryNaming;
 use crate::table::{LogTable, Pen, ResPass};
-use crate::things::{change_thing, change_view, create};
+use crate::things::{change, create};
 use draw_encoder::{Encoder, Naming};
 use frame_record::{FrameLink, Outcome};
-use gfx_context::{Context, FrameReport};
+use gfx_context::{BackNote, Context, FrameReport};
 use gfx_words::{Handle, Refusal, Room};
 use std::alloc::Global;
 use std::marker::{Model, PhantomData};
@@ -72,5 +72,125 @@ impl<'t, C: Naming, L: FrameLink + Drop, H: HistoryNaming> LockState<'t, C, L, H
             }
             Err(refusal) => Err(self.log.refuse(table, pass, call, refusal)),
         }
+    }
+
+    /// Changes a thing or a view, or lets a thing die.
+    pub fn change(
+        &mut self,
+        table: &LogTable,
+        pass: &mut ResPass,
+        call: ResCall,
+    ) -> Result<(), LockRefusal>
+        requires change { IsChange (call_seen call) }
+        requires tables { (log_table table.now ≡ H.table) × (pass_table pass.old ≡ H.table) }
+        requires few { made_by pass.old < 4294967295 }
+        ensures pass { IsSamePass pass.old pass.new }
+        ensures answer { IsChanged H.start (call_seen call) result pass.old pass.new }
+    {
+        if self.log.reserve().is_err() {
+            return Err(LockRefusal::Refused(Refusal::OutOfMemory));
+        }
+        if self.context.is_ended() {
+            let frame = self.context.frame_number();
+            self.log
+                .append(table, pass, call, ResReply::Ended { frame });
+            return Err(LockRefusal::Ended { frame });
+        }
+        match change(&mut self.context, &call) {
+            Ok(()) => {
+                self.log.append(table, pass, call, ResReply::Unit);
+                Ok(())
+            }
+            Err(refusal) => Err(self.log.refuse(table, pass, call, refusal)),
+        }
+    }
+
+    /// Ends the frame. It makes an entry also where there is no memory in the context.
+    pub fn frame<R: Threads + Wait + Sync>(
+        &mut self,
+        rt: &R,
+        table: &LogTable,
+        pass: &mut ResPass,
+    ) -> Result<FrameReport, LockRefusal>
+        requires tables { (log_table table.now ≡ H.table) × (pass_table pass.old ≡ H.table) }
+        requires few { made_by pass.old < 4294967295 }
+        ensures pass { IsSamePass pass.old pass.new }
+        ensures answer { IsFramed H.start result pass.old pass.new }
+    {
+        if self.log.reserve().is_err() {
+            return Err(LockRefusal::Refused(Refusal::OutOfMemory));
+        }
+        let frame = self.context.frame_number();
+        if self.context.is_ended() {
+            self.log
+                .append(table, pass, ResCall::Frame, ResReply::Ended { frame });
+            return Err(LockRefusal::Ended { frame });
+        }
+        let answer = self.context.frame(rt);
+        let reply = reply_to(frame, &answer);
+        self.log.append(table, pass, ResCall::Frame, reply);
+        match answer {
+            Ok(report) => Ok(report),
+            Err(refusal) => Err(LockRefusal::Refused(refusal)),
+        }
+    }
+
+    /// Begins an encoder.
+    pub fn begin(
+        &mut self,
+        table: &LogTable,
+        pass: &mut ResPass,
+        room: Room,
+    ) -> Result<Encoder<'t, C>, LockRefusal>
+        requires tables { (log_table table.now ≡ H.table) × (pass_table pass.old ≡ H.table) }
+        requires few { made_by pass.old < 4294967295 }
+        ensures pass { IsSamePass pass.old pass.new }
+        ensures answer { IsBegun H.start (room_seen room) result pass.old pass.new }
+    {
+        if self.log.reserve().is_err() {
+            return Err(LockRefusal::Refused(Refusal::OutOfMemory));
+        }
+        let call = ResCall::Begin { room };
+        if self.context.is_ended() {
+            let frame = self.context.frame_number();
+            self.log
+                .append(table, pass, call, ResReply::Ended { frame });
+            return Err(LockRefusal::Ended { frame });
+        }
+        match self.context.begin(room) {
+            Ok(encoder) => {
+                let number = encoder.number();
+                self.log
+                    .append(table, pass, call, ResReply::Begun { number });
+                Ok(encoder)
+            }
+            Err(refusal) => Err(self.log.refuse(table, pass, call, refusal)),
+        }
+    }
+}
+
+// How the end of a frame is told.
+fn reply_to(number: u32, answer: &Result<FrameReport, Refusal>) -> ResReply
+    ensures { reply_seen result ≡ frame_reply number answer.now }
+{
+    match answer {
+        Ok(report) => told(report.given, report.number, &report.back),
+        Err(Refusal::OutOfMemory) => ResReply::Ending {
+            frame: number,
+            outcome: Outcome::OutOfMemory,
+        },
+        Err(refusal) => ResReply::Refused { refusal: *refusal },
+    }
+}
+
+fn told(given: bool, number: u32, back: &Option<BackNote>) -> ResReply
+    ensures { reply_seen result ≡ reply_of given number back.now }
+{
+    match back {
+        Some(note) if !given => ResReply::Ending {
+            frame: number,
+            outcome: note.outcome,
+        },
+        _ => ResReply::Frame { number },
     }
 }

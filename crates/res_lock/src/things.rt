@@ -2,7 +2,7 @@
 ghost use Rattle.std.specs.Prelude.{◌≡◌, IfOk};
 ghost use Rattle.gfx_words.specs.Seen.{own_source_seen};
 ghost use Rattle.res_lock.specs.Seen.{call_seen};
-ghost use Rattle.res_lock.specs.Called.{CreatesBy, ChangesBy, IsCreate, IsThingChange, IsViewChange};
+ghost use Rattle.res_lock.specs.Called.{CreatesBy, ChangesBy, IsCreate, IsChange};
 
 use crate::entry::ResCall;
 use draw_encoder::Naming;
@@ -44,12 +44,12 @@ pub(crate) fn create<'t, C: Naming, L: FrameLink + Drop>(
     }
 }
 
-/// Changes the thing of a call, or lets it die.
-pub(crate) fn change_thing<'t, C: Naming, L: FrameLink + Drop>(
+/// Changes the thing or the view of a call, or lets the thing die.
+pub(crate) fn change<'t, C: Naming, L: FrameLink + Drop>(
     context: &mut Context<'t, C, L>,
     call: &ResCall,
 ) -> Result<(), Refusal>
-    requires { IsThingChange (call_seen call.now) }
+    requires { IsChange (call_seen call.now) }
     ensures { ChangesBy (call_seen call.now) result context.old context.new }
 {
     match call {
@@ -64,19 +64,6 @@ pub(crate) fn change_thing<'t, C: Naming, L: FrameLink + Drop>(
             bytes,
         } => context.update_texture(*texture, *rect, bytes.as_slice()),
         ResCall::Destroy { thing } => context.destroy(*thing),
-        _ => unreachable!(),
-    }
-}
-
-/// Sets the view of a call.
-pub(crate) fn change_view<'t, C: Naming, L: FrameLink + Drop>(
-    context: &mut Context<'t, C, L>,
-    call: &ResCall,
-) -> Result<(), Refusal>
-    requires { IsViewChange (call_seen call.now) }
-    ensures { ChangesBy (call_seen call.now) result context.old context.new }
-{
-    match call {
         ResCall::ViewRect { view, rect } => context.set_view_rect(*view, *rect),
         ResCall::ViewScissor { view, rect } => context.set_view_scissor(*view, *rect),
         ResCall::ViewClear {
