@@ -24,12 +24,13 @@ use Rattle.res_lock.proofs.HistoryLaws.{after_snoc, legal_snoc}
 -- ---- an entry more
 
 -- the state is kept, and the pass has learnt of its call
-pub record Both {L : Type 0} (start : CallState) (context : ContextView L) (call : LockCall) (reply : Reply) (log : Log) (p q : ResPass) : Type 0 where
+pub record Both {L : Type 0} (start : CallState) (context : ContextView L) (call : LockCall) (reply : Reply) (log : Log) (p q : ResPass) (h : List LockEntry) : Type 0 where
   pub kept : IsKept start (record { context = context; history = log_entries log })
   pub calls : Calls start call reply p q
+  pub before_is : calls.before ≡ h
 
 module _ {L : Type 0} (start : CallState) (c : ContextView L) (h : List LockEntry) (k : IsKept start (record { context = c; history = h })) (old new : Log) (p q : ResPass) (same : log_entries old ≡ h) where
-  pub entry_kept : (d : ContextView L) (call : LockCall) (reply : Reply) → Adds call reply old new p q → IsReply (state_after start h) call reply → state_of d ≡ bared (after_reply (state_after start h) call reply) (state_of d) → Both start d call reply new p q
+  pub entry_kept : (d : ContextView L) (call : LockCall) (reply : Reply) → Adds call reply old new p q → IsReply (state_after start h) call reply → state_of d ≡ bared (after_reply (state_after start h) call reply) (state_of d) → Both start d call reply new p q h
   entry_kept d call reply a is state =
       let e : LockEntry = record { caller = caller_of p; ordinal = made_by p; call = call; reply = reply } in
       let own : part_of (caller_of p) (log_entries old) ≡ part_of (caller_of p) (pass_view p).seen = a.on.1 (caller_of p) p.is_caller in
@@ -48,6 +49,7 @@ module _ {L : Type 0} (start : CallState) (c : ContextView L) (h : List LockEntr
           made = a.made;
           legal = subst (IsLegal start) (sym (ap (λ u. u.seen) a.view ∙ entries)) legal;
         };
+        before_is = same;
       }
 
   -- ---- what the context's state says of the history's
@@ -58,7 +60,7 @@ module _ {L : Type 0} (start : CallState) (c : ContextView L) (h : List LockEntr
   ended_is : c.is_ended ≡ (state_after start h).is_ended
   ended_is = ap (λ (x : CallState). x.is_ended) k.same
 
-  running : c.is_ended ≡ false → (call : LockCall) (reply : Reply) → IsRunningReply (state_after start h) call reply → IsReply (state_after start h) call reply
+  pub running : c.is_ended ≡ false → (call : LockCall) (reply : Reply) → IsRunningReply (state_after start h) call reply → IsReply (state_after start h) call reply
   running runs call reply is = subst (λ (b : Bool). IsReplyWhere b (state_after start h) call reply) (sym runs ∙ ended_is) is
 
   refusal_is : (call : ResourceCall) → refusal_of c.book.resources call ≡ refusal_of (state_after start h).resources call
@@ -66,7 +68,7 @@ module _ {L : Type 0} (start : CallState) (c : ContextView L) (h : List LockEntr
 
   -- ---- a context that is ended
 
-  pub ended_kept : c.is_ended ≡ true → (call : LockCall) (frame : ℕ) → frame ≡ c.book.resources.frame → Adds call (ended frame) old new p q → Both start c call (ended frame) new p q
+  pub ended_kept : c.is_ended ≡ true → (call : LockCall) (frame : ℕ) → frame ≡ c.book.resources.frame → Adds call (ended frame) old new p q → Both start c call (ended frame) new p q h
   ended_kept over call frame is a = entry_kept c call (ended frame) a (subst (λ (b : Bool). IsReplyWhere b (state_after start h) call (ended frame)) (sym over ∙ ended_is) (ap ended (is ∙ frame_is))) k.same
 
   -- ---- calls on things and views
@@ -91,12 +93,12 @@ module _ {L : Type 0} (start : CallState) (c : ContextView L) (h : List LockEntr
   accepted_is : (call : ResourceCall) (handle : Option Handle) (d : ContextView L) → c.is_ended ≡ false → (reply : Reply) → told_of handle ≡ reply → Does call handle c d → IsReply (state_after start h) (on_things call) reply
   accepted_is call handle d runs reply tells m = running runs (on_things call) reply (told _ _ _ (sym (refusal_is call) ∙ m.accepted) (sym (ap told_of (made_is call handle d m) ∙ tells)))
 
-  pub made_kept : c.is_ended ≡ false → (call : LockCall) (handle : Handle) (d : ContextView L) → CreatesBy call (Ok handle) c d → Adds call (made handle) old new p q → Both start d call (made handle) new p q
+  pub made_kept : c.is_ended ≡ false → (call : LockCall) (handle : Handle) (d : ContextView L) → CreatesBy call (Ok handle) c d → Adds call (made handle) old new p q → Both start d call (made handle) new p q h
   made_kept runs (on_things call) handle d m a = entry_kept d (on_things call) (made handle) a (accepted_is call (Some handle) d runs (made handle) refl m) (done_state d call (Some handle) m)
   made_kept runs ends_frame handle d m a = absurd m
   made_kept runs (begins room) handle d m a = absurd m
 
-  pub done_kept : c.is_ended ≡ false → (call : LockCall) (u : Unit {0}) (d : ContextView L) → ChangesBy call (Ok u) c d → Adds call done old new p q → Both start d call done new p q
+  pub done_kept : c.is_ended ≡ false → (call : LockCall) (u : Unit {0}) (d : ContextView L) → ChangesBy call (Ok u) c d → Adds call done old new p q → Both start d call done new p q h
   done_kept runs (on_things call) u d m a = entry_kept d (on_things call) done a (accepted_is call None d runs done refl m) (done_state d call None m)
   done_kept runs ends_frame u d m a = absurd m
   done_kept runs (begins room) u d m a = absurd m
@@ -112,7 +114,7 @@ module _ {L : Type 0} (start : CallState) (c : ContextView L) (h : List LockEntr
     pub kept : IsKept start (record { context = d; history = log_entries new })
     pub answer : MatchOption o (Stays p q) (λ x. Calls start call (refused r) p q)
 
-  refused_by : (d : ContextView L) → d ≡ c → (call : LockCall) (r : Refusal) (o : Option model.Refusal) → ((x : model.Refusal) → o ≡ Some x → IsReply (state_after start h) call (refused r)) → Refuses call r o → Refused d call r o
+  pub refused_by : (d : ContextView L) → d ≡ c → (call : LockCall) (r : Refusal) (o : Option model.Refusal) → ((x : model.Refusal) → o ≡ Some x → IsReply (state_after start h) call (refused r)) → Refuses call r o → Refused d call r o
   refused_by d is call r None legal a = record {
     kept = stays;
     answer = record { view = ap pass_view a.1; made = ap made_by a.1 };

@@ -4,3 +4,4 @@ pub mod Keeps
 pub mod Steps
 pub mod HistoryLaws
 pub mod KeptLaws
+pub mod FrameLaws
