@@ -35,9 +35,9 @@ legal_snoc s es e h is ordinal = record { replies = replies_snoc s es e h.replie
     ordered : (c : ℕ) → AreInOrder (part_of c (es ++ e ∷ []))
     ordered c = dite (ℕ_discrete e.caller c)
         (λ (own : e.caller ≡ c).
-            let parts : part_of c (es ++ e ∷ []) ≡ part_of c es ++ e ∷ [] = part-append c es (e ∷ []) ∙ ap (λ l. part_of c es ++ l) (part_own c e own) in
-            let next : e.ordinal ≡ length (part_of c es) = ordinal ∙ ap (λ (x : ℕ). length (part_of x es)) own in
-            subst AreInOrder (sym parts) (in_order_snoc (part_of c es) e (h.ordered c) next))
+        let parts : part_of c (es ++ e ∷ []) ≡ part_of c es ++ e ∷ [] = part-append c es (e ∷ []) ∙ ap (λ l. part_of c es ++ l) (part_own c e own) in
+        let next : e.ordinal ≡ length (part_of c es) = ordinal ∙ ap (λ (x : ℕ). length (part_of x es)) own in
+        subst AreInOrder (sym parts) (in_order_snoc (part_of c es) e (h.ordered c) next))
         (λ (ne : e.caller ≢ c).
-            let parts : part_of c (es ++ e ∷ []) ≡ part_of c es = part-append c es (e ∷ []) ∙ (ap (λ l. part_of c es ++ l) (part_other c e ne) ∙ append-nil (part_of c es)) in
-            subst AreInOrder (sym parts) (h.ordered c))
+        let parts : part_of c (es ++ e ∷ []) ≡ part_of c es = part-append c es (e ∷ []) ∙ (ap (λ l. part_of c es ++ l) (part_other c e ne) ∙ append-nil (part_of c es)) in
+        subst AreInOrder (sym parts) (h.ordered c))

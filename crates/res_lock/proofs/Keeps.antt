@@ -15,9 +15,6 @@ use Rattle.res_lock.proofs.Totals.{total_set, total_snoc, total_at, total_two, b
 
 -- ---- one view
 
-
-
-
 abbrev EachIs : List LockEntry → ℕ → List PassView → Type 0
 EachIs log next views = (i : ℕ) (v : PassView) → get_elem? views i ≡ some v → IsPass log next i v
 
@@ -73,11 +70,11 @@ module _ (log : List LockEntry) (next : ℕ) (views : List PassView) (k : Kept l
       record {
         each = each_snoc log (next + 1) (set views id (split_from v)) (split_off v) (each_set log (next + 1) views id (split_from v) others left) right;
         once = λ c.
-        let s = total_set (has_caller c) views id v (split_from v) at in
-        let t = total_snoc (has_caller c) (set views id (split_from v)) (split_off v) in
-        let o = k.once c in
-        let n : once_below next c + count_of c (v.next ∷ []) ≡ once_below (next + 1) c = ap (λ (x : ℕ). once_below next c + count_of c (x ∷ [])) here.1 ∙ next_below next c in
-        omega arith;
+            let s = total_set (has_caller c) views id v (split_from v) at in
+            let t = total_snoc (has_caller c) (set views id (split_from v)) (split_off v) in
+            let o = k.once c in
+            let n : once_below next c + count_of c (v.next ∷ []) ≡ once_below (next + 1) c = ap (λ (x : ℕ). once_below next c + count_of c (x ∷ [])) here.1 ∙ next_below next c in
+            omega arith;
         counted = let s = total_set caller_count views id v (split_from v) at in let t = total_snoc caller_count (set views id (split_from v)) (split_off v) in let c = k.counted in omega arith;
         pens = let s = total_set has_pen views id v (split_from v) at in let t = total_snoc has_pen (set views id (split_from v)) (split_off v) in let c = k.pens in omega arith;
         beyond = λ c le. k.beyond c (omega arith);
@@ -157,8 +154,8 @@ module _ (log : List LockEntry) (next : ℕ) (views : List PassView) (k : Kept l
           counted = let s = total_set caller_count views id v w at in let c = k.counted in omega arith;
           pens = let s = total_set has_pen views id v w at in let c = k.pens in omega arith;
           beyond = λ c le.
-          let above : e.caller ≢ c = λ (z : e.caller ≡ c). let o = k.once e.caller in let n = not_below next e.caller (omega (arith, z)) in let a = total_at (has_caller e.caller) views id v at in absurd (omega arith) in
-          part-append c log (e ∷ []) ∙ (ap (λ l. part_of c log ++ l) (part_other c e above) ∙ ap (λ l. l ++ []) (k.beyond c le));
+              let above : e.caller ≢ c = λ (z : e.caller ≡ c). let o = k.once e.caller in let n = not_below next e.caller (omega (arith, z)) in let a = total_at (has_caller e.caller) views id v at in absurd (omega arith) in
+              part-append c log (e ∷ []) ∙ (ap (λ l. part_of c log ++ l) (part_other c e above) ∙ ap (λ l. l ++ []) (k.beyond c le));
         },
         is.sees,
       )

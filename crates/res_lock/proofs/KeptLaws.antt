@@ -1,5 +1,5 @@
 -- The state behind the lock is kept by each kind of entry.
-use Rattle.std.proofs.Common.{◌≡◌, ◌⊎◌, inl, inr, ℕ, ◌+◌, ◌==◌, ◌||◌, Bool, true, false, if◌then◌else◌, List, [], ◌∷◌, ◌++◌, length, sym, refl, ap, ◌∙◌, subst, arith, Option, Some, None, MatchOption, Result, Ok, Err}
+use Rattle.std.proofs.Common.{◌≡◌, ◌⊎◌, inl, inr, ℕ, ◌+◌, ◌==◌, ◌||◌, Bool, true, false, if◌then◌else◌, List, [], ◌∷◌, ◌++◌, length, map, sym, refl, ap, ◌∙◌, subst, arith, Option, Some, None, MatchOption, Result, Ok, Err}
 use Rattle.std.specs.Bool.{⊤}
 use Rattle.std.proofs.lemmas.Option.{none-some}
 use Rattle.gfx_model.specs.Words.{Handle}
@@ -10,13 +10,13 @@ use Rattle.gfx_model.specs.FrameCalls as frames
 use Rattle.gfx_model.specs.FrameCalls.{CallState, Begun, begin_encoder, end_frame, frame_refusal, frame_effect, backs_at_end, is_given}
 use Rattle.gfx_words.specs.declared.refusals.Refusal.{Refusal}
 use Rattle.gfx_words.specs.Seen.{refusal_seen}
-use Rattle.resource_laws.specs.Bare.{bare_of}
+use Rattle.resource_laws.specs.Bare.{bare, bare_of}
 use Rattle.resource_laws.proofs.RunLaws.{bare_law, bare_started}
 use Rattle.gfx_context.specs.States.{ContextView, state_of}
 use Rattle.res_lock.specs.Histories.{LockCall, on_things, ends_frame, begins, Reply, made, done, given, begun, refused, ending, ended, LockEntry, told_of, IsToldOrRefused, IsRunningReply, IsReplyWhere, IsReply, after_reply, after_entry, state_after, part_of, IsLegal}
 use Rattle.res_lock.specs.Seats.{pass_view, caller_of, made_by}
 use Rattle.res_lock.specs.Called.{Does, CreatesBy, ChangesBy, Calls, Stays}
-use Rattle.res_lock.specs.Locked.{log_entries, LockView, bared, IsKept, Adds}
+use Rattle.res_lock.specs.Locked.{log_entries, LockView, IsOpening, bared, IsKept, Adds}
 use Rattle.res_lock.specs.declared.log.Log.{Log}
 use Rattle.res_lock.specs.declared.table.ResPass.{ResPass}
 use Rattle.res_lock.proofs.HistoryLaws.{after_snoc, legal_snoc}
@@ -139,3 +139,15 @@ module _ {L : Type 0} (start : CallState) (c : ContextView L) (h : List LockEntr
   change_refused runs (on_things call) r d m a = refused_thing runs d m.1 call r (refusal_seen r) refl m.0 a
   change_refused runs ends_frame r d m a = absurd m
   change_refused runs (begins room) r d m a = absurd m
+
+-- ---- before the first entry
+
+-- a context of which nothing was called
+pub opening_kept : {L : Type 0} (start : CallState) (c : ContextView L) (h : List LockEntry) → state_of c ≡ start → IsOpening start → h ≡ [] → IsKept start (record { context = c; history = h })
+opening_kept start c h is opens none = subst (λ (l : List LockEntry). IsKept start (record { context = c; history = l })) (sym none) (record {
+  legal = record { replies = tt; ordered = λ caller. refl };
+  same = is ∙ (ap (λ r. record start { resources = r }) bared_is ∙ ap (λ (n : ℕ). record start { resources = bare_of start.resources; out = n }) (sym (ap (λ (x : CallState). x.out) is)));
+})
+  where
+    bared_is : start.resources ≡ bare_of start.resources
+    bared_is = ap (λ ts. record start.resources { things = ts }) opens.nothing ∙ sym (ap (λ ts. record start.resources { things = map bare ts }) opens.nothing)

@@ -1,5 +1,5 @@
 -- What lies behind the lock.
-use Rattle.std.specs.Prelude.{◌≡◌, ◌<◌, ◌+◌, List, [], ◌∷◌, ◌++◌, vec_len, vec_capacity}
+use Rattle.std.specs.Prelude.{◌≡◌, false, ◌<◌, ◌+◌, List, [], ◌∷◌, ◌++◌, vec_len, vec_capacity}
 use Rattle.atomic_table.specs.Seated.{TableId}
 use Rattle.gfx_model.specs.FrameCalls.{CallState}
 use Rattle.resource_laws.specs.Bare.{bare_of}
@@ -37,6 +37,12 @@ pub record Adds (call : LockCall) (reply : Reply) (old new : Log) (p q : ResPass
 pub record LockView (L : Type 0) : Type 0 where
   pub context : ContextView L
   pub history : List LockEntry
+
+-- nothing is made, no encoder is begun, and the context is not ended
+pub record IsOpening (s : CallState) : Type 0 where
+  pub nothing : s.resources.things ≡ []
+  pub none_begun : s.encoders ≡ 0
+  pub runs : s.is_ended ≡ false
 
 -- a state of the calls without contents. How many frames are out is the context's to say, since a frame that is not given may have taken one back or not
 abbrev pub bared : CallState → CallState → CallState

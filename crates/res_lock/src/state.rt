@@ -5,6 +5,7 @@ ghost use Rattle.draw_encoder.specs.Seen.{room_seen};
 ghost use Rattle.gfx_context.specs.States.{state_of};
 ghost use Rattle.res_lock.specs.Seen.{call_seen, reply_seen};
 ghost use Rattle.res_lock.specs.Seats.{log_table, pass_table, pen_table, pen_log, made_by};
+ghost use Rattle.res_lock.specs.Locked.{IsOpening, IsKept, table_of_log, log_entries};
 ghost use Rattle.res_lock.specs.Called.{IsCreate, IsChange, IsSamePass, IsCreated, IsChanged, IsFramed, IsBegun, reply_of, frame_reply};
 
 use crate::entry::{LockRefusal, ResCall, ResReply};
@@ -42,6 +43,39 @@ impl<'t, C: Naming, L: FrameLink + Drop, H: HistoryNaming> Model for LockState<'
 }
 
 impl<'t, C: Naming, L: FrameLink + Drop, H: HistoryNaming> LockState<'t, C, L, H> {
+    /// A context of which nothing was called yet. `Err` only for want of memory; the context and the pen come back.
+    pub fn new(
+        alloc: Global,
+        context: Context<'t, C, L>,
+        pen: Pen,
+    ) -> Result<LockState<'t, C, L, H>, (Context<'t, C, L>, Pen)>
+        requires pen { (pen_table pen ≡ H.table) × (pen_log pen ≡ []) }
+        requires start { (state_of context ≡ H.start) × IsOpening H.start }
+        ensures { IfErr result (λ e. (e.0 ≡ context.entry) × (e.1 ≡ pen)) }
+    {
+        match Log::new(alloc, pen) {
+            Ok(log) => Ok(LockState {
+                context,
+                log,
+                of: PhantomData,
+            }),
+            Err(pen) => Err((context, pen)),
+        }
+    }
+
+    /// The context, and the history with the right to append.
+    pub fn into_parts(self) -> (Context<'t, C, L>, Log)
+        ensures table { table_of_log result.1 ≡ H.table }
+        ensures kept { IsKept H.start (record { context = result.0; history = log_entries result.1 }) }
+    {
+        let LockState {
+            context,
+            log,
+            of: _,
+        } = self;
+        (context, log)
+    }
+
     /// Makes a thing.
     pub fn create(
         &mut self,

@@ -153,7 +153,9 @@ impl LogTable {
     {
         let Pen { seat } = pen;
         self.table.shared.join_seat::<TakePen>(&mut pass.seat, seat);
-        self.table.shared.fetch_add::<Append<W>>(&mut pass.seat, 0, 1);
+        self.table
+            .shared
+            .fetch_add::<Append<W>>(&mut pass.seat, 0, 1);
         let seat = self.table.shared.split_seat::<GivePen>(&mut pass.seat);
         pass.made += 1;
         Pen { seat }

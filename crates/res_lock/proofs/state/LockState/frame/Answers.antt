@@ -25,6 +25,6 @@ returns-clause-answer g c =
     let runs = sym c.is_ended.ensures ∙ c.if-is_ended.false in
     let told = (framed_kept g.H.HistoryNaming.start _ _ c.self.invariant.1 _ _ _ _ c.reserve.ensures.same.0 runs c.frame-answer.result _ c.frame_number-frame.result _ c.frame_number-frame.ensures.same c.reply_to-reply.ensures c.frame-answer.ensures.answer c.append-2.ensures).calls in
     elim c.match-answer.branch [
-    | in-Ok w ↦ ok_framed g.H.HistoryNaming.start c.args.pass.now c.append-2.new.pass c.frame_number-frame.result c.frame-answer.result c.match-answer.result _ w.in-Ok.is w.result-is told
-    | in-Err w ↦ err_framed g.H.HistoryNaming.start c.args.pass.now c.append-2.new.pass c.frame_number-frame.result c.frame-answer.result c.match-answer.result _ w.in-Err.is w.result-is told
+      | in-Ok w ↦ ok_framed g.H.HistoryNaming.start c.args.pass.now c.append-2.new.pass c.frame_number-frame.result c.frame-answer.result c.match-answer.result _ w.in-Ok.is w.result-is told
+      | in-Err w ↦ err_framed g.H.HistoryNaming.start c.args.pass.now c.append-2.new.pass c.frame_number-frame.result c.frame-answer.result c.match-answer.result _ w.in-Err.is w.result-is told
     ]
