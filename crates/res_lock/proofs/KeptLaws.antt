@@ -15,10 +15,11 @@ use Rattle.resource_laws.proofs.RunLaws.{bare_law, bare_started}
 use Rattle.gfx_context.specs.States.{ContextView, state_of}
 use Rattle.res_lock.specs.Histories.{LockCall, on_things, ends_frame, begins, Reply, made, done, given, begun, refused, ending, ended, LockEntry, told_of, IsToldOrRefused, IsRunningReply, IsReplyWhere, IsReply, after_reply, after_entry, state_after, part_of, IsLegal}
 use Rattle.res_lock.specs.Seats.{pass_view, caller_of, made_by}
-use Rattle.res_lock.specs.Called.{Does, CreatesBy, ChangesBy, Calls, Stays}
+use Rattle.res_lock.specs.Called.{entry_of, Does, CreatesBy, ChangesBy, Calls, Stays}
 use Rattle.res_lock.specs.Locked.{log_entries, LockView, IsOpening, bared, IsKept, Adds}
 use Rattle.res_lock.specs.declared.log.Log.{Log}
 use Rattle.res_lock.specs.declared.table.ResPass.{ResPass}
+use Rattle.res_lock.proofs.PartLaws.{part-append, part_own}
 use Rattle.res_lock.proofs.HistoryLaws.{after_snoc, legal_snoc}
 
 -- ---- an entry more
@@ -32,7 +33,7 @@ pub record Both {L : Type 0} (start : CallState) (context : ContextView L) (call
 module _ {L : Type 0} (start : CallState) (c : ContextView L) (h : List LockEntry) (k : IsKept start (record { context = c; history = h })) (old new : Log) (p q : ResPass) (same : log_entries old ≡ h) where
   pub entry_kept : (d : ContextView L) (call : LockCall) (reply : Reply) → Adds call reply old new p q → IsReply (state_after start h) call reply → state_of d ≡ bared (after_reply (state_after start h) call reply) (state_of d) → Both start d call reply new p q h
   entry_kept d call reply a is state =
-      let e : LockEntry = record { caller = caller_of p; ordinal = made_by p; call = call; reply = reply } in
+      let e : LockEntry = entry_of call reply p in
       let own : part_of (caller_of p) (log_entries old) ≡ part_of (caller_of p) (pass_view p).seen = a.on.1 (caller_of p) p.is_caller in
       let ordinal : e.ordinal ≡ length (part_of e.caller h) = p.made_is ∙ ap length (sym own ∙ ap (part_of (caller_of p)) same) in
       let legal : IsLegal start (h ++ e ∷ []) = legal_snoc start h e k.legal is ordinal in
@@ -48,6 +49,7 @@ module _ {L : Type 0} (start : CallState) (c : ContextView L) (h : List LockEntr
           view = a.view ∙ ap (λ l. record (pass_view p) { seen = l }) a.entries;
           made = a.made;
           legal = subst (IsLegal start) (sym (ap (λ u. u.seen) a.view ∙ entries)) legal;
+          part = ap (λ u. part_of (caller_of p) u.seen) a.view ∙ (ap (part_of (caller_of p)) a.entries ∙ (part-append (caller_of p) (log_entries old) (e ∷ []) ∙ (λ j. own j ++ part_own (caller_of p) e refl j)));
         };
         before_is = same;
       }

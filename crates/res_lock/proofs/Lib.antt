@@ -5,3 +5,4 @@ pub mod Steps
 pub mod HistoryLaws
 pub mod KeptLaws
 pub mod FrameLaws
+pub mod EndedLaws

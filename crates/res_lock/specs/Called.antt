@@ -14,7 +14,7 @@ use Rattle.resource_laws.specs.Bare.{bare_of}
 use Rattle.gfx_context.specs.States.{ContextView, state_of}
 use Rattle.gfx_context.specs.declared.report.BackNote.{BackNote}
 use Rattle.gfx_context.specs.declared.report.FrameReport.{FrameReport}
-use Rattle.res_lock.specs.Histories.{LockCall, on_things, ends_frame, begins, Reply, made, done, given, begun, refused, ending, ended, LockEntry, state_after, IsLegal}
+use Rattle.res_lock.specs.Histories.{LockCall, on_things, ends_frame, begins, Reply, made, done, given, begun, refused, ending, ended, LockEntry, state_after, part_of, IsLegal}
 use Rattle.res_lock.specs.Views.{PassView, GoesOn}
 use Rattle.res_lock.specs.Seats.{pass_table, pass_view, caller_of, made_by}
 use Rattle.res_lock.specs.declared.table.ResPass.{ResPass}
@@ -77,13 +77,19 @@ IsChange _ = ⊥
 
 -- ---- what a pass learns
 
--- a call more: the history that the pass has seen is legal, goes on from what it had seen with no call of the pass, and ends with this call
+-- the entry of a call of a pass
+abbrev pub entry_of : LockCall → Reply → ResPass → LockEntry
+entry_of call reply p = record { caller = caller_of p; ordinal = made_by p; call = call; reply = reply }
+
+-- a call more: the history that the pass has seen is legal, goes on from what it had seen with no call of the pass, and ends with this call, so that the
+-- caller's part of it has just this call more
 pub record Calls (start : CallState) (call : LockCall) (reply : Reply) (old new : ResPass) : Type 0 where
   pub before : List LockEntry
   pub on : GoesOn (pass_view old).callers (pass_view old).seen before
-  pub view : pass_view new ≡ record (pass_view old) { seen = before ++ record { caller = caller_of old; ordinal = made_by old; call = call; reply = reply } ∷ [] }
+  pub view : pass_view new ≡ record (pass_view old) { seen = before ++ entry_of call reply old ∷ [] }
   pub made : made_by new ≡ made_by old + 1
   pub legal : IsLegal start (pass_view new).seen
+  pub part : part_of (caller_of old) (pass_view new).seen ≡ part_of (caller_of old) (pass_view old).seen ++ entry_of call reply old ∷ []
 
 -- no entry was made
 pub record Stays (old new : ResPass) : Type 0 where

@@ -5,3 +5,4 @@ pub mod Seen
 pub mod Seats
 pub mod Called
 pub mod Locked
+pub mod Laws

@@ -8,7 +8,7 @@ use Rattle.res_lock.specs.Histories.{LockCall, Reply, LockEntry, state_after, Is
 use Rattle.res_lock.specs.Seen.{entries_seen}
 use Rattle.res_lock.specs.Views.{GoesOn}
 use Rattle.res_lock.specs.Seats.{pen_table, pass_view, caller_of, made_by}
-use Rattle.res_lock.specs.Called.{IsSamePass}
+use Rattle.res_lock.specs.Called.{entry_of, IsSamePass}
 use Rattle.res_lock.specs.declared.table.ResPass.{ResPass}
 use Rattle.res_lock.specs.declared.log.Log.{Log}
 
@@ -26,7 +26,7 @@ HasRoom l = vec_len l.history < vec_capacity l.history
 
 -- an entry of a pass is appended: the history has gone on from what the pass had seen, with no call of the pass, and the pass has seen it
 pub record Adds (call : LockCall) (reply : Reply) (old new : Log) (p q : ResPass) : Type 0 where
-  pub entries : log_entries new ≡ log_entries old ++ record { caller = caller_of p; ordinal = made_by p; call = call; reply = reply } ∷ []
+  pub entries : log_entries new ≡ log_entries old ++ entry_of call reply p ∷ []
   pub table : table_of_log new ≡ table_of_log old
   pub on : GoesOn (pass_view p).callers (pass_view p).seen (log_entries old)
   pub view : pass_view q ≡ record (pass_view p) { seen = log_entries new }

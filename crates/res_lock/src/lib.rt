@@ -15,7 +15,15 @@ mod table;
 mod things;
 mod view;
 
+ghost use Rattle.res_lock.specs.Laws.{EndedLaw};
+
 pub use entry::{Entry, LockRefusal, ResCall, ResReply};
 pub use lock::ResLock;
 pub use naming::HistoryNaming;
 pub use table::{HistoryTable, ResPass};
+
+/// A call is answered by the end of the context exactly where an earlier entry of the history tells that the frame of that number was
+/// not given.
+pub fn ended_law()
+    ensures { EndedLaw }
+{}
