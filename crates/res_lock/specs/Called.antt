@@ -96,10 +96,12 @@ pub record Stays (old new : ResPass) : Type 0 where
   pub view : pass_view new ≡ pass_view old
   pub made : made_by new ≡ made_by old
 
--- the pass is of the same caller and table
+-- the pass is of the same caller and table, and no pass was split from it or joined into it
 pub record IsSamePass (old new : ResPass) : Type 0 where
   pub caller : caller_of new ≡ caller_of old
   pub table : pass_table new ≡ pass_table old
+  pub callers : (pass_view new).callers ≡ (pass_view old).callers
+  pub next : (pass_view new).next ≡ (pass_view old).next
 
 -- a refused call has an entry, except where there was no memory
 abbrev pub IsRefusedBy : CallState → LockCall → LockRefusal → (old new : ResPass) → Type 0

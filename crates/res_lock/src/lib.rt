@@ -12,6 +12,8 @@ mod log;
 mod naming;
 mod state;
 mod table;
+#[cfg(test)]
+mod tests;
 mod things;
 mod view;
 

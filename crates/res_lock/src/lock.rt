@@ -68,7 +68,8 @@ impl<'t, C: Naming, L: FrameLink + Drop, H: HistoryNaming> ResLock<'t, C, L, H> 
         requires table { pass_table pass.old ≡ H.table }
         requires first { IsFirst pass.old }
         requires room { (pass_view pass.old).next ≤ 4294967295 }
-        ensures first { (pass_view pass.new ≡ split_from (pass_view pass.old)) × (made_by pass.new ≡ made_by pass.old) × IsSamePass pass.old pass.new }
+        ensures first { (pass_view pass.new ≡ split_from (pass_view pass.old)) × (pass_table pass.new ≡ H.table) }
+        ensures same { (caller_of pass.new ≡ caller_of pass.old) × (made_by pass.new ≡ made_by pass.old) }
         ensures other { (pass_view result ≡ split_off (pass_view pass.old)) × (pass_table result ≡ H.table) }
         ensures caller { (caller_of result ≡ (pass_view pass.old).next) × (made_by result ≡ 0) }
     {
@@ -80,7 +81,8 @@ impl<'t, C: Naming, L: FrameLink + Drop, H: HistoryNaming> ResLock<'t, C, L, H> 
     pub fn join(&self, pass: &mut ResPass, other: ResPass)
         requires table { (pass_table pass.old ≡ H.table) × (pass_table other ≡ H.table) }
         requires first { IsFirst pass.old }
-        ensures first { (pass_view pass.new ≡ joined_with (pass_view pass.old) (pass_view other)) × (made_by pass.new ≡ made_by pass.old) × IsSamePass pass.old pass.new }
+        ensures first { (pass_view pass.new ≡ joined_with (pass_view pass.old) (pass_view other)) × (pass_table pass.new ≡ H.table) }
+        ensures same { (caller_of pass.new ≡ caller_of pass.old) × (made_by pass.new ≡ made_by pass.old) }
         ensures own { GoesOn (pass_view pass.old).callers (pass_view pass.old).seen (pass_view pass.new).seen }
         ensures others { GoesOn (pass_view other).callers (pass_view other).seen (pass_view pass.new).seen }
     {
