@@ -71,9 +71,9 @@ ended_all s (x ∷ xs) e over h =
     let rest = ended_all s xs e over (subst (λ (t : CallState). HasReplies t (xs ++ e ∷ [])) same h.1) in (
       rest.0,
       λ number has. ⊎_elim
-      (λ g. let both : ended s.resources.frame ≡ ending number g.0 = sym is ∙ g.1 in cc both)
-      (rest.1 number)
-      has,
+          (λ g. let both : ended s.resources.frame ≡ ending number g.0 = sym is ∙ g.1 in cc both)
+          (rest.1 number)
+          has,
     )
 
 -- ---- the law
@@ -112,7 +112,7 @@ ended_law s (x ∷ xs) e number runs h = by (λ still. ended_law (after_entry s 
         let told : e.reply ≡ ended k = r.0 ∙ ap ended (frame ∙ sym named) in (
           λ e_is. let both : ended k ≡ ended number = sym told ∙ e_is in let same : k ≡ number = cc both in inl (outcome, is ∙ ap (λ (n : ℕ). ending n outcome) same),
           λ has. ⊎_elim
-          (λ g. let both : ending k outcome ≡ ending number g.0 = sym is ∙ g.1 in let same : k ≡ number = cc both in told ∙ ap ended same)
-          (λ g. absurd (r.1 number g))
-          has,
+              (λ g. let both : ending k outcome ≡ ending number g.0 = sym is ∙ g.1 in let same : k ≡ number = cc both in told ∙ ap ended same)
+              (λ g. absurd (r.1 number g))
+              has,
         )
