@@ -389,11 +389,11 @@ fn by_two<C: Naming + Send + Sync, H: HistoryNaming + Send + Sync, R: Threads + 
         rt,
         || -> ResPass
             requires { pass_table pass ≡ H.table }
-            ensures { IsSamePass pass.entry result }
+            ensures { IsSamePass pass result }
         { leads(rt, &lock, &gate, pass) },
         || -> ResPass
             requires { pass_table second ≡ H.table }
-            ensures { IsSamePass second.entry result }
+            ensures { IsSamePass second result }
         { follows(rt, &lock, &gate, second) },
     );
     lock.join(&mut pass, second);
