@@ -1,10 +1,12 @@
 -- How a run ends where the source told its bytes.
-use Rattle.std.proofs.Common.{◌≡◌, ℕ, ◌+◌, ◌<◌, ◌≤◌, List, [], ◌++◌, length, Option, Some, None, option_map, Result, Ok, Err, Vec, Global, inl, inr, refl, ap, sym, ◌∙◌, arith}
+use Rattle.std.proofs.Common.{◌≡◌, ℕ, ◌+◌, ◌<◌, ◌≤◌, List, [], ◌++◌, length, map, Option, Some, None, option_map, Result, Ok, Err, Vec, Global, inl, inr, refl, ap, sym, ◌∙◌, arith}
 use Rattle.std.proofs.lemmas.List.{append-nil, length-append}
 use Rattle.std.proofs.lemmas.Option.{none-some, same_Some}
 use Rattle.io_edge.specs.Edge.{with_front, IsSpent}
 use Rattle.load_text.specs.Loads.{Block}
 use Rattle.load_text.specs.Text.{load_of}
+use Rattle.load_text.specs.Seen.{block_seen}
+use Rattle.load_text.specs.declared.load.Block as code
 use Rattle.gfx_load.specs.Io.{longest, IsRead, HasMoreThan}
 use Rattle.gfx_load.specs.Ended.{IsLoad, Ended, EndsAs}
 use Rattle.std.specs.Option.{IfSome}
@@ -34,12 +36,16 @@ abbrev line_in : ℕ → Result (List Block) ℕ → ℕ
 line_in d (Ok blocks) = d
 line_in d (Err line) = line
 
+-- blocks that were read
+abbrev pub ok_blocks : List code.Block → Result (List Block) ℕ
+ok_blocks blocks = Ok (map block_seen blocks)
+
 -- the notes of blocks that were read
 pub noted_ended : (st : LoadStatus) (bytes : List ℕ) (blocks : List Block) (before after old new : Option (List ℕ)) (rf pf : Type 0) → IsLoad bytes blocks before after → IsNoted st blocks old new pf → Ended st before after old new rf pf
-noted_ended status.Done bytes blocks before after old new rf pf r h = (bytes, blocks, h.0, r, h.1.0, h.1.1)
+noted_ended status.Done bytes blocks before after old new rf pf r (text, n, e) = (bytes, blocks, text, r, n, e)
 noted_ended (status.Text line) bytes blocks before after old new rf pf r h = absurd h
 noted_ended status.ReadFault bytes blocks before after old new rf pf r h = absurd h
-noted_ended status.NoteFault bytes blocks before after old new rf pf r h = (bytes, blocks, h.0, r, h.1.0, h.1.1.0, h.1.1.1)
+noted_ended status.NoteFault bytes blocks before after old new rf pf r (text, n, e, f) = (bytes, blocks, text, r, n, e, f)
 noted_ended status.TooLong bytes blocks before after old new rf pf r h = absurd h
 noted_ended status.OutOfMemory bytes blocks before after old new rf pf r h = h
 
@@ -72,6 +78,6 @@ pub complete : (st : LoadStatus) (before after old new : Option (List ℕ)) (rf 
 complete status.Done before after old new rf pf bytes s h told few is nf np = inl refl
 complete (status.Text l) before after old new rf pf bytes s (b, r, e, u) told few is nf np = absurd (cc (sym e ∙ ap load_of (read_told bytes b before after told r) ∙ is))
 complete status.ReadFault before after old new rf pf bytes s (f, u) told few is nf np = absurd (nf f)
-complete status.NoteFault before after old new rf pf bytes s (b, s, t, r, n, p, f) told few is nf np = absurd (np f)
+complete status.NoteFault before after old new rf pf bytes s (b, u, t, r, n, p, f) told few is nf np = absurd (np f)
 complete status.TooLong before after old new rf pf bytes s (h, u) told few is nf np = let many = many_told longest bytes before told h in absurd (omega (arith, many, few))
 complete status.OutOfMemory before after old new rf pf bytes s h told few is nf np = inr refl

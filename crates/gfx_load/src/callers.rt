@@ -6,12 +6,11 @@ ghost use Rattle.gfx_load.specs.Lines.{HasRun};
 ghost use Rattle.gfx_load.specs.Runs.{IsFirstOf, HasRunAs, HasJoined};
 ghost use Rattle.gfx_load.specs.Started.{IsStarted, Finishes};
 
-use crate::blocks::{Ran, lines_of, run_block};
-use draw_encoder::Naming;
-use frame_record::FrameLink;
+use crate::block_lock::BlockLock;
+use crate::blocks::{Ran, lines_of};
 use io_edge::Gate;
 use load_text::{Block, BlockLine};
-use res_lock::{HistoryNaming, ResLock, ResPass};
+use res_lock::ResPass;
 use std::alloc::Global;
 use std::snapshot::Snapshot;
 use std::sync::Wait;
@@ -49,42 +48,33 @@ impl<'a> Started<'a> {
     }
 }
 
-/// A lock that other threads call. (What a closure promises is lost where it holds a reference to a type with a lifetime.)
-#[derive(Drop)]
-struct Behind<'s, 't: 's, C: Naming, L: FrameLink + Drop, H: HistoryNaming> {
-    lock: &'s ResLock<'t, C, L, H>,
-}
-
 /// Starts a thread that runs lines by a pass that made nothing. Where none can be started, it runs them itself.
-fn start<'s, 't: 's, E, C, L, H, R, G>(
+fn start<'s, E, K, R, G>(
     scope: &Scope<'s, E>,
     rt: &'s R,
     gate: &'s G,
     alloc: Global,
-    lock: &'s ResLock<'t, C, L, H>,
+    lock: &'s K,
     pass: ResPass,
     caller: u8,
     lines: &'s [BlockLine],
 ) -> Started<'s>
 where
-    C: Naming + Send + Sync + 's,
-    L: FrameLink + Drop + Send + 's,
-    H: HistoryNaming + Send + Sync + 's,
+    K: BlockLock + Sync + 's,
     R: Threads + Wait + Sync,
     G: Gate + Sync,
-    requires table { pass_table pass ≡ H.table }
+    requires table { pass_table pass ≡ K.table }
     requires new { ((pass_view pass).seen ≡ []) × (made_by pass ≡ 0) }
     requires few { length lines.now ≤ 16777216 }
     ensures { IsStarted (map line_seen lines.now) pass result }
 {
     let promise = Runs(Snapshot::of(&pass), lines);
-    let behind = Behind { lock };
     let job = move || -> Ran
-        requires table { pass_table pass ≡ H.table }
+        requires table { pass_table pass ≡ K.table }
         requires new { ((pass_view pass).seen ≡ []) × (made_by pass ≡ 0) }
         requires few { length lines.now ≤ 16777216 }
         ensures { HasRun (map line_seen lines.entry.now) result.is_whole pass result.pass }
-    { run_block(rt, gate, alloc, behind.lock, pass, caller, lines) };
+    { lock.run(rt, gate, alloc, pass, caller, lines) };
     match scope.spawn_with(promise, job) {
         Ok(handle) => Started::Thread(handle),
         Err(refused) => Started::Here((refused.value)()),
@@ -98,19 +88,19 @@ fn both(first: bool, other: bool) -> bool
 }
 
 /// Joins the pass of a caller, whose block was run, into the first, into which the later callers were joined.
-fn joined<C: Naming, L: FrameLink + Drop, H: HistoryNaming>(
-    lock: &ResLock<'_, C, L, H>,
+fn joined<K: BlockLock>(
+    lock: &K,
     first: Ran,
     other: Ran,
     blocks: &[Block],
     caller: u8,
     count: u8,
 ) -> Ran
-    requires tables { (pass_table first.pass ≡ H.table) × (pass_table other.pass ≡ H.table) }
+    requires tables { (pass_table first.pass ≡ K.table) × (pass_table other.pass ≡ K.table) }
     requires below { caller < count }
     requires first { HasJoined (caller + 1) count (map block_seen blocks.now) first.is_whole (pass_view first.pass) }
     requires other { HasRunAs caller (map block_seen blocks.now) other.is_whole (pass_view other.pass) }
-    ensures table { pass_table result.pass ≡ H.table }
+    ensures table { pass_table result.pass ≡ K.table }
     ensures joined { HasJoined caller count (map block_seen blocks.now) result.is_whole (pass_view result.pass) }
 {
     let _ = (blocks.len(), caller, count);
@@ -124,25 +114,23 @@ fn joined<C: Naming, L: FrameLink + Drop, H: HistoryNaming>(
 }
 
 /// Runs the block of caller 0 by the first pass, where all other callers have passes.
-fn run_first<'s, 't: 's, E, C, L, H, R, G>(
+fn run_first<'s, E, K, R, G>(
     scope: &Scope<'s, E>,
     rt: &'s R,
     gate: &'s G,
     alloc: Global,
-    lock: &'s ResLock<'t, C, L, H>,
+    lock: &'s K,
     first: ResPass,
     blocks: &'s [Block],
     count: u8,
 ) -> Ran
 where
-    C: Naming + Send + Sync + 's,
-    L: FrameLink + Drop + Send + 's,
-    H: HistoryNaming + Send + Sync + 's,
+    K: BlockLock + Sync + 's,
     R: Threads + Wait + Sync,
     G: Gate + Sync,
-    requires table { pass_table first ≡ H.table }
+    requires table { pass_table first ≡ K.table }
     requires first { IsFirstOf count first }
-    ensures table { pass_table result.pass ≡ H.table }
+    ensures table { pass_table result.pass ≡ K.table }
     ensures joined { HasJoined count count (map block_seen blocks.now) result.is_whole (pass_view result.pass) }
 {
     let _ = count;
@@ -153,27 +141,25 @@ where
 
 /// Runs the blocks of caller 0 and of those from a number on, each by a thread of its own, where one can be started, and joins their
 /// passes into the first.
-fn run_from<'s, 't: 's, E, C, L, H, R, G>(
+fn run_from<'s, E, K, R, G>(
     scope: &Scope<'s, E>,
     rt: &'s R,
     gate: &'s G,
     alloc: Global,
-    lock: &'s ResLock<'t, C, L, H>,
+    lock: &'s K,
     first: ResPass,
     blocks: &'s [Block],
     caller: u8,
     count: u8,
 ) -> Ran
 where
-    C: Naming + Send + Sync + 's,
-    L: FrameLink + Drop + Send + 's,
-    H: HistoryNaming + Send + Sync + 's,
+    K: BlockLock + Sync + 's,
     R: Threads + Wait + Sync,
     G: Gate + Sync,
-    requires table { pass_table first ≡ H.table }
+    requires table { pass_table first ≡ K.table }
     requires first { IsFirstOf caller first }
     requires among { (1 ≤ caller) × (caller ≤ count) × (count ≤ 8) }
-    ensures table { pass_table result.pass ≡ H.table }
+    ensures table { pass_table result.pass ≡ K.table }
     ensures joined { HasJoined caller count (map block_seen blocks.now) result.is_whole (pass_view result.pass) }
 {
     if caller >= count {
@@ -192,40 +178,36 @@ where
 
 /// Runs the blocks of callers below a number, each by a thread of its own, or here where none can be started, and joins their passes
 /// into the first.
-pub(crate) fn run_blocks<'t, C, L, H, R, G>(
+pub(crate) fn run_blocks<K, R, G>(
     rt: &R,
     gate: &G,
     alloc: Global,
-    lock: &ResLock<'t, C, L, H>,
+    lock: &K,
     first: ResPass,
     blocks: &[Block],
     count: u8,
 ) -> Ran
 where
-    C: Naming + Send + Sync,
-    L: FrameLink + Drop + Send,
-    H: HistoryNaming + Send + Sync,
+    K: BlockLock + Sync,
     R: Threads + Wait + Sync,
     G: Gate + Sync,
-    requires table { pass_table first ≡ H.table }
+    requires table { pass_table first ≡ K.table }
     requires first { IsFirstOf 1 first }
     requires count { (1 ≤ count) × (count ≤ 8) }
-    ensures table { pass_table result.pass ≡ H.table }
+    ensures table { pass_table result.pass ≡ K.table }
     ensures joined { HasJoined 1 count (map block_seen blocks.now) result.is_whole (pass_view result.pass) }
 {
-    let behind = Behind { lock };
     thread::scope(
         thread::scope_env(),
         rt,
         |scope| -> Ran
-            requires table { pass_table first ≡ H.table }
+            requires table { pass_table first ≡ K.table }
             requires first { IsFirstOf 1 first }
             requires count { (1 ≤ count) × (count ≤ 8) }
-            ensures table { pass_table result.pass ≡ H.table }
+            ensures table { pass_table result.pass ≡ K.table }
             ensures joined { HasJoined 1 count (map block_seen blocks.entry.now) result.is_whole (pass_view result.pass) }
         {
-            let behind = behind;
-            run_from(scope, rt, gate, alloc, behind.lock, first, blocks, 1, count)
+            run_from(scope, rt, gate, alloc, lock, first, blocks, 1, count)
         },
     )
 }

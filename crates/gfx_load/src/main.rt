@@ -5,15 +5,19 @@
 //! that is too long, 8 memory ran out.
 #![tactic(auto)]
 
+mod block_lock;
 mod blocks;
 mod callers;
 mod calls;
 mod input;
+mod link;
 mod loading;
 mod notes;
 mod output;
 mod running;
 mod status;
+#[cfg(test)]
+mod tests;
 
 use crate::loading::load;
 use io_edge::{NoGate, StdSink, StdSource};

@@ -12,14 +12,14 @@ ghost use Rattle.gfx_load.specs.Runs.{IsFirstOf};
 
 use crate::blocks::Ran;
 use crate::callers::run_blocks;
+use crate::link::HereLink;
 use draw_encoder::{Naming, Shared};
 use frame_record::FrameLink;
 use gfx_context::Context;
 use gfx_words::FEWEST_VIEWS;
 use hold_table::{ApiSeat, HoldTable};
-use io_edge::{Gate, SureSink};
+use io_edge::Gate;
 use load_text::Block;
-use render_core::{InPlaceLink, Renderer};
 use res_lock::{Entry, HistoryNaming, HistoryTable, ResLock, ResPass};
 use resource_book::Start;
 use std::alloc::{AllocError, Global};
@@ -61,7 +61,7 @@ where
 {
     let count = callers_of(blocks);
     let Ran { pass, is_whole } = run_blocks(rt, gate, alloc, &lock, first, blocks, count);
-    let (context, entries) = lock.close(rt, pass);
+    let (context, entries) = lock.close(pass);
     drop(context.shutdown(rt));
     if is_whole { Ok(entries) } else { Err(AllocError) }
 }
@@ -134,13 +134,8 @@ where
     let Ok(shared) = Shared::<C>::new(alloc, hold) else {
         return Err(AllocError);
     };
-    let Ok(renderer) = Renderer::new(alloc, 1, 1, SureSink::new()) else {
-        return Err(AllocError);
-    };
-    let Ok(link) = InPlaceLink::new(alloc, renderer, 1) else {
-        return Err(AllocError);
-    };
-    run_context::<C, InPlaceLink<SureSink>, H, R, G>(
+    let link = HereLink::new(alloc)?;
+    run_context::<C, HereLink, H, R, G>(
         rt, gate, alloc, &shared, seat, link, table, first, blocks,
     )
 }
