@@ -129,7 +129,7 @@ call_step start W behind after lines old new has None (e, h) follows rest are =
 call_step start W behind after lines old new has (Some call) (reply, e, h) follows rest are =
     let entry : LockEntry = record { caller = caller_of old; ordinal = made_by old; call = call; reply = reply } in
     let same : part_of (caller_of old) (pass_view new).seen ++ rest ≡ part_of (caller_of old) (pass_view old).seen ++ entry ∷ rest
-        = ap (λ es. es ++ rest) (grows start call reply old new has h) ∙ append_assoc (part_of (caller_of old) (pass_view old).seen) (entry ∷ []) rest in
+    = ap (λ es. es ++ rest) (grows start call reply old new has h) ∙ append_assoc (part_of (caller_of old) (pass_view old).seen) (entry ∷ []) rest in
     subst W (sym same) (follows (entry ∷ rest) (refl, subst (λ ts. AreCallsFrom ts lines rest) e are))
 
 pub line_step : (start : CallState) (W : List LockEntry → Type 0) (line : BlockLine) (before after : List (Option Handle)) (lines : List BlockLine) (old new : ResPass)

@@ -1,8 +1,8 @@
 // A lock as threads that run blocks see it.
 ghost use Rattle.std.specs.Prelude.{◌≡◌, ◌≤◌, ◌<◌, [], length, map};
+ghost use Rattle.std.specs.Thread.{IsSync};
 ghost use Rattle.load_text.specs.Seen.{line_seen};
 ghost use Rattle.res_lock.specs.Views.{split_from, split_off, joined_with, GoesOn};
-ghost use Rattle.res_lock.specs.Called.{IsSamePass};
 ghost use Rattle.res_lock.specs.Seats.{pass_table, pass_view, caller_of, made_by, IsFirst};
 ghost use Rattle.gfx_load.specs.Lines.{HasRun};
 
@@ -29,7 +29,8 @@ pub(crate) trait BlockLock {
         requires table { pass_table pass.old ≡ table }
         requires first { IsFirst pass.old }
         requires room { (pass_view pass.old).next ≤ 4294967295 }
-        ensures first { (pass_view pass.new ≡ split_from (pass_view pass.old)) × (made_by pass.new ≡ made_by pass.old) × IsSamePass pass.old pass.new }
+        ensures first { (pass_view pass.new ≡ split_from (pass_view pass.old)) × (pass_table pass.new ≡ table) }
+        ensures same { (caller_of pass.new ≡ caller_of pass.old) × (made_by pass.new ≡ made_by pass.old) }
         ensures other { (pass_view result ≡ split_off (pass_view pass.old)) × (pass_table result ≡ table) }
         ensures caller { (caller_of result ≡ (pass_view pass.old).next) × (made_by result ≡ 0) };
 
@@ -37,7 +38,8 @@ pub(crate) trait BlockLock {
     fn join(&self, pass: &mut ResPass, other: ResPass)
         requires table { (pass_table pass.old ≡ table) × (pass_table other ≡ table) }
         requires first { IsFirst pass.old }
-        ensures first { (pass_view pass.new ≡ joined_with (pass_view pass.old) (pass_view other)) × (made_by pass.new ≡ made_by pass.old) × IsSamePass pass.old pass.new }
+        ensures first { (pass_view pass.new ≡ joined_with (pass_view pass.old) (pass_view other)) × (pass_table pass.new ≡ table) }
+        ensures same { (caller_of pass.new ≡ caller_of pass.old) × (made_by pass.new ≡ made_by pass.old) }
         ensures own { GoesOn (pass_view pass.old).callers (pass_view pass.old).seen (pass_view pass.new).seen }
         ensures others { GoesOn (pass_view other).callers (pass_view other).seen (pass_view pass.new).seen };
 
@@ -51,6 +53,7 @@ pub(crate) trait BlockLock {
         caller: u8,
         lines: &[BlockLine],
     ) -> Ran
+        requires sync { IsSync R.row }
         requires table { pass_table pass ≡ table }
         requires new { ((pass_view pass).seen ≡ []) × (made_by pass ≡ 0) }
         requires few { length lines.now ≤ 16777216 }

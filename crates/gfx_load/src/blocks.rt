@@ -40,13 +40,7 @@ pub(crate) fn lines_of(blocks: &[Block], caller: u8) -> &[BlockLine]
 
 /// Runs lines in their order. Before each it calls the gate with the caller's number and how many lines came before. `Err` for want of
 /// memory alone; then some lines were not run.
-fn run_lines<
-    C: Naming,
-    L: FrameLink + Drop,
-    H: HistoryNaming,
-    R: Threads + Wait + Sync,
-    G: Gate,
->(
+fn run_lines<C: Naming, L: FrameLink + Drop, H: HistoryNaming, R: Threads + Wait + Sync, G: Gate>(
     rt: &R,
     gate: &G,
     alloc: Global,

@@ -1,5 +1,6 @@
 // Each caller's block in a thread of its own.
 ghost use Rattle.std.specs.Prelude.{◌≡◌, ◌≤◌, ◌<◌, ◌+◌, ◌&&◌, [], length, map};
+ghost use Rattle.std.specs.Thread.{IsSync};
 ghost use Rattle.load_text.specs.Seen.{line_seen, block_seen};
 ghost use Rattle.res_lock.specs.Seats.{pass_table, pass_view, made_by};
 ghost use Rattle.gfx_load.specs.Lines.{HasRun};
@@ -70,6 +71,7 @@ where
 {
     let promise = Runs(Snapshot::of(&pass), lines);
     let job = move || -> Ran
+        requires sync { IsSync R.row }
         requires table { pass_table pass ≡ K.table }
         requires new { ((pass_view pass).seen ≡ []) × (made_by pass ≡ 0) }
         requires few { length lines.now ≤ 16777216 }
@@ -170,7 +172,15 @@ where
     let lines = lines_of(blocks, caller);
     let started = start(scope, rt, gate, alloc, lock, pass, caller, lines);
     let later = run_from(
-        scope, rt, gate, alloc, lock, first, blocks, caller + 1, count,
+        scope,
+        rt,
+        gate,
+        alloc,
+        lock,
+        first,
+        blocks,
+        caller + 1,
+        count,
     );
     let other = started.finish(rt);
     joined(lock, later, other, blocks, caller, count)
@@ -206,8 +216,6 @@ where
             requires count { (1 ≤ count) × (count ≤ 8) }
             ensures table { pass_table result.pass ≡ K.table }
             ensures joined { HasJoined 1 count (map block_seen blocks.entry.now) result.is_whole (pass_view result.pass) }
-        {
-            run_from(scope, rt, gate, alloc, lock, first, blocks, 1, count)
-        },
+        { run_from(scope, rt, gate, alloc, lock, first, blocks, 1, count) },
     )
 }

@@ -163,12 +163,7 @@ fn run_frame<C: Naming, L: FrameLink + Drop, H: HistoryNaming, R: Threads + Wait
 }
 
 /// Runs a line: makes its call, if it is one. `Err` for want of memory alone.
-pub(crate) fn run_line<
-    C: Naming,
-    L: FrameLink + Drop,
-    H: HistoryNaming,
-    R: Threads + Wait + Sync,
->(
+pub(crate) fn run_line<C: Naming, L: FrameLink + Drop, H: HistoryNaming, R: Threads + Wait + Sync>(
     rt: &R,
     lock: &ResLock<'_, C, L, H>,
     pass: &mut ResPass,

@@ -63,7 +63,11 @@ where
     let Ran { pass, is_whole } = run_blocks(rt, gate, alloc, &lock, first, blocks, count);
     let (context, entries) = lock.close(pass);
     drop(context.shutdown(rt));
-    if is_whole { Ok(entries) } else { Err(AllocError) }
+    if is_whole {
+        Ok(entries)
+    } else {
+        Err(AllocError)
+    }
 }
 
 /// Makes the context, which begins without things, and runs blocks on it.
@@ -135,9 +139,7 @@ where
         return Err(AllocError);
     };
     let link = HereLink::new(alloc)?;
-    run_context::<C, HereLink, H, R, G>(
-        rt, gate, alloc, &shared, seat, link, table, first, blocks,
-    )
+    run_context::<C, HereLink, H, R, G>(rt, gate, alloc, &shared, seat, link, table, first, blocks)
 }
 
 /// Runs blocks, each by a thread of its own, or by this thread where none can be started, on one new context: 256 views, frame 0, serial

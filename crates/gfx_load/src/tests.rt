@@ -136,17 +136,16 @@ fn what_was_refused_is_not_destroyed(rt: HostRuntime) -> Result<(), Fail> {
     assert_eq!(rt; left.status, LoadStatus::Done);
     assert!(rt; gate.has_met());
     let notes = left.notes.as_slice();
-    let first = notes
-        == b"0:0 index 0 serial 1\n0:1 index 0 serial 2\n1:0 refused 6\n".as_slice();
-    let second = notes
-        == b"0:0 index 0 serial 1\n1:0 refused 6\n0:1 index 0 serial 2\n".as_slice();
+    let first = notes == b"0:0 index 0 serial 1\n0:1 index 0 serial 2\n1:0 refused 6\n".as_slice();
+    let second = notes == b"0:0 index 0 serial 1\n1:0 refused 6\n0:1 index 0 serial 2\n".as_slice();
     assert!(rt; first || second);
     Ok(())
 }
 
 #[test]
 fn a_thing_is_destroyed_twice(rt: HostRuntime) -> Result<(), Fail> {
-    let text = b"load 1\n# three blocks of eight\ncallers 8\ncaller 3\n\nprogram a color\ndestroy a\ndestroy a\ncaller 7\ndone\n";
+    let text =
+        b"load 1\n# three blocks of eight\ncallers 8\ncaller 3\n\nprogram a color\ndestroy a\ndestroy a\ncaller 7\ndone\n";
     let left = left_by(&rt, rt.alloc(), text, &[], 1000, &NoGate)?;
     assert_eq!(rt; left.status, LoadStatus::Done);
     assert_eq!(rt;
@@ -158,7 +157,14 @@ fn a_thing_is_destroyed_twice(rt: HostRuntime) -> Result<(), Fail> {
 
 #[test]
 fn no_block_is_a_load(rt: HostRuntime) -> Result<(), Fail> {
-    let left = left_by(&rt, rt.alloc(), b"load 1\ncallers 2\ndone\n", &[], 1000, &NoGate)?;
+    let left = left_by(
+        &rt,
+        rt.alloc(),
+        b"load 1\ncallers 2\ndone\n",
+        &[],
+        1000,
+        &NoGate,
+    )?;
     assert_eq!(rt; left.status, LoadStatus::Done);
     assert_eq!(rt; left.notes.len(), 0);
     Ok(())
@@ -180,12 +186,21 @@ fn the_first_line_that_fails(rt: HostRuntime) -> Result<(), Fail> {
         (b"load 1\ncallers 2\ncaller 1\ncaller 1\n", 4),
         (b"load 1\ncallers 2\ncaller 1\nframe\n", 4),
         (b"load 1\ncallers 1\ncaller 0\nframe 1\n", 4),
-        (b"load 1\ncallers 1\ncaller 0\nprogram a solid\nprogram a solid\n", 5),
-        (b"load 1\ncallers 1\ncaller 0\nuniform a vec4\nuniform a vec4\n", 5),
+        (
+            b"load 1\ncallers 1\ncaller 0\nprogram a solid\nprogram a solid\n",
+            5,
+        ),
+        (
+            b"load 1\ncallers 1\ncaller 0\nuniform a vec4\nuniform a vec4\n",
+            5,
+        ),
         (b"load 1\ncallers 1\ncaller 0\nprogram 9a solid\n", 4),
         (b"load 1\ncallers 1\ncaller 0\nprogram a wood\n", 4),
         (b"load 1\ncallers 1\ncaller 0\nuniform a float\n", 4),
-        (b"load 1\ncallers 2\ncaller 0\nprogram a solid\ncaller 1\ndestroy a\n", 6),
+        (
+            b"load 1\ncallers 2\ncaller 0\nprogram a solid\ncaller 1\ndestroy a\n",
+            6,
+        ),
         (b"load 1\ncallers 1\ncaller 0\nlayout a\n", 4),
         (b"load 1\ncallers 1\ndone\ncaller 0\n", 4),
         (b"load 1\ncallers 1\ncaller 0\n", 4),

@@ -10,4 +10,4 @@ returns-clause-joined g c =
     let blocks = map block_seen c.args.blocks.now in
     subst (λ w. HasJoined c.args.caller c.args.count blocks w (pass_view c.join.new.pass)) (sym c.both.ensures)
     (joined_more c.args.caller c.args.count blocks c.args.first.is_whole c.args.other.is_whole (pass_view c.args.first.pass) (pass_view c.args.other.pass) (pass_view c.join.new.pass)
-      c.requires.first c.requires.other c.join.ensures.first.0 c.join.ensures.own c.join.ensures.others)
+    c.requires.first c.requires.other c.join.ensures.first.0 c.join.ensures.own c.join.ensures.others)
