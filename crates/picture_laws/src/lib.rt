@@ -1,4 +1,4 @@
-//! A law of the pictures of scenes: each has the scene's sides.
+//! Laws of the pictures of scenes: each has the sides of its scene, and a colour of four bytes for each pixel.
 #![tactic(auto)]
 
 pub mod laws;

@@ -1,0 +1,5 @@
+pub mod Pieces
+pub mod Noting
+pub mod LineLaws
+pub mod JoinLaws
+pub mod Ends

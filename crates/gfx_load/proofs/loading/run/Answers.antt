@@ -1,0 +1,14 @@
+use Rattle.std.proofs.Common.{map, ap, sym, ◌∙◌}
+use Rattle.load_text.specs.Text.{load_of}
+use Rattle.load_text.specs.Seen.{block_seen}
+use Rattle.gfx_load.proofs.Ends.{ok_blocks, noted_ended}
+use Rattle.gfx_load.proofs.loading.run.Goals as goal
+
+pub returns-in-Ok-read_load-clause-ended : goal.returns-in-Ok-read_load-clause-ended
+returns-in-Ok-read_load-clause-ended g c =
+    noted_ended c.note_blocks.result c.in-Ok.bytes.items (map block_seen c.deref-in-Ok-read_load.result.now) _ _ _ _ _ _
+    (record {
+      read = record { given = c.in-Ok.ensures.bytes; ended = c.in-Ok.ensures.ended; few = c.in-Ok.ensures.few };
+      is = ap load_of (sym c.deref.ensures.value) ∙ c.in-Ok-read_load.ensures ∙ ap ok_blocks (sym c.deref-in-Ok-read_load.ensures.value);
+    })
+    c.note_blocks.ensures.noted

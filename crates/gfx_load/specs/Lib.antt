@@ -1,0 +1,11 @@
+pub mod BlockCalls
+pub mod Notes
+pub mod Pushed
+pub mod LoadHistories
+pub mod Io
+pub mod Ended
+pub mod Putting
+pub mod Numbers
+pub mod Lines
+pub mod Runs
+pub mod Started

@@ -1,0 +1,227 @@
+// Worked loads, texts that are none, callers in both orders, and reads and writes that fail.
+use crate::loading::load;
+use crate::status::LoadStatus;
+use io_edge::{Gate, MemSink, MemSource, NoGate};
+use std::alloc::{AllocError, Global};
+use std::sync::Wait;
+use std::sync::atomic::{AtomicU32, Ordering};
+use std::test::Fail;
+use std::thread::Threads;
+
+// What a load left: its status and the notes.
+#[derive(Drop)]
+struct Left {
+    status: LoadStatus,
+    notes: Vec<u8>,
+}
+
+fn left_by<R: Threads + Wait + Sync, G: Gate + Sync>(
+    rt: &R,
+    alloc: Global,
+    text: &[u8],
+    source_fails: &[u32],
+    note_capacity: usize,
+    gate: &G,
+) -> Result<Left, AllocError> {
+    let mut source = MemSource::new(text.to_vec(alloc)?, source_fails.to_vec(alloc)?);
+    let mut notes = MemSink::new(alloc, note_capacity, 7, Vec::new(alloc))?;
+    let status = load(rt, alloc, &mut source, &mut notes, gate);
+    Ok(Left {
+        status,
+        notes: notes.bytes().to_vec(alloc)?,
+    })
+}
+
+// Holds a caller before its first line until another one came to its second, for some turns at most.
+#[derive(Drop)]
+struct Hold {
+    held: u8,
+    came: AtomicU32,
+    met: AtomicU32,
+}
+
+impl Hold {
+    fn new(held: u8) -> Hold {
+        Hold {
+            held,
+            came: AtomicU32::new(0),
+            met: AtomicU32::new(0),
+        }
+    }
+
+    fn wait(&self) {
+        for _ in 0..50_000_000u32 {
+            if self.came.load(Ordering::SeqCst) == 1 {
+                self.met.store(1, Ordering::SeqCst);
+                return;
+            }
+        }
+    }
+
+    // Whether the held caller saw the other one come.
+    fn has_met(&self) -> bool {
+        self.met.load(Ordering::SeqCst) == 1
+    }
+}
+
+impl Gate for Hold {
+    fn at(&self, who: u8, item: u32) {
+        if who != self.held && item == 1 {
+            self.came.store(1, Ordering::SeqCst);
+        }
+        if who == self.held && item == 0 {
+            self.wait();
+        }
+    }
+}
+
+const ONE_CALLER: &[u8] =
+    b"load 1\ncallers 1\ncaller 0\nprogram a solid\nuniform u vec4\ndestroy a\nprogram b solid\nframe\nframe\nprogram c solid\ndone\n";
+
+#[test]
+fn an_index_comes_back_after_two_frames(rt: HostRuntime) -> Result<(), Fail> {
+    let left = left_by(&rt, rt.alloc(), ONE_CALLER, &[], 1000, &NoGate)?;
+    assert_eq!(rt; left.status, LoadStatus::Done);
+    assert_eq!(rt;
+        left.notes.as_slice(),
+        b"0:0 index 0 serial 1\n0:1 index 0 serial 2\n0:2 done\n0:3 index 1 serial 3\n0:4 frame 0\n0:5 frame 1\n0:6 index 0 serial 4\n".as_slice()
+    );
+    Ok(())
+}
+
+#[test]
+fn two_callers_in_some_order(rt: HostRuntime) -> Result<(), Fail> {
+    let text = b"load 1\ncallers 2\ncaller 0\nprogram a solid\ncaller 1\nprogram a solid\ndone\n";
+    let left = left_by(&rt, rt.alloc(), text, &[], 1000, &NoGate)?;
+    assert_eq!(rt; left.status, LoadStatus::Done);
+    let notes = left.notes.as_slice();
+    let first = notes == b"0:0 index 0 serial 1\n1:0 index 1 serial 2\n".as_slice();
+    let second = notes == b"1:0 index 0 serial 1\n0:0 index 1 serial 2\n".as_slice();
+    assert!(rt; first || second);
+    Ok(())
+}
+
+// Each caller's second line tells that its first was run.
+const TWO_CALLERS: &[u8] =
+    b"load 1\ncallers 2\ncaller 0\nprogram a solid\nuniform u vec4\ncaller 1\nprogram a solid\nuniform v vec4\ndone\n";
+
+#[test]
+fn the_second_caller_is_held(rt: HostRuntime) -> Result<(), Fail> {
+    let gate = Hold::new(1);
+    let left = left_by(&rt, rt.alloc(), TWO_CALLERS, &[], 1000, &gate)?;
+    assert_eq!(rt; left.status, LoadStatus::Done);
+    assert!(rt; gate.has_met());
+    assert!(rt; left.notes.as_slice().starts_with(b"0:0 index 0 serial 1\n"));
+    Ok(())
+}
+
+#[test]
+fn the_first_caller_is_held(rt: HostRuntime) -> Result<(), Fail> {
+    let gate = Hold::new(0);
+    let left = left_by(&rt, rt.alloc(), TWO_CALLERS, &[], 1000, &gate)?;
+    assert_eq!(rt; left.status, LoadStatus::Done);
+    assert!(rt; gate.has_met());
+    assert!(rt; left.notes.as_slice().starts_with(b"1:0 index 0 serial 1\n"));
+    Ok(())
+}
+
+// The second caller's create is refused, since the uniform of its name is of another kind, so its destroy is no call.
+const ONE_REFUSED: &[u8] =
+    b"load 1\ncallers 2\ncaller 0\nuniform u vec4\nprogram p solid\ncaller 1\nuniform u int\ndestroy u\ndone\n";
+
+#[test]
+fn what_was_refused_is_not_destroyed(rt: HostRuntime) -> Result<(), Fail> {
+    let gate = Hold::new(1);
+    let left = left_by(&rt, rt.alloc(), ONE_REFUSED, &[], 1000, &gate)?;
+    assert_eq!(rt; left.status, LoadStatus::Done);
+    assert!(rt; gate.has_met());
+    let notes = left.notes.as_slice();
+    let first = notes == b"0:0 index 0 serial 1\n0:1 index 0 serial 2\n1:0 refused 6\n".as_slice();
+    let second = notes == b"0:0 index 0 serial 1\n1:0 refused 6\n0:1 index 0 serial 2\n".as_slice();
+    assert!(rt; first || second);
+    Ok(())
+}
+
+#[test]
+fn a_thing_is_destroyed_twice(rt: HostRuntime) -> Result<(), Fail> {
+    let text =
+        b"load 1\n# three blocks of eight\ncallers 8\ncaller 3\n\nprogram a color\ndestroy a\ndestroy a\ncaller 7\ndone\n";
+    let left = left_by(&rt, rt.alloc(), text, &[], 1000, &NoGate)?;
+    assert_eq!(rt; left.status, LoadStatus::Done);
+    assert_eq!(rt;
+        left.notes.as_slice(),
+        b"3:0 index 0 serial 1\n3:1 done\n3:2 refused 2\n".as_slice()
+    );
+    Ok(())
+}
+
+#[test]
+fn no_block_is_a_load(rt: HostRuntime) -> Result<(), Fail> {
+    let left = left_by(
+        &rt,
+        rt.alloc(),
+        b"load 1\ncallers 2\ndone\n",
+        &[],
+        1000,
+        &NoGate,
+    )?;
+    assert_eq!(rt; left.status, LoadStatus::Done);
+    assert_eq!(rt; left.notes.len(), 0);
+    Ok(())
+}
+
+#[test]
+fn the_first_line_that_fails(rt: HostRuntime) -> Result<(), Fail> {
+    let texts: [(&[u8], u32); 24] = [
+        (b"", 1),
+        (b"load 2\n", 1),
+        (b"callers 1\n", 1),
+        (b"load 1\n# callers\n\ncallers 0\n", 4),
+        (b"load 1\ncallers 9\n", 2),
+        (b"load 1\ncallers 01\n", 2),
+        (b"load 1\ncallers 1 1\n", 2),
+        (b"load 1\ncallers 1\nprogram a solid\n", 3),
+        (b"load 1\ncallers 2\ncaller 2\n", 3),
+        (b"load 1\ncallers 2\ncaller 1\ncaller 0\n", 4),
+        (b"load 1\ncallers 2\ncaller 1\ncaller 1\n", 4),
+        (b"load 1\ncallers 2\ncaller 1\nframe\n", 4),
+        (b"load 1\ncallers 1\ncaller 0\nframe 1\n", 4),
+        (
+            b"load 1\ncallers 1\ncaller 0\nprogram a solid\nprogram a solid\n",
+            5,
+        ),
+        (
+            b"load 1\ncallers 1\ncaller 0\nuniform a vec4\nuniform a vec4\n",
+            5,
+        ),
+        (b"load 1\ncallers 1\ncaller 0\nprogram 9a solid\n", 4),
+        (b"load 1\ncallers 1\ncaller 0\nprogram a wood\n", 4),
+        (b"load 1\ncallers 1\ncaller 0\nuniform a float\n", 4),
+        (
+            b"load 1\ncallers 2\ncaller 0\nprogram a solid\ncaller 1\ndestroy a\n",
+            6,
+        ),
+        (b"load 1\ncallers 1\ncaller 0\nlayout a\n", 4),
+        (b"load 1\ncallers 1\ndone\ncaller 0\n", 4),
+        (b"load 1\ncallers 1\ncaller 0\n", 4),
+        (b"load 1\ncallers 1\ndone", 3),
+        (b"load 1\ncallers 1\ndone\n#", 4),
+    ];
+    for (text, line) in texts {
+        let left = left_by(&rt, rt.alloc(), text, &[], 1000, &NoGate)?;
+        assert_eq!(rt; left.status, LoadStatus::Text { line });
+        assert_eq!(rt; left.notes.len(), 0);
+    }
+    Ok(())
+}
+
+#[test]
+fn a_read_and_a_write_that_fail(rt: HostRuntime) -> Result<(), Fail> {
+    let unread = left_by(&rt, rt.alloc(), ONE_CALLER, &[0], 1000, &NoGate)?;
+    assert_eq!(rt; unread.status, LoadStatus::ReadFault);
+    assert_eq!(rt; unread.notes.len(), 0);
+    let cut = left_by(&rt, rt.alloc(), ONE_CALLER, &[], 9, &NoGate)?;
+    assert_eq!(rt; cut.status, LoadStatus::NoteFault);
+    assert_eq!(rt; cut.notes.as_slice(), b"0:0 index".as_slice());
+    Ok(())
+}

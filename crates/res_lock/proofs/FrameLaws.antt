@@ -1,0 +1,162 @@
+-- The state behind the lock is kept where a frame ends and where an encoder begins.
+use Rattle.std.proofs.Common.{◌≡◌, ◌⊎◌, inl, inr, ℕ, ◌+◌, ◌-◌, ◌==◌, ◌||◌, Bool, true, false, if◌then◌else◌, List, sym, refl, ap, ◌∙◌, subst, Option, Some, None, MatchOption, MatchResult, Result, Ok, Err}
+use Rattle.std.proofs.lemmas.Option.{none-some}
+use Rattle.gfx_model.specs.World.{Item}
+use Rattle.gfx_model.specs.Recorder.{Room}
+use Rattle.gfx_model.specs.Resources as model
+use Rattle.gfx_model.specs.Resources.{start_frame}
+use Rattle.gfx_model.specs.FrameCalls as frames
+use Rattle.gfx_model.specs.FrameCalls.{CallState, Begun, begin_encoder, end_frame, frame_refusal, frame_effect, backs_at_end, is_given}
+use Rattle.gfx_words.specs.declared.refusals.Refusal.{Refusal}
+use Rattle.gfx_words.specs.Seen.{refusal_seen}
+use Rattle.resource_laws.specs.Bare.{bare_of}
+use Rattle.resource_laws.proofs.RunLaws.{bare_started}
+use Rattle.resource_book.specs.Answered.{IsFirstRefusalOrOutOfMemory}
+use Rattle.draw_encoder.specs.Calls.{EncoderView}
+use Rattle.frame_record.specs.declared.frame.Outcome.TheVariants as outcomes
+use Rattle.gfx_context.specs.States.{ContextView, state_of}
+use Rattle.gfx_context.specs.Calls as context_calls
+use Rattle.gfx_context.specs.Ended.{is_shown, is_shown_outcome, Ends, IsEnd, CollectsAndEnds}
+use Rattle.gfx_context.specs.declared.report.BackNote.{BackNote}
+use Rattle.gfx_context.specs.declared.report.FrameReport.{FrameReport}
+use Rattle.res_lock.specs.Histories.{LockCall, ends_frame, begins, Reply, given, begun, refused, ending, LockEntry, IsToldOrRefused, IsFrameReply, IsRunningReply, IsReply, after_reply, state_after}
+use Rattle.res_lock.specs.Called.{reply_of, refusal_reply, frame_reply, Calls, Begins, IsOutOfMemory, IsFramed}
+use Rattle.res_lock.specs.Locked.{log_entries, LockView, bared, IsKept, Adds}
+use Rattle.res_lock.specs.declared.entry.LockRefusal.{LockRefusal}
+use Rattle.res_lock.specs.declared.entry.LockRefusal.TheVariants as lock_refusals
+use Rattle.res_lock.specs.declared.log.Log.{Log}
+use Rattle.res_lock.specs.declared.table.ResPass.{ResPass}
+use Rattle.res_lock.proofs.KeptLaws.{Both, entry_kept, running, Refuses, Refused, refused_by}
+
+-- ---- the end of a frame, over states of the calls
+
+-- the reply is the definition's, and the state is that after it
+pub record Follows (s : CallState) (call : LockCall) (reply : Reply) (y : CallState) : Type 0 where
+  pub replies : IsRunningReply s call reply
+  pub state : y ≡ bared (after_reply s call reply) y
+
+module _ (s x y : CallState) (same : x ≡ bared s x) where
+  frame_refusal_is : frame_refusal x end_frame ≡ frame_refusal s end_frame
+  frame_refusal_is = ap (λ (z : CallState). frame_refusal z end_frame) same
+
+  frame_is : x.resources.frame ≡ s.resources.frame
+  frame_is = ap (λ (z : CallState). z.resources.frame) same
+
+  not_refused : (number : ℕ) (reply : Reply) → frame_refusal x end_frame ≡ None → IsFrameReply None number reply → IsFrameReply (frame_refusal s end_frame) number reply
+  not_refused number reply e is = subst (λ (o : Option model.Refusal). IsFrameReply o number reply) (sym (sym frame_refusal_is ∙ e)) is
+
+  given_state : y ≡ frames.given x → y ≡ bared (frames.given s) y
+  given_state e =
+      let t : CallState = frames.given s in
+      let n : ℕ = x.out + 1 - backs_at_end (bared s x) in
+      let first : y ≡ record t { resources = start_frame (s.resources.frame + 1) (bare_of s.resources); out = n } = e ∙ ap frames.given same in
+      first
+      ∙ (ap (λ r. record t { resources = r; out = n }) (bare_started s.resources (s.resources.frame + 1))
+      ∙ ap (λ (m : ℕ). record t { resources = bare_of (start_frame (s.resources.frame + 1) s.resources); out = m }) (sym (ap (λ (z : CallState). z.out) first)))
+
+  ended_state : y ≡ frames.ended x → y ≡ bared (frames.ended s) y
+  ended_state e =
+      let first : y ≡ record s { resources = bare_of s.resources; out = x.out - backs_at_end (bared s x); is_ended = true } = e ∙ ap frames.ended same in
+      first ∙ ap (λ (m : ℕ). record s { resources = bare_of s.resources; out = m; is_ended = true }) (sym (ap (λ (z : CallState). z.out) first))
+
+  stopped_state : y ≡ record x { is_ended = true } → y ≡ bared (frames.ended s) y
+  stopped_state e =
+      let first : y ≡ record s { resources = bare_of s.resources; out = x.out; is_ended = true } = e ∙ ap (λ (z : CallState). record z { is_ended = true }) same in
+      first ∙ ap (λ (m : ℕ). record s { resources = bare_of s.resources; out = m; is_ended = true }) (sym (ap (λ (z : CallState). z.out) first))
+
+  or_true : (b : Bool) → (b || true) ≡ true
+  or_true true = refl
+  or_true false = refl
+
+  or_false : (a b : Bool) → (a || b) ≡ false → b ≡ false
+  or_false true b e = cc e
+  or_false false b e = e
+
+  pub report_follows : (is_in : Bool) (back : Option BackNote) (number : ℕ) → number ≡ x.resources.frame → frame_refusal x end_frame ≡ None → is_in ≡ is_given (is_shown back) x → y ≡ (frame_effect (is_shown back) x end_frame).after
+      → Follows s ends_frame (reply_of is_in number back) y
+  report_follows true back number is accepted e state = record {
+    replies = not_refused s.resources.frame (given number) accepted (inl (ap given (is ∙ frame_is)));
+    state = given_state (state ∙ ap (λ (b : Bool). if b then frames.given x else frames.ended x) (sym e));
+  }
+  report_follows false None number is accepted e state = let no_way : false ≡ true = e ∙ or_true (backs_at_end x == 0) in cc no_way
+  report_follows false (Some note) number is accepted e state = record {
+    replies = not_refused s.resources.frame (ending number note.outcome) accepted (inr (note.outcome, ap (λ (n : ℕ). ending n note.outcome) (is ∙ frame_is), or_false (backs_at_end x == 0) (is_shown_outcome note.outcome) (sym e)));
+    state = ended_state (state ∙ ap (λ (b : Bool). if b then frames.given x else frames.ended x) (sym e));
+  }
+
+  pub refusal_follows : (r : Refusal) (number : ℕ) → number ≡ x.resources.frame → (o : Option model.Refusal) → refusal_seen r ≡ o
+      → MatchOption o ((frame_refusal x end_frame ≡ None) × (y ≡ record x { is_ended = true })) (λ z. (frame_refusal x end_frame ≡ Some z) × (y ≡ x)) → Follows s ends_frame (refusal_reply number r o) y
+  refusal_follows r number is None seen m = record {
+    replies = not_refused s.resources.frame (ending number outcomes.OutOfMemory) m.0 (inr (outcomes.OutOfMemory, ap (λ (n : ℕ). ending n outcomes.OutOfMemory) (is ∙ frame_is), refl));
+    state = stopped_state m.1;
+  }
+  refusal_follows r number is (Some z) seen m = record {
+    replies = subst (λ (o : Option model.Refusal). IsFrameReply o s.resources.frame (refused r)) (sym (sym frame_refusal_is ∙ m.0)) (r, refl, seen);
+    state = m.1 ∙ (same ∙ ap (λ (u : CallState). bared s u) (sym m.1));
+  }
+
+-- the answers of a context
+pub end_follows : {L : Type 0} (s : CallState) (c d : ContextView L) → state_of c ≡ bared s (state_of c) → (number : ℕ) → number ≡ c.book.resources.frame → (result : Result FrameReport Refusal) → IsEnd result c d → Follows s ends_frame (frame_reply number result) (state_of d)
+end_follows s c d same number is (Ok report) m = report_follows s (state_of c) (state_of d) same report.given report.back report.number m.number m.accepted m.given m.state
+end_follows s c d same number is (Err r) m = refusal_follows s (state_of c) (state_of d) same r number is (refusal_seen r) refl (stated (refusal_seen r) m)
+  where
+    stated : (o : Option model.Refusal) → MatchOption o ((frame_refusal (state_of c) end_frame ≡ None) × (d ≡ record c { is_ended = true })) (λ x. (frame_refusal (state_of c) end_frame ≡ Some x) × (d ≡ c))
+        → MatchOption o ((frame_refusal (state_of c) end_frame ≡ None) × (state_of d ≡ record (state_of c) { is_ended = true })) (λ z. (frame_refusal (state_of c) end_frame ≡ Some z) × (state_of d ≡ state_of c))
+    stated None m = (m.0, ap state_of m.1)
+    stated (Some z) m = (m.0, ap state_of m.1)
+
+-- ---- entries
+
+module _ {L : Type 0} (start : CallState) (c : ContextView L) (h : List LockEntry) (k : IsKept start (record { context = c; history = h })) (old new : Log) (p q : ResPass) (log_same : log_entries old ≡ h) where
+  pub framed_kept : {admits : ℕ → ℕ → List Item → ℕ → Type 0} {views : ℕ} → c.is_ended ≡ false → (result : Result FrameReport Refusal) (d : ContextView L) (number : ℕ) (reply : Reply) → number ≡ c.book.resources.frame → reply ≡ frame_reply number result
+      → CollectsAndEnds admits views result c d → Adds ends_frame reply old new p q → Both start d ends_frame (frame_reply number result) new p q h
+  framed_kept runs result d number reply is told m a =
+      let gathered : state_of m.collected ≡ state_of c = ap state_of m.collects.same in
+      let same : state_of m.collected ≡ bared (state_after start h) (state_of m.collected) = gathered ∙ (k.same ∙ ap (bared (state_after start h)) (sym gathered)) in
+      let f = end_follows (state_after start h) m.collected d same number (is ∙ ap (λ (z : CallState). z.resources.frame) (sym gathered)) result m.ends in
+      entry_kept start c h k old new p q log_same d ends_frame (frame_reply number result) (subst (λ (x : Reply). Adds ends_frame x old new p q) told a) (running start c h k old new p q log_same runs ends_frame (frame_reply number result) f.replies) f.state
+
+  begin_refusal_is : (room : Room) → frame_refusal (state_of c) (begin_encoder room) ≡ frame_refusal (state_after start h) (begin_encoder room)
+  begin_refusal_is room = ap (λ (z : CallState). frame_refusal z (begin_encoder room)) k.same
+
+  number_is : (a b : Begun) → Some a ≡ Some b → a.encoder ≡ b.encoder
+  number_is a b e = cc e
+
+  -- what an encoder that begins tells
+  pub record Begun_kept (d : ContextView L) (room : Room) (e : EncoderView) : Type 0 where
+    pub kept : IsKept start (record { context = d; history = log_entries new })
+    pub begins_here : Begins start room e p q
+
+  pub begun_kept : c.is_ended ≡ false → (room : Room) (e : EncoderView) (number : ℕ) (d : ContextView L) → number ≡ e.seat.encoder → context_calls.Begins room e c d → Adds (begins room) (begun number) old new p q → Begun_kept d room e
+  begun_kept runs room e number d is m a =
+      let s : CallState = state_after start h in
+      let made : (frame_effect true s (begin_encoder room)).made ≡ Some (record { encoder = e.seat.encoder; recorder = e.recorder }) = sym (ap (λ (z : CallState). (frame_effect true z (begin_encoder room)).made) k.same) ∙ m.made in
+      let named : s.encoders ≡ e.seat.encoder = number_is _ _ made in
+      let reply : IsToldOrRefused (frame_refusal s (begin_encoder room)) (begun s.encoders) (begun e.seat.encoder) = subst (λ (o : Option model.Refusal). IsToldOrRefused o (begun s.encoders) (begun e.seat.encoder)) (sym (sym (begin_refusal_is room) ∙ m.accepted)) (ap begun (sym named)) in
+      let state : state_of d ≡ bared (frame_effect true s (begin_encoder room)).after (state_of d) =
+      let first : state_of d ≡ record s { resources = bare_of s.resources; encoders = s.encoders + 1; out = c.out } = m.state ∙ ap (λ (z : CallState). record z { encoders = z.encoders + 1 }) k.same in
+      first ∙ ap (λ (n : ℕ). record s { resources = bare_of s.resources; encoders = s.encoders + 1; out = n }) (sym (ap (λ (z : CallState). z.out) first)) in
+      let b = entry_kept start c h k old new p q log_same d (begins room) (begun e.seat.encoder) (subst (λ (n : ℕ). Adds (begins room) (begun n) old new p q) is a) (running start c h k old new p q log_same runs (begins room) (begun e.seat.encoder) reply) state in
+      record {
+        kept = b.kept;
+        begins_here = record { calls = b.calls; encoder = subst (λ l. (frame_effect true (state_after start l) (begin_encoder room)).made ≡ Some (record { encoder = e.seat.encoder; recorder = e.recorder })) (sym b.before_is) made };
+      }
+
+  pub begin_refused : c.is_ended ≡ false → (room : Room) (r : Refusal) (d : ContextView L) → IsFirstRefusalOrOutOfMemory (frame_refusal (state_of c) (begin_encoder room)) r × (d ≡ c) → Refuses start c h k old new p q log_same (begins room) r (refusal_seen r) → Refused start c h k old new p q log_same d (begins room) r (refusal_seen r)
+  begin_refused runs room r d m a = by (refusal_seen r) refl m.0 a
+    where
+      by : (o : Option model.Refusal) → refusal_seen r ≡ o → MatchOption o (frame_refusal (state_of c) (begin_encoder room) ≡ None) (λ x. frame_refusal (state_of c) (begin_encoder room) ≡ Some x) → Refuses start c h k old new p q log_same (begins room) r o → Refused start c h k old new p q log_same d (begins room) r o
+      by None seen first a = refused_by start c h k old new p q log_same d m.1 (begins room) r None (λ x e. absurd (none-some x e)) a
+      by (Some x) seen first a = refused_by start c h k old new p q log_same d m.1 (begins room) r (Some x) (λ y e. running start c h k old new p q log_same runs (begins room) (refused r) (subst (λ (o : Option model.Refusal). IsToldOrRefused o (begun (state_after start h).encoders) (refused r)) (sym (sym (begin_refusal_is room) ∙ first)) (r, refl, seen))) a
+
+-- ---- what a caller is told of the end of a frame
+
+pub ok_framed : (start : CallState) (p q : ResPass) (number : ℕ) (answer : Result FrameReport Refusal) (result : Result FrameReport LockRefusal) (report : FrameReport) → answer ≡ Ok report → result ≡ Ok report → Calls start ends_frame (frame_reply number answer) p q → IsFramed start result p q
+ok_framed start p q number answer result report is e m = subst (λ (x : Result FrameReport LockRefusal). IsFramed start x p q) (sym e) (subst (λ (x : Result FrameReport Refusal). Calls start ends_frame (frame_reply number x) p q) is m)
+
+pub err_framed : (start : CallState) (p q : ResPass) (number : ℕ) (answer : Result FrameReport Refusal) (result : Result FrameReport LockRefusal) (r : Refusal) → answer ≡ Err r → result ≡ Err (lock_refusals.Refused r) → Calls start ends_frame (frame_reply number answer) p q → IsFramed start result p q
+err_framed start p q number answer result r is e m = subst (λ (x : Result FrameReport LockRefusal). IsFramed start x p q) (sym e) (by (refusal_seen r) (subst (λ (x : Result FrameReport Refusal). Calls start ends_frame (frame_reply number x) p q) is m))
+  where
+    by : (o : Option model.Refusal) → Calls start ends_frame (refusal_reply number r o) p q → MatchOption o (IsOutOfMemory start p q) (λ x. Calls start ends_frame (refused r) p q)
+    by None m = inr (number, m)
+    by (Some x) m = m

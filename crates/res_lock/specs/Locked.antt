@@ -1,0 +1,54 @@
+-- What lies behind the lock.
+use Rattle.std.specs.Prelude.{◌≡◌, false, ◌<◌, ◌+◌, List, [], ◌∷◌, ◌++◌, vec_len, vec_capacity}
+use Rattle.atomic_table.specs.Seated.{TableId}
+use Rattle.gfx_model.specs.FrameCalls.{CallState}
+use Rattle.resource_laws.specs.Bare.{bare_of}
+use Rattle.gfx_context.specs.States.{ContextView, state_of}
+use Rattle.res_lock.specs.Histories.{LockCall, Reply, LockEntry, state_after, IsLegal}
+use Rattle.res_lock.specs.Seen.{entries_seen}
+use Rattle.res_lock.specs.Views.{GoesOn}
+use Rattle.res_lock.specs.Seats.{pen_table, pass_view, caller_of, made_by}
+use Rattle.res_lock.specs.Called.{entry_of, IsSamePass}
+use Rattle.res_lock.specs.declared.table.ResPass.{ResPass}
+use Rattle.res_lock.specs.declared.log.Log.{Log}
+
+-- the entries of a log
+abbrev pub log_entries : Log → List LockEntry
+log_entries l = entries_seen l.history.items
+
+-- the table of a log
+abbrev pub table_of_log : Log → TableId
+table_of_log l = pen_table l.pen
+
+-- a log has room for an entry
+abbrev pub HasRoom : Log → Type 0
+HasRoom l = vec_len l.history < vec_capacity l.history
+
+-- an entry of a pass is appended: the history has gone on from what the pass had seen, with no call of the pass, and the pass has seen it
+pub record Adds (call : LockCall) (reply : Reply) (old new : Log) (p q : ResPass) : Type 0 where
+  pub entries : log_entries new ≡ log_entries old ++ entry_of call reply p ∷ []
+  pub table : table_of_log new ≡ table_of_log old
+  pub on : GoesOn (pass_view p).callers (pass_view p).seen (log_entries old)
+  pub view : pass_view q ≡ record (pass_view p) { seen = log_entries new }
+  pub made : made_by q ≡ made_by p + 1
+  pub same : IsSamePass p q
+
+-- a context, and the history of its calls
+pub record LockView (L : Type 0) : Type 0 where
+  pub context : ContextView L
+  pub history : List LockEntry
+
+-- nothing is made, no encoder is begun, and the context is not ended
+pub record IsOpening (s : CallState) : Type 0 where
+  pub nothing : s.resources.things ≡ []
+  pub none_begun : s.encoders ≡ 0
+  pub runs : s.is_ended ≡ false
+
+-- a state of the calls without contents. How many frames are out is the context's to say, since a frame that is not given may have taken one back or not
+abbrev pub bared : CallState → CallState → CallState
+bared s context = record s { resources = bare_of s.resources; out = context.out }
+
+-- the history is legal from its start, and the context's state is that after it: so it is ended exactly where the history has an ending
+pub record IsKept {L : Type 0} (start : CallState) (v : LockView L) : Type 0 where
+  pub legal : IsLegal start v.history
+  pub same : state_of v.context ≡ bared (state_after start v.history) (state_of v.context)
