@@ -1,5 +1,5 @@
 // What no clause says at once: that each call is accepted once, two callers, a context that is ended.
-ghost use Rattle.std.specs.Prelude.{◌≡◌, ◌<◌, ◌≤◌, ◌++◌, ℕ, List, [], map, IfSome};
+ghost use Rattle.std.specs.Prelude.{◌≡◌, ◌<◌, ◌≤◌, ◌++◌, ◌∷◌, ℕ, List, [], map, IfSome};
 ghost use Rattle.gfx_model.specs.Resources.{opening};
 ghost use Rattle.gfx_model.specs.FrameCalls.{opened};
 ghost use Rattle.gfx_model.specs.Views.{fewest_views};
@@ -93,28 +93,68 @@ impl FrameLink for ListLink {
     }
 }
 
-fn locked<'t, C: Naming, H: HistoryNaming>(
+// A link for contexts that end no frame: it waits for ever.
+#[derive(Drop)]
+struct IdleLink;
+
+impl FrameLink for IdleLink {
+    ghost use Rattle.std.specs.Prelude.{[]};
+
+    ghost given = { λ l. [] };
+
+    ghost back = { λ l. [] };
+
+    ghost latency = { λ l. 1 };
+
+    ghost Origin = { Unit {0} };
+
+    ghost origin = { λ l. tt };
+
+    fn give<R: Threads + Wait + Sync>(&mut self, rt: &R, frame: Frame) {
+        let _ = frame;
+        wait(rt);
+    }
+
+    fn try_take_back<R: Wait>(&mut self, rt: &R) -> Option<RenderedFrame> {
+        let _ = rt;
+        None
+    }
+
+    fn take_back<R: Threads + Wait + Sync>(&mut self, rt: &R) -> RenderedFrame {
+        wait(rt);
+        unreachable!()
+    }
+}
+
+// Frames that come back with the outcome.
+fn list_link(alloc: Global, outcome: Outcome) -> ListLink
+    ensures { (result.out.items ≡ []) × (result.backs.items ≡ []) }
+{
+    ListLink {
+        outcome,
+        out: Vec::new(alloc),
+        backs: Vec::new(alloc),
+    }
+}
+
+fn locked<'t, C: Naming, L: FrameLink + Drop, H: HistoryNaming>(
     alloc: Global,
     shared: &'t Shared<C>,
     seat: ApiSeat,
     table: HistoryTable,
-    outcome: Outcome,
-) -> Option<ResLock<'t, C, ListLink, H>>
+    link: L,
+) -> Option<ResLock<'t, C, L, H>>
     requires seat { (api_table seat ≡ C.table) × (api_view seat ≡ first_seat 0) }
     requires views { C.views ≡ fewest_views }
     requires table { table_of table ≡ H.table }
     requires start { H.start ≡ opened (opening 256 1 0 1) }
+    requires link { (L.latency link ≡ 1) × (L.given link ≡ frames_of (L.back link)) }
 {
     let start = Start {
         frame: 0,
         serial: 1,
         views: 256,
         latency: 1,
-    };
-    let link = ListLink {
-        outcome,
-        out: Vec::new(alloc),
-        backs: Vec::new(alloc),
     };
     let Ok(context) = Context::init(alloc, shared, seat, link, start) else {
         return None;
@@ -287,7 +327,8 @@ fn all_calls<C: Naming, H: HistoryNaming, R: Threads + Wait + Sync>(
     requires start { H.start ≡ opened (opening 256 1 0 1) }
 {
     let shared = Shared::<C>::new(alloc, hold).ok()?;
-    let lock = locked::<C, H>(alloc, &shared, seat, table, Outcome::Shown)?;
+    let link = list_link(alloc, Outcome::Shown);
+    let lock = locked::<C, ListLink, H>(alloc, &shared, seat, table, link)?;
     let (pass, vertices) = makes_buffers(rt, &lock, pass, layout)?;
     let (pass, texture, target) = makes_target(rt, &lock, pass)?;
     let pass = makes_program(rt, &lock, pass)?;
@@ -328,46 +369,121 @@ fn each_call_is_accepted(rt: HostRuntime) -> Result<(), Fail> {
 
 // ---- two callers
 
+// The index and the serial of what was made.
+fn made(answer: Result<Handle, LockRefusal>) -> Option<(u16, u32)> {
+    match answer {
+        Ok(handle) => Some((handle.index(), handle.serial())),
+        Err(_) => None,
+    }
+}
+
 // The first of two: a call before the gate, and one behind it.
 fn leads<C: Naming, H: HistoryNaming, R: Wait>(
     rt: &R,
-    lock: &ResLock<'_, C, ListLink, H>,
+    lock: &ResLock<'_, C, IdleLink, H>,
     gate: &Barrier,
     mut pass: ResPass,
-) -> ResPass
+) -> [Option<(u16, u32)>; 2]
     requires { pass_table pass ≡ H.table }
-    ensures { IsSamePass pass result }
 {
+    let mut told = [None; 2];
     if few(&pass).is_some() {
-        let _ = lock.create_program(rt, &mut pass, ProgramKind::Solid);
+        told[0] = made(lock.create_program(rt, &mut pass, ProgramKind::Solid));
     }
     gate.wait(rt);
     gate.wait(rt);
     if few(&pass).is_some() {
-        let _ = lock.create_uniform(rt, &mut pass, b"u", UniformKind::Int);
+        told[1] = made(lock.create_program(rt, &mut pass, ProgramKind::Color));
     }
-    pass
+    told
 }
 
 // The second: a call between.
 fn follows<C: Naming, H: HistoryNaming, R: Wait>(
     rt: &R,
-    lock: &ResLock<'_, C, ListLink, H>,
+    lock: &ResLock<'_, C, IdleLink, H>,
     gate: &Barrier,
     mut pass: ResPass,
-) -> ResPass
+) -> Option<(u16, u32)>
     requires { pass_table pass ≡ H.table }
-    ensures { IsSamePass pass result }
 {
+    let mut told = None;
     gate.wait(rt);
     if few(&pass).is_some() {
-        let _ = lock.create_program(rt, &mut pass, ProgramKind::Solid);
+        told = made(lock.create_program(rt, &mut pass, ProgramKind::Solid));
     }
     gate.wait(rt);
-    pass
+    told
+}
+
+// What both callers were told, each in a thread of its own.
+fn beside<C: Naming + Send + Sync, H: HistoryNaming + Send + Sync, R: Threads + Wait + Sync>(
+    rt: &R,
+    lock: &ResLock<'_, C, IdleLink, H>,
+    first: ResPass,
+    second: ResPass,
+) -> ([Option<(u16, u32)>; 2], Option<(u16, u32)>)
+    requires { (pass_table first ≡ H.table) × (pass_table second ≡ H.table) }
+{
+    let gate = Barrier::new(2);
+    thread::join(
+        rt,
+        || -> [Option<(u16, u32)>; 2]
+            requires { pass_table first ≡ H.table }
+        { leads(rt, lock, &gate, first) },
+        || -> Option<(u16, u32)>
+            requires { pass_table second ≡ H.table }
+        { follows(rt, lock, &gate, second) },
+    )
 }
 
 fn by_two<C: Naming + Send + Sync, H: HistoryNaming + Send + Sync, R: Threads + Wait + Sync>(
+    rt: &R,
+    alloc: Global,
+    hold: HoldTable,
+    seat: ApiSeat,
+    table: HistoryTable,
+    pass: ResPass,
+) -> Option<([Option<(u16, u32)>; 2], Option<(u16, u32)>)>
+    requires hold { (hold_of hold ≡ C.table) × (api_table seat ≡ C.table) × (api_view seat ≡ first_seat 0) }
+    requires views { C.views ≡ fewest_views }
+    requires table { (table_of table ≡ H.table) × (pass_table pass ≡ H.table) × (pass_view pass ≡ first_view) }
+    requires start { H.start ≡ opened (opening 256 1 0 1) }
+{
+    let shared = Shared::<C>::new(alloc, hold).ok()?;
+    let lock = locked::<C, IdleLink, H>(alloc, &shared, seat, table, IdleLink)?;
+    let mut first = pass;
+    let second = lock.split(&mut first);
+    Some(beside(rt, &lock, first, second))
+}
+
+#[test]
+fn two_callers(rt: HostRuntime) -> Result<(), Fail> {
+    let (hold, seat) = HoldTable::new(rt.alloc(), 0)?;
+    let (table, pass) = HistoryTable::new(rt.alloc())?;
+    let (first, second) = by_two::<Brand, Brand, _>(&rt, rt.alloc(), hold, seat, table, pass).ok_or(
+        "memory",
+    )?;
+    assert_eq!(rt; first, [Some((0, 1)), Some((2, 3))]);
+    assert_eq!(rt; second, Some((1, 2)));
+    Ok(())
+}
+
+// One call of a pass.
+fn makes_one<C: Naming, H: HistoryNaming, R: Wait>(
+    rt: &R,
+    lock: &ResLock<'_, C, IdleLink, H>,
+    mut pass: ResPass,
+) -> Option<ResPass>
+    requires { pass_table pass ≡ H.table }
+    ensures { IfSome result (λ r. IsSamePass pass r) }
+{
+    few(&pass)?;
+    lock.create_program(rt, &mut pass, ProgramKind::Solid).ok()?;
+    Some(pass)
+}
+
+fn in_turn<C: Naming, H: HistoryNaming, R: Wait>(
     rt: &R,
     alloc: Global,
     hold: HoldTable,
@@ -381,49 +497,27 @@ fn by_two<C: Naming + Send + Sync, H: HistoryNaming + Send + Sync, R: Threads + 
     requires start { H.start ≡ opened (opening 256 1 0 1) }
 {
     let shared = Shared::<C>::new(alloc, hold).ok()?;
-    let lock = locked::<C, H>(alloc, &shared, seat, table, Outcome::Shown)?;
-    let mut pass = pass;
-    let second = lock.split(&mut pass);
-    let gate = Barrier::new(2);
-    let (mut pass, second) = thread::join(
-        rt,
-        || -> ResPass
-            requires { pass_table pass ≡ H.table }
-            ensures { IsSamePass pass result }
-        { leads(rt, &lock, &gate, pass) },
-        || -> ResPass
-            requires { pass_table second ≡ H.table }
-            ensures { IsSamePass second result }
-        { follows(rt, &lock, &gate, second) },
-    );
-    lock.join(&mut pass, second);
-    let (_, history) = lock.close(pass);
+    let lock = locked::<C, IdleLink, H>(alloc, &shared, seat, table, IdleLink)?;
+    let mut first = makes_one(rt, &lock, pass)?;
+    let second = lock.split(&mut first);
+    let second = makes_one(rt, &lock, second)?;
+    let mut first = makes_one(rt, &lock, first)?;
+    lock.join(&mut first, second);
+    let (_, history) = lock.close(first);
     Some(history)
 }
 
-// The index and the serial of what was made.
-fn made(reply: &ResReply) -> Option<(u16, u32)> {
-    match reply {
-        ResReply::Made { handle } => Some((handle.index(), handle.serial())),
-        _ => None,
-    }
-}
-
 #[test]
-fn two_callers(rt: HostRuntime) -> Result<(), Fail> {
+fn a_history_of_two(rt: HostRuntime) -> Result<(), Fail> {
     let (hold, seat) = HoldTable::new(rt.alloc(), 0)?;
     let (table, pass) = HistoryTable::new(rt.alloc())?;
-    let history = by_two::<Brand, Brand, _>(&rt, rt.alloc(), hold, seat, table, pass).ok_or(
+    let history = in_turn::<Brand, Brand, _>(&rt, rt.alloc(), hold, seat, table, pass).ok_or(
         "memory",
     )?;
-    let wanted = [
-        (0, 0, Some((0, 1))),
-        (1, 0, Some((1, 2))),
-        (0, 1, Some((0, 3))),
-    ];
+    let wanted = [(0, 0), (1, 0), (0, 1)];
     assert_eq!(rt; history.len(), wanted.len());
     for (entry, want) in history.iter().zip(wanted) {
-        assert_eq!(rt; (entry.caller, entry.ordinal, made(&entry.reply)), want);
+        assert_eq!(rt; (entry.caller, entry.ordinal), want);
     }
     Ok(())
 }
@@ -505,7 +599,8 @@ fn ends<C: Naming, H: HistoryNaming, R: Threads + Wait + Sync>(
     requires start { H.start ≡ opened (opening 256 1 0 1) }
 {
     let shared = Shared::<C>::new(alloc, hold).ok()?;
-    let lock = locked::<C, H>(alloc, &shared, seat, table, Outcome::PictureFault)?;
+    let link = list_link(alloc, Outcome::PictureFault);
+    let lock = locked::<C, ListLink, H>(alloc, &shared, seat, table, link)?;
     let (pass, again) = destroyed_again(rt, &lock, pass)?;
     let (pass, given) = two_frames(rt, &lock, pass)?;
     let (pass, refused) = three_refused(rt, &lock, pass)?;
@@ -531,16 +626,22 @@ fn a_fault_ends_the_context(rt: HostRuntime) -> Result<(), Fail> {
     );
     assert!(rt; stale);
     assert_eq!(rt; answers.given, [true, false]);
-    assert_eq!(rt; answers.refused, [Some(LockRefusal::Ended { frame: 1 }); 3]);
-    let ending = ResReply::Ending {
-        frame: 1,
-        outcome: Outcome::PictureFault,
-    };
-    let ended = ResReply::Ended { frame: 1 };
-    let wanted = [ResReply::Frame { number: 0 }, ending, ended, ended, ended];
-    assert_eq!(rt; answers.history.len(), 8);
-    for (entry, want) in answers.history.iter().skip(3).zip(wanted) {
-        assert_eq!(rt; entry.reply, want);
+    for refusal in &answers.refused {
+        assert!(rt; matches!(refusal, Some(LockRefusal::Ended { frame: 1 })));
+    }
+    let told = &answers.history;
+    assert_eq!(rt; told.len(), 8);
+    assert!(rt; matches!(told[3].reply, ResReply::Frame { number: 0 }));
+    let ending = matches!(
+        told[4].reply,
+        ResReply::Ending {
+            frame: 1,
+            outcome: Outcome::PictureFault
+        }
+    );
+    assert!(rt; ending);
+    for entry in told.iter().skip(5) {
+        assert!(rt; matches!(entry.reply, ResReply::Ended { frame: 1 }));
     }
     Ok(())
 }
