@@ -1,4 +1,4 @@
-// What no clause says at once: that each call is accepted once, two callers, a context that is ended.
+// What no clause says at once: that each call is accepted once, a context that is ended.
 ghost use Rattle.std.specs.Prelude.{◌≡◌, ◌<◌, ◌≤◌, ◌++◌, ◌∷◌, ℕ, List, [], map, IfSome};
 ghost use Rattle.gfx_model.specs.Resources.{opening};
 ghost use Rattle.gfx_model.specs.FrameCalls.{opened};
@@ -20,9 +20,8 @@ use hold_table::{ApiSeat, HoldTable};
 use std::alloc::Global;
 use std::marker::Brand;
 use std::snapshot::Snapshot;
-use std::sync::{Barrier, Wait};
+use std::sync::Wait;
 use std::test::Fail;
-use std::thread;
 use std::thread::Threads;
 use vertex_layout::{Attr, AttrType, LayoutBuilder, VertexLayout};
 
@@ -90,39 +89,6 @@ impl FrameLink for ListLink {
             wait(rt);
         }
         rendered
-    }
-}
-
-// A link for contexts that end no frame: it waits for ever.
-#[derive(Drop)]
-struct IdleLink;
-
-impl FrameLink for IdleLink {
-    ghost use Rattle.std.specs.Prelude.{[]};
-
-    ghost given = { λ l. [] };
-
-    ghost back = { λ l. [] };
-
-    ghost latency = { λ l. 1 };
-
-    ghost Origin = { Unit {0} };
-
-    ghost origin = { λ l. tt };
-
-    fn give<R: Threads + Wait + Sync>(&mut self, rt: &R, frame: Frame) {
-        let _ = frame;
-        wait(rt);
-    }
-
-    fn try_take_back<R: Wait>(&mut self, rt: &R) -> Option<RenderedFrame> {
-        let _ = rt;
-        None
-    }
-
-    fn take_back<R: Threads + Wait + Sync>(&mut self, rt: &R) -> RenderedFrame {
-        wait(rt);
-        unreachable!()
     }
 }
 
@@ -363,161 +329,6 @@ fn each_call_is_accepted(rt: HostRuntime) -> Result<(), Fail> {
             ResReply::Made { .. } | ResReply::Unit | ResReply::Frame { .. } | ResReply::Begun { .. }
         );
         assert!(rt; accepted, "at {}", entry.ordinal);
-    }
-    Ok(())
-}
-
-// ---- two callers
-
-// The index and the serial of what was made.
-fn made(answer: Result<Handle, LockRefusal>) -> Option<(u16, u32)> {
-    match answer {
-        Ok(handle) => Some((handle.index(), handle.serial())),
-        Err(_) => None,
-    }
-}
-
-// The first of two: a call before the gate, and one behind it.
-fn leads<C: Naming, H: HistoryNaming, R: Wait>(
-    rt: &R,
-    lock: &ResLock<'_, C, IdleLink, H>,
-    gate: &Barrier,
-    mut pass: ResPass,
-) -> [Option<(u16, u32)>; 2]
-    requires { pass_table pass ≡ H.table }
-{
-    let mut told = [None; 2];
-    if few(&pass).is_some() {
-        told[0] = made(lock.create_program(rt, &mut pass, ProgramKind::Solid));
-    }
-    gate.wait(rt);
-    gate.wait(rt);
-    if few(&pass).is_some() {
-        told[1] = made(lock.create_program(rt, &mut pass, ProgramKind::Color));
-    }
-    told
-}
-
-// The second: a call between.
-fn follows<C: Naming, H: HistoryNaming, R: Wait>(
-    rt: &R,
-    lock: &ResLock<'_, C, IdleLink, H>,
-    gate: &Barrier,
-    mut pass: ResPass,
-) -> Option<(u16, u32)>
-    requires { pass_table pass ≡ H.table }
-{
-    let mut told = None;
-    gate.wait(rt);
-    if few(&pass).is_some() {
-        told = made(lock.create_program(rt, &mut pass, ProgramKind::Solid));
-    }
-    gate.wait(rt);
-    told
-}
-
-// What both callers were told, each in a thread of its own.
-fn beside<C: Naming + Send + Sync, H: HistoryNaming + Send + Sync, R: Threads + Wait + Sync>(
-    rt: &R,
-    lock: &ResLock<'_, C, IdleLink, H>,
-    first: ResPass,
-    second: ResPass,
-) -> ([Option<(u16, u32)>; 2], Option<(u16, u32)>)
-    requires { (pass_table first ≡ H.table) × (pass_table second ≡ H.table) }
-{
-    let gate = Barrier::new(2);
-    thread::join(
-        rt,
-        || -> [Option<(u16, u32)>; 2]
-            requires { pass_table first ≡ H.table }
-        { leads(rt, lock, &gate, first) },
-        || -> Option<(u16, u32)>
-            requires { pass_table second ≡ H.table }
-        { follows(rt, lock, &gate, second) },
-    )
-}
-
-fn by_two<C: Naming + Send + Sync, H: HistoryNaming + Send + Sync, R: Threads + Wait + Sync>(
-    rt: &R,
-    alloc: Global,
-    hold: HoldTable,
-    seat: ApiSeat,
-    table: HistoryTable,
-    pass: ResPass,
-) -> Option<([Option<(u16, u32)>; 2], Option<(u16, u32)>)>
-    requires hold { (hold_of hold ≡ C.table) × (api_table seat ≡ C.table) × (api_view seat ≡ first_seat 0) }
-    requires views { C.views ≡ fewest_views }
-    requires table { (table_of table ≡ H.table) × (pass_table pass ≡ H.table) × (pass_view pass ≡ first_view) }
-    requires start { H.start ≡ opened (opening 256 1 0 1) }
-{
-    let shared = Shared::<C>::new(alloc, hold).ok()?;
-    let lock = locked::<C, IdleLink, H>(alloc, &shared, seat, table, IdleLink)?;
-    let mut first = pass;
-    let second = lock.split(&mut first);
-    Some(beside(rt, &lock, first, second))
-}
-
-#[test]
-fn two_callers(rt: HostRuntime) -> Result<(), Fail> {
-    let (hold, seat) = HoldTable::new(rt.alloc(), 0)?;
-    let (table, pass) = HistoryTable::new(rt.alloc())?;
-    let (first, second) = by_two::<Brand, Brand, _>(&rt, rt.alloc(), hold, seat, table, pass).ok_or(
-        "memory",
-    )?;
-    assert_eq!(rt; first, [Some((0, 1)), Some((2, 3))]);
-    assert_eq!(rt; second, Some((1, 2)));
-    Ok(())
-}
-
-// One call of a pass.
-fn makes_one<C: Naming, H: HistoryNaming, R: Wait>(
-    rt: &R,
-    lock: &ResLock<'_, C, IdleLink, H>,
-    mut pass: ResPass,
-) -> Option<ResPass>
-    requires { pass_table pass ≡ H.table }
-    ensures { IfSome result (λ r. IsSamePass pass r) }
-{
-    few(&pass)?;
-    lock.create_program(rt, &mut pass, ProgramKind::Solid).ok()?;
-    Some(pass)
-}
-
-fn in_turn<C: Naming, H: HistoryNaming, R: Wait>(
-    rt: &R,
-    alloc: Global,
-    hold: HoldTable,
-    seat: ApiSeat,
-    table: HistoryTable,
-    pass: ResPass,
-) -> Option<Vec<Entry>>
-    requires hold { (hold_of hold ≡ C.table) × (api_table seat ≡ C.table) × (api_view seat ≡ first_seat 0) }
-    requires views { C.views ≡ fewest_views }
-    requires table { (table_of table ≡ H.table) × (pass_table pass ≡ H.table) × (pass_view pass ≡ first_view) }
-    requires start { H.start ≡ opened (opening 256 1 0 1) }
-{
-    let shared = Shared::<C>::new(alloc, hold).ok()?;
-    let lock = locked::<C, IdleLink, H>(alloc, &shared, seat, table, IdleLink)?;
-    let mut first = makes_one(rt, &lock, pass)?;
-    let second = lock.split(&mut first);
-    let second = makes_one(rt, &lock, second)?;
-    let mut first = makes_one(rt, &lock, first)?;
-    lock.join(&mut first, second);
-    let (_, history) = lock.close(first);
-    Some(history)
-}
-
-#[test]
-fn a_history_of_two(rt: HostRuntime) -> Result<(), Fail> {
-    let (hold, seat) = HoldTable::new(rt.alloc(), 0)?;
-    let (table, pass) = HistoryTable::new(rt.alloc())?;
-    let history = in_turn::<Brand, Brand, _>(&rt, rt.alloc(), hold, seat, table, pass).ok_or(
-        "memory",
-    )?;
-    let wanted = [(0, 0), (1, 0), (0, 1)];
-    assert_eq!(rt; history.len(), wanted.len());
-    for (entry, want) in history.iter().zip(wanted) {
-        assert_eq!(rt; (entry.caller, entry.ordinal), want);
     }
     Ok(())
 }
