@@ -17,7 +17,10 @@ use Rattle.draw_encoder.specs.Names.{FitsItem}
 use Rattle.draw_encoder.specs.Bundles.{items_of, BelongTogether}
 use Rattle.draw_encoder.proofs.NameLaws.{item_fits, uniforms_fit}
 use Rattle.frame_record.specs.Kept.{numbers_in}
+use Rattle.atomic_table.specs.Seated.{TableId}
 use Rattle.context_core.specs.Places.{IsUsable}
+use Rattle.context_core.specs.States.{CoreState, CoreView, core_of}
+use Rattle.context_core.specs.Ended.{Gathers}
 use Rattle.context_core.specs.Gathered.{encoders_in, IsCollected, AreCollected, AreGathered, with_gathered, dropped_in}
 
 pub numbers_snoc : (rs : List Recording) (r : Recording) → numbers_in (rs ++ r ∷ []) ≡ numbers_in rs ++ numbers_of r.items
@@ -81,6 +84,14 @@ fewer_off old new seat is off =
     let now = ap (λ (x : SeatView). length x.off) is in
     let shorter = length_without (enc_view seat).encoder old.off (omega (arith, off)) in
     omega (arith, now, shorter)
+
+pub gathers_told : (t u : TableId) (v : CoreState) (s : SeatView) (rs : List Recording) (r : Recording) (seat : EncSeat) → s ≡ joined_with v.seat (enc_view seat) → rs ≡ v.gathered ++ r ∷ [] → count_of (enc_view seat).encoder v.seat.off ≡ 1
+    → (old : CoreView) → core_of t v ≡ old → u ≡ old.table → Gathers r (enc_view seat) old (core_of u (record v { seat = s; gathered = rs }))
+gathers_told t u v s rs r seat is kept off old e same = record {
+  was_off = subst (λ (o : CoreView). count_of (enc_view seat).encoder o.state.seat.off ≡ 1) e off;
+  fewer = subst (λ (o : CoreView). length s.off + 1 ≡ length o.state.seat.off) e (fewer_off v.seat s seat is off);
+  after = (λ j. core_of (same j) (record v { seat = is j; gathered = kept j })) ∙ ap (λ (o : CoreView). core_of old.table (record o.state { seat = joined_with o.state.seat (enc_view seat); gathered = o.state.gathered ++ r ∷ [] })) e;
+}
 
 -- ---- the numbers that encoders ended with
 

@@ -3,7 +3,7 @@ use Rattle.std.specs.Prelude.{◌≡◌, ◌+◌, true, List, [], ◌∷◌, Som
 use Rattle.std.specs.List.{find}
 use Rattle.gfx_model.specs.Words.{Handle, place_of_handle}
 use Rattle.gfx_model.specs.World.{Change}
-use Rattle.gfx_model.specs.Views.{view_count}
+use Rattle.gfx_model.specs.Views.{IsViewCount, view_count}
 use Rattle.gfx_model.specs.Recorder.{Room}
 use Rattle.gfx_model.specs.Resources.{ResourceCall, destroy, references_of, is_at, refusal_of, effect}
 use Rattle.gfx_model.specs.FrameCalls.{begin_encoder, frame_refusal, frame_effect}
@@ -95,6 +95,7 @@ pub record Lends (room : Room) (l : Lent) (old new : CoreView) : Type 0 where
   pub number : l.number ≡ old.state.begun
   pub frame : l.frame ≡ old.state.book.resources.frame
   pub views : l.views ≡ view_count old.state.book.resources.views
+  pub counted : IsViewCount l.views
   pub table : enc_table l.seat ≡ old.table
   pub seat : enc_view l.seat ≡ fresh old.state.begun old.state.seat
   pub after : new ≡ record old { state = with_lent old.state }

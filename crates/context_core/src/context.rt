@@ -43,6 +43,7 @@ pub struct ContextCore {
 
 impl Model for ContextCore {
     ghost use Rattle.std.specs.Prelude.{◌≤◌, ⊤, vec_capacity};
+    ghost use Rattle.gfx_model.specs.Views.{IsViewCount};
     ghost use Rattle.hold_table.specs.Seats.{api_table, api_view};
     ghost use Rattle.context_core.specs.Gathered.{anything};
     ghost use Rattle.context_core.specs.Kept.{IsCore};
@@ -63,7 +64,7 @@ impl Model for ContextCore {
       };
     } };
 
-    ghost invariant = { λ c. (8 ≤ vec_capacity c.gathered) × IsCore anything c.views ⊤ (record {
+    ghost invariant = { λ c. (8 ≤ vec_capacity c.gathered) × IsViewCount c.views × IsCore anything c.views ⊤ (record {
       book = c.book;
       seat = api_view c.api;
       begun = c.begun;
@@ -162,6 +163,7 @@ impl ContextCore {
     /// What every core keeps.
     pub fn tell_facts(&self)
         ensures lawful { IsLawful self.now.state.book.resources }
+        ensures views { IsViewCount (view_count self.now.state.book.resources.views) }
         ensures keeps { IsCore anything (view_count self.now.state.book.resources.views) ⊤ self.now.state }
     {
         self.book.tell_facts();

@@ -5,7 +5,7 @@ use Rattle.context_core.proofs.context.ContextCore.reset_view.Goals as goal
 
 pub invariant_of-self : goal.invariant_of-self
 invariant_of-self c =
-    (c.self.invariant.0, kept_changes c.self.invariant.1 (reset_view c.args.view) (quiet_reset_view (api_view c.self.inside.api) c.self.inside.book.resources c.args.view) c.reset_view.new.self c.reset_view.result c.reset_view.ensures)
+    (c.self.invariant.0, c.self.invariant.1, kept_changes c.self.invariant.2 (reset_view c.args.view) (quiet_reset_view (api_view c.self.inside.api) c.self.inside.book.resources c.args.view) c.reset_view.new.self c.reset_view.result c.reset_view.ensures)
 
 pub returns : goal.returns
-returns c = changes_told c.self.invariant.1 (reset_view c.args.view) (quiet_reset_view (api_view c.self.inside.api) c.self.inside.book.resources c.args.view) c.reset_view.new.self (api_table c.self.inside.api) c.reset_view.result c.reset_view.ensures _ c.self.view_is
+returns c = changes_told c.self.invariant.2 (reset_view c.args.view) (quiet_reset_view (api_view c.self.inside.api) c.self.inside.book.resources c.args.view) c.reset_view.new.self (api_table c.self.inside.api) c.reset_view.result c.reset_view.ensures _ c.self.view_is

@@ -5,7 +5,7 @@ use Rattle.context_core.proofs.context.ContextCore.set_view_order.Goals as goal
 
 pub invariant_of-self : goal.invariant_of-self
 invariant_of-self c =
-    (c.self.invariant.0, kept_changes c.self.invariant.1 (set_view_order c.args.ids.now) (quiet_set_view_order (api_view c.self.inside.api) c.self.inside.book.resources c.args.ids.now) c.set_view_order.new.self c.set_view_order.result c.set_view_order.ensures)
+    (c.self.invariant.0, c.self.invariant.1, kept_changes c.self.invariant.2 (set_view_order c.args.ids.now) (quiet_set_view_order (api_view c.self.inside.api) c.self.inside.book.resources c.args.ids.now) c.set_view_order.new.self c.set_view_order.result c.set_view_order.ensures)
 
 pub returns : goal.returns
-returns c = changes_told c.self.invariant.1 (set_view_order c.args.ids.now) (quiet_set_view_order (api_view c.self.inside.api) c.self.inside.book.resources c.args.ids.now) c.set_view_order.new.self (api_table c.self.inside.api) c.set_view_order.result c.set_view_order.ensures _ c.self.view_is
+returns c = changes_told c.self.invariant.2 (set_view_order c.args.ids.now) (quiet_set_view_order (api_view c.self.inside.api) c.self.inside.book.resources c.args.ids.now) c.set_view_order.new.self (api_table c.self.inside.api) c.set_view_order.result c.set_view_order.ensures _ c.self.view_is

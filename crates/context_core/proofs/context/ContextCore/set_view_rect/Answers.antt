@@ -6,7 +6,7 @@ use Rattle.context_core.proofs.context.ContextCore.set_view_rect.Goals as goal
 
 pub invariant_of-self : goal.invariant_of-self
 invariant_of-self c =
-    (c.self.invariant.0, kept_changes c.self.invariant.1 (set_view_rect c.args.view (rect_seen c.args.rect)) (quiet_set_view_rect (api_view c.self.inside.api) c.self.inside.book.resources c.args.view (rect_seen c.args.rect)) c.set_view_rect.new.self c.set_view_rect.result c.set_view_rect.ensures)
+    (c.self.invariant.0, c.self.invariant.1, kept_changes c.self.invariant.2 (set_view_rect c.args.view (rect_seen c.args.rect)) (quiet_set_view_rect (api_view c.self.inside.api) c.self.inside.book.resources c.args.view (rect_seen c.args.rect)) c.set_view_rect.new.self c.set_view_rect.result c.set_view_rect.ensures)
 
 pub returns : goal.returns
-returns c = changes_told c.self.invariant.1 (set_view_rect c.args.view (rect_seen c.args.rect)) (quiet_set_view_rect (api_view c.self.inside.api) c.self.inside.book.resources c.args.view (rect_seen c.args.rect)) c.set_view_rect.new.self (api_table c.self.inside.api) c.set_view_rect.result c.set_view_rect.ensures _ c.self.view_is
+returns c = changes_told c.self.invariant.2 (set_view_rect c.args.view (rect_seen c.args.rect)) (quiet_set_view_rect (api_view c.self.inside.api) c.self.inside.book.resources c.args.view (rect_seen c.args.rect)) c.set_view_rect.new.self (api_table c.self.inside.api) c.set_view_rect.result c.set_view_rect.ensures _ c.self.view_is

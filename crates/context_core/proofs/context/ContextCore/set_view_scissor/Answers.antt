@@ -6,7 +6,7 @@ use Rattle.context_core.proofs.context.ContextCore.set_view_scissor.Goals as goa
 
 pub invariant_of-self : goal.invariant_of-self
 invariant_of-self c =
-    (c.self.invariant.0, kept_changes c.self.invariant.1 (set_view_scissor c.args.view (rect_seen c.args.rect)) (quiet_set_view_scissor (api_view c.self.inside.api) c.self.inside.book.resources c.args.view (rect_seen c.args.rect)) c.set_view_scissor.new.self c.set_view_scissor.result c.set_view_scissor.ensures)
+    (c.self.invariant.0, c.self.invariant.1, kept_changes c.self.invariant.2 (set_view_scissor c.args.view (rect_seen c.args.rect)) (quiet_set_view_scissor (api_view c.self.inside.api) c.self.inside.book.resources c.args.view (rect_seen c.args.rect)) c.set_view_scissor.new.self c.set_view_scissor.result c.set_view_scissor.ensures)
 
 pub returns : goal.returns
-returns c = changes_told c.self.invariant.1 (set_view_scissor c.args.view (rect_seen c.args.rect)) (quiet_set_view_scissor (api_view c.self.inside.api) c.self.inside.book.resources c.args.view (rect_seen c.args.rect)) c.set_view_scissor.new.self (api_table c.self.inside.api) c.set_view_scissor.result c.set_view_scissor.ensures _ c.self.view_is
+returns c = changes_told c.self.invariant.2 (set_view_scissor c.args.view (rect_seen c.args.rect)) (quiet_set_view_scissor (api_view c.self.inside.api) c.self.inside.book.resources c.args.view (rect_seen c.args.rect)) c.set_view_scissor.new.self (api_table c.self.inside.api) c.set_view_scissor.result c.set_view_scissor.ensures _ c.self.view_is

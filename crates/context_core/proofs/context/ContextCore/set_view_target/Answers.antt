@@ -5,7 +5,7 @@ use Rattle.context_core.proofs.context.ContextCore.set_view_target.Goals as goal
 
 pub invariant_of-self : goal.invariant_of-self
 invariant_of-self c =
-    (c.self.invariant.0, kept_changes c.self.invariant.1 (set_view_target c.args.view c.args.target) (quiet_set_view_target (api_view c.self.inside.api) c.self.inside.book.resources c.tell_facts.ensures c.self.invariant.1.tied.placed c.args.view c.args.target) c.set_view_target.new.self c.set_view_target.result c.set_view_target.ensures)
+    (c.self.invariant.0, c.self.invariant.1, kept_changes c.self.invariant.2 (set_view_target c.args.view c.args.target) (quiet_set_view_target (api_view c.self.inside.api) c.self.inside.book.resources c.tell_facts.ensures c.self.invariant.2.tied.placed c.args.view c.args.target) c.set_view_target.new.self c.set_view_target.result c.set_view_target.ensures)
 
 pub returns : goal.returns
-returns c = changes_told c.self.invariant.1 (set_view_target c.args.view c.args.target) (quiet_set_view_target (api_view c.self.inside.api) c.self.inside.book.resources c.tell_facts.ensures c.self.invariant.1.tied.placed c.args.view c.args.target) c.set_view_target.new.self (api_table c.self.inside.api) c.set_view_target.result c.set_view_target.ensures _ c.self.view_is
+returns c = changes_told c.self.invariant.2 (set_view_target c.args.view c.args.target) (quiet_set_view_target (api_view c.self.inside.api) c.self.inside.book.resources c.tell_facts.ensures c.self.invariant.2.tied.placed c.args.view c.args.target) c.set_view_target.new.self (api_table c.self.inside.api) c.set_view_target.result c.set_view_target.ensures _ c.self.view_is

@@ -5,7 +5,7 @@ use Rattle.context_core.proofs.context.ContextCore.update_buffer.Goals as goal
 
 pub invariant_of-self : goal.invariant_of-self
 invariant_of-self c =
-    (c.self.invariant.0, kept_updates c.self.invariant.1 (update_buffer c.args.buffer c.args.offset c.args.bytes.now) (quiet_update_buffer (api_view c.self.inside.api) c.self.inside.book.resources c.args.buffer c.args.offset c.args.bytes.now) c.update_buffer.new.self c.update_buffer.result c.update_buffer.ensures)
+    (c.self.invariant.0, c.self.invariant.1, kept_updates c.self.invariant.2 (update_buffer c.args.buffer c.args.offset c.args.bytes.now) (quiet_update_buffer (api_view c.self.inside.api) c.self.inside.book.resources c.args.buffer c.args.offset c.args.bytes.now) c.update_buffer.new.self c.update_buffer.result c.update_buffer.ensures)
 
 pub returns : goal.returns
-returns c = updates_told c.self.invariant.1 (update_buffer c.args.buffer c.args.offset c.args.bytes.now) (quiet_update_buffer (api_view c.self.inside.api) c.self.inside.book.resources c.args.buffer c.args.offset c.args.bytes.now) c.update_buffer.new.self (api_table c.self.inside.api) c.update_buffer.result c.update_buffer.ensures _ c.self.view_is
+returns c = updates_told c.self.invariant.2 (update_buffer c.args.buffer c.args.offset c.args.bytes.now) (quiet_update_buffer (api_view c.self.inside.api) c.self.inside.book.resources c.args.buffer c.args.offset c.args.bytes.now) c.update_buffer.new.self (api_table c.self.inside.api) c.update_buffer.result c.update_buffer.ensures _ c.self.view_is
