@@ -1,5 +1,5 @@
 -- The end of a frame, from its parts.
-use Rattle.std.proofs.Common.{◌≡◌, ℕ, suc, ◌+◌, ◌-◌, ◌<◌, ◌==◌, nat_le, Bool, true, false, ◌||◌, List, [], map, Option, Some, None, MatchOption, if◌then◌else◌, refl, sym, ap, ◌∙◌, subst, arith, eq-eqb, ne_eqb}
+use Rattle.std.proofs.Common.{◌≡◌, ℕ, suc, ◌+◌, ◌-◌, ◌<◌, ◌==◌, nat_le, Bool, true, false, ◌||◌, List, [], ◌∷◌, ◌++◌, map, Option, Some, None, MatchOption, if◌then◌else◌, refl, sym, ap, ◌∙◌, subst, arith, eq-eqb, ne_eqb}
 use Rattle.std.proofs.lemmas.Option.{none-some}
 use Rattle.gfx_model.specs.Frames.{collected}
 use Rattle.gfx_model.specs.Resources as model
@@ -12,9 +12,13 @@ use Rattle.gfx_context.specs.declared.report.BackNote.{BackNote}
 use Rattle.gfx_context.specs.declared.report.FrameReport.{FrameReport}
 use Rattle.context_core.specs.declared.ending.Prepared.{Prepared}
 use Rattle.context_core.specs.Ended.{IsPrepared, started}
+use Rattle.context_core.specs.Ended as cores
+use Rattle.context_core.specs.States.{CoreView}
+use Rattle.frame_record.specs.declared.frame.Frame.{Frame}
+use Rattle.resource_book.specs.declared.frames.Work.{Work}
 use Rattle.context_core.specs.Gathered.{dropped_in}
-use Rattle.gfx_context.specs.States.{ContextView, state_of}
-use Rattle.gfx_context.specs.Ended.{is_shown, MakesWay, FinishesWhere, GivesWhere, Ends}
+use Rattle.gfx_context.specs.States.{ContextView, context_of, state_of}
+use Rattle.gfx_context.specs.Ended.{is_shown, MakesWay, FinishesWhere, with_written, GivesWhere, Ends}
 
 -- what is known of the report before a frame is given or not
 pub record IsReport {L : Type 0} (report : FrameReport) (old : ContextView L) : Type 0 where
@@ -131,3 +135,36 @@ refused_by false e = refl
 -- an end that is not refused
 pub not_spent : {L : Type 0} (v : ContextView L) → frame_refusal (state_of v) end_frame ≡ None → nat_le greatest_frame v.book.resources.frame ≡ false
 not_spent v e = refused_by (nat_le greatest_frame v.book.resources.frame) e
+
+-- ---- whether the core made a frame
+
+pub made_none : (given : Bool) (work : Work) (o : Option Frame) (a b : CoreView) → o ≡ None → cores.Finishes given work o a b → (given ≡ false) × (b ≡ cores.ended_core a)
+made_none given work o a b is f = subst (λ (x : Option Frame). cores.Finishes given work x a b) is f
+
+pub made_some : (given : Bool) (work : Work) (o : Option Frame) (frame : Frame) (a b : CoreView) → o ≡ Some frame → cores.Finishes given work o a b → (given ≡ true) × cores.Gives work frame a b
+made_some given work o frame a b is f = subst (λ (x : Option Frame). cores.Finishes given work x a b) is f
+
+module _ {L : Type 0} (given : Bool) (work : Work) (a b : CoreView) (old : ContextView L) where
+  -- the context is ended
+  pub finishes_none : (gone : List Frame) (back : List RenderedFrame) (link : L) → (given ≡ false) × (b ≡ cores.ended_core a) → context_of a.state gone back link ≡ old → FinishesWhere given work old (context_of b.state gone back link)
+  finishes_none gone back link f e = subst (λ (x : Bool). FinishesWhere x work old (context_of b.state gone back link)) (sym f.0)
+      (ap (λ (c : CoreView). context_of c.state gone back link) f.1 ∙ ap (λ (o : ContextView L). record o { is_ended = true }) e)
+
+  -- the frame that the core made is given
+  pub finishes_some : (frame : Frame) (gone now : List Frame) (back new : List RenderedFrame) (link later : L) → (given ≡ true) × cores.Gives work frame a b → now ≡ gone ++ frame ∷ [] → new ≡ back → context_of a.state gone back link ≡ old
+      → FinishesWhere given work old (context_of b.state now new later)
+  finishes_some frame gone now back new link later f is same e = subst (λ (x : Bool). FinishesWhere x work old (context_of b.state now new later)) (sym f.0)
+      (subst (λ (o : ContextView L). FinishesWhere true work o (context_of b.state now new later)) e (
+        record {
+          frame = frame;
+          given = is;
+          is_of = f.1.is_of;
+          seat = f.1.seat;
+          same = ap (λ (c : CoreView). context_of c.state now new later) f.1.same ∙ out;
+        },
+        ap (λ (c : CoreView). c.state.out) f.1.same,
+        same,
+      )) where
+        out : context_of (record a.state { book = started a.state.book; seat = b.state.seat; begun = 0; gathered = []; out = a.state.out + 1 }) now new later
+            ≡ record (with_written work (context_of a.state gone back link)) { book = started a.state.book; seat = b.state.seat; begun = 0; gathered = []; out = b.state.out; given = now; back = new; link = later }
+        out = λ j. context_of (record a.state { book = started a.state.book; seat = b.state.seat; begun = 0; gathered = []; out = sym (ap (λ (c : CoreView). c.state.out) f.1.same) j }) now new later

@@ -1,3 +1,4 @@
+pub mod Tied
 pub mod OutStays
 pub mod Outs
 pub mod Linked

@@ -1,14 +1,17 @@
 -- What its core answers, a context answers.
-use Rattle.std.proofs.Common.{◌≡◌, List, Result, Ok, Err, ap, subst}
+use Rattle.std.proofs.Common.{◌≡◌, List, None, Result, Ok, Err, ap, ◌∙◌, subst}
 use Rattle.gfx_model.specs.Words.{Handle}
+use Rattle.gfx_model.specs.Recorder.{Room}
 use Rattle.gfx_model.specs.Resources.{ResourceCall}
+use Rattle.gfx_model.specs.FrameCalls.{begin_encoder, frame_refusal}
 use Rattle.gfx_words.specs.declared.refusals.Refusal.{Refusal}
 use Rattle.frame_record.specs.declared.frame.Frame.{Frame}
 use Rattle.frame_record.specs.declared.frame.RenderedFrame.{RenderedFrame}
 use Rattle.context_core.specs.Calls as cores
 use Rattle.context_core.specs.States.{CoreView, own}
+use Rattle.context_core.specs.States as states
 use Rattle.gfx_context.specs.Calls.{Makes, Creates, Updates, Changes, Destroys}
-use Rattle.gfx_context.specs.States.{ContextView, context_of}
+use Rattle.gfx_context.specs.States.{ContextView, context_of, state_of}
 
 module _ {L : Type 0} (given : List Frame) (back : List RenderedFrame) (link : L) (a b : CoreView) where
   abbrev now : CoreView → ContextView L
@@ -41,3 +44,7 @@ module _ {L : Type 0} (given : List Frame) (back : List RenderedFrame) (link : L
 
   pub destroys_told : (h : Handle) (result : Result (Unit {0}) Refusal) → cores.Destroys own result h a b → (old : ContextView L) → now a ≡ old → Destroys result h old (now b)
   destroys_told h result m old e = subst (λ (o : ContextView L). Destroys result h o (now b)) e (destroys_here h result m)
+
+  -- a begin that is refused for want of memory
+  pub refused_told : (room : Room) → frame_refusal (states.state_of a.state) (begin_encoder room) ≡ None → b ≡ a → (old : ContextView L) → now a ≡ old → (frame_refusal (state_of old) (begin_encoder room) ≡ None) × (now b ≡ old)
+  refused_told room accepted same old e = (subst (λ (o : ContextView L). frame_refusal (state_of o) (begin_encoder room) ≡ None) e accepted, ap now same ∙ e)

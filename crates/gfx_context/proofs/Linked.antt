@@ -21,7 +21,7 @@ use Rattle.resource_book.specs.declared.frames.Work.{Work}
 use Rattle.context_core.specs.Places.{Stays}
 use Rattle.context_core.specs.Gathered.{anything, IsCollected, AreCollected, AreGathered, with_gathered}
 use Rattle.context_core.specs.Kept.{AreTargets, IsCore, KeepsUsable, KeepsOut}
-use Rattle.context_core.specs.Calls.{IsPlacedBy, Creates, Updates, Changes, Destroys, Makes, destroyed}
+use Rattle.context_core.specs.Calls.{IsPlacedBy, Creates, Updates, Changes, Destroys, Makes, destroyed, with_lent}
 use Rattle.context_core.specs.Ended.{Gives, ended_core}
 use Rattle.context_core.specs.States.{CoreState, CoreView, own}
 use Rattle.context_core.proofs.Same.{same_after}
@@ -85,7 +85,7 @@ module _ {T : TableId} {admits : ℕ → ℕ → List Item → ℕ → Type 0} {
         (out_stays admits views a.state.seat.places b.state.seat.places a.state.seat.frame a.state.out given back (λ n lt le. stays n (omega (arith, lt))) l.frames);
   }
 
-  same_as : b ≡ a → IsLinked T admits views latency b given back
+  pub same_as : b ≡ a → IsLinked T admits views latency b given back
   same_as e = subst (λ (c : CoreView). IsLinked T admits views latency c given back) (sym e) l
 
   -- the book alone changes
@@ -120,6 +120,10 @@ module _ {T : TableId} {admits : ℕ → ℕ → List Item → ℕ → Type 0} {
   pub linked_changes : (call : ResourceCall) (result : Result (Unit {0}) Refusal) → Changes own result call a b → IsLinked T admits views latency b given back
   linked_changes call (Ok u) m = let same = same_after a.state.book.resources call in booked (after_in call None a.state.book) same.0 same.1 m.1
   linked_changes call (Err r) m = same_as m.1
+
+  -- a seat is lent
+  pub linked_lent : b ≡ record a { state = with_lent a.state } → IsLinked T admits views latency b given back
+  linked_lent e = subst (λ (c : CoreView). IsLinked T admits views latency c given back) (sym e) (record { table_is = l.table_is; views_are = l.views_are; latency_is = l.latency_is; admitted = l.admitted; frames = l.frames })
 
   -- bundles are collected
   pub linked_collected : b ≡ record a { state = record a.state { seat = b.state.seat; gathered = b.state.gathered } } → b.state.seat ≡ with_gathered b.state.seat a.state.seat → AreAdmitted admits b.state.gathered → IsLinked T admits views latency b given back

@@ -17,7 +17,8 @@ use Rattle.frame_record.specs.Links.{frames_of, CameBack}
 use Rattle.frame_record.specs.Seen.{entry_seen, recordings_seen}
 use Rattle.gfx_context.specs.declared.report.BackNote.{BackNote}
 use Rattle.gfx_context.specs.declared.report.FrameReport.{FrameReport}
-use Rattle.context_core.specs.Ended.{started, with_work}
+pub use Rattle.context_core.specs.Ended.{started}
+use Rattle.context_core.specs.Ended.{with_work}
 use Rattle.context_core.specs.Ended as cores
 use Rattle.context_core.specs.Gathered.{AreOfFrame, dropped_in, with_gathered}
 use Rattle.gfx_context.specs.States.{ContextView, state_of}

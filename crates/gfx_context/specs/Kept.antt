@@ -11,7 +11,8 @@ use Rattle.frame_record.specs.declared.frame.Frame.{Frame}
 use Rattle.frame_record.specs.declared.frame.RenderedFrame.{RenderedFrame}
 use Rattle.frame_record.specs.Links.{frames_of, out_of}
 use Rattle.context_core.specs.Gathered.{AreCollected}
-use Rattle.context_core.specs.Kept.{AreTargets, IsCore}
+pub use Rattle.context_core.specs.Kept.{IsTied, IsTarget, AreTargets, IsNext}
+use Rattle.context_core.specs.Kept.{IsCore}
 use Rattle.context_core.specs.States.{CoreView}
 use Rattle.gfx_context.specs.States.{ContextView, core_in}
 

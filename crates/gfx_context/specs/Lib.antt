@@ -1,3 +1,5 @@
+pub mod Places
+pub mod Gathered
 pub mod States
 pub mod Kept
 pub mod Calls

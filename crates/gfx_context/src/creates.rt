@@ -26,7 +26,8 @@ impl<'t, C: Naming, L: FrameLink + Drop> Context<'t, C, L> {
     pub fn create_vertex_buffer(&mut self, layout: Handle, bytes: &[u8]) -> Result<Handle, Refusal>
         ensures { Creates result (model.create_vertex_buffer layout bytes.now) self.old self.new }
     {
-        self.core.create_vertex_buffer(self.shared.table(), layout, bytes)
+        self.core
+            .create_vertex_buffer(self.shared.table(), layout, bytes)
     }
 
     /// Makes an index buffer. `BadSize` exactly where there are not 2 to 524,288 bytes, or an odd number; then `Full` (1,024) and
@@ -62,7 +63,8 @@ impl<'t, C: Naming, L: FrameLink + Drop> Context<'t, C, L> {
     ) -> Result<Handle, Refusal>
         ensures { Creates result (model.create_frame_buffer color depth) self.old self.new }
     {
-        self.core.create_frame_buffer(self.shared.table(), color, depth)
+        self.core
+            .create_frame_buffer(self.shared.table(), color, depth)
     }
 
     /// Makes a program. `Full` exactly where 256 programs live or wait; then `SerialsSpent`.
