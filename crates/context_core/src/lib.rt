@@ -9,6 +9,8 @@ mod ending;
 mod freeing;
 mod gathering;
 mod marks;
+#[cfg(test)]
+mod tests;
 mod updates;
 mod views;
 

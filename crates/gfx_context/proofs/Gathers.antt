@@ -32,7 +32,7 @@ of_frame admits views seat old begun rs g none same = record {
 -- one more is admitted
 pub one_more : (admits : ℕ → ℕ → List Item → ℕ → Type 0) (r : Recording) (seat : SeatView) (old new : CoreView) → cores.Gathers r seat old new → AreAdmitted admits old.state.gathered → admits r.encoder r.frame (items_of r) r.dropped
     → AreAdmitted admits new.state.gathered
-one_more admits r seat old new g a is = subst (AreAdmitted admits) (sym (ap (λ (c : CoreView). c.state.gathered) g.after)) (all-snoc (λ r. admits r.encoder r.frame (items_of r) r.dropped) old.state.gathered r a is)
+one_more admits r seat old new g a is = subst (λ (rs : List Recording). AreAdmitted admits rs) (sym (ap (λ (c : CoreView). c.state.gathered) g.after)) (all-snoc (λ r. admits r.encoder r.frame (items_of r) r.dropped) old.state.gathered r a is)
 
 -- what was gathered so far, from a first state
 abbrev pub with_seat : CoreView → CoreView → CoreView

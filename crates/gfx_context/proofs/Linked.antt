@@ -80,7 +80,7 @@ module _ {T : TableId} {admits : ℕ → ℕ → List Item → ℕ → Type 0} {
     table_is = table ∙ l.table_is;
     views_are = vs ∙ l.views_are;
     latency_is = l.latency_is ∙ sym late;
-    admitted = subst (AreAdmitted admits) (sym gathered) l.admitted;
+    admitted = subst (λ (rs : List Recording). AreAdmitted admits rs) (sym gathered) l.admitted;
     frames = subst (λ (p : ℕ × ℕ). AreOut admits views b.state.seat.places p.0 p.1 given back) (λ j. (sym frame j, sym out j))
         (out_stays admits views a.state.seat.places b.state.seat.places a.state.seat.frame a.state.out given back (λ n lt le. stays n (omega (arith, lt))) l.frames);
   }
@@ -160,29 +160,30 @@ module _ {T : TableId} {admits : ℕ → ℕ → List Item → ℕ → Type 0} {
       let out : b.state.out ≡ a.state.out + 1 = ap (λ (c : CoreView). c.state.out) g.same in
       let gathered = gathered_admitted admits (view_count a.state.book.resources.views) views a.state.seat a.state.begun a.state.gathered l.views_are k.gathered l.admitted in
       let more : AreOut admits views a.state.seat.places (suc a.state.seat.frame) (a.state.out + 1) now back = out_given admits views a.state.seat.places a.state.seat.frame given back a.state.out now f l.frames is (g.is_of.number ∙ k.tied.frame)
-      (subst (AreCollected admits views a.state.seat.frame a.state.seat.places) (sym g.is_of.recordings) gathered.collected)
+      (subst (λ (rs : List Recording). AreCollected admits views a.state.seat.frame a.state.seat.places rs) (sym g.is_of.recordings) gathered.collected)
       (subst (λ (vs : Views). AreTargets a.state.seat.frame a.state.seat.places vs.settings) (sym g.is_of.views) k.targets) in
       record {
         table_is = ap (λ (c : CoreView). c.table) g.same ∙ l.table_is;
         views_are = ap (λ (r : Resources). view_count r.views) book ∙ length-map a.state.book.resources.views.settings (with_live_target a.state.book.resources) ∙ l.views_are;
         latency_is = lates ∙ l.latency_is ∙ sym (ap (λ (r : Resources). r.latency) book);
-        admitted = subst (AreAdmitted admits) (sym (ap (λ (c : CoreView). c.state.gathered) g.same)) tt;
+        admitted = subst (λ (rs : List Recording). AreAdmitted admits rs) (sym (ap (λ (c : CoreView). c.state.gathered) g.same)) tt;
         frames = subst (λ (p : ℕ × ℕ × List RenderedFrame). AreOut admits views b.state.seat.places p.0 p.1 now p.2) (λ j. (sym frame j, sym out j, sym same j))
             (out_stays admits views a.state.seat.places b.state.seat.places (suc a.state.seat.frame) (a.state.out + 1) now back (λ n lt le. stays n (omega (arith, le, few))) more);
       }
 
 -- ---- what is known of a context
 
-pub is_context : {L : Type 0} {T : TableId} {admits : ℕ → ℕ → List Item → ℕ → Type 0} {views latency : ℕ} {c : CoreView} {given : List Frame} {back : List RenderedFrame} → IsLinked T admits views latency c given back
-    → IsCore anything (view_count c.state.book.resources.views) ⊤ c.state → (link : L) → IsContext admits views (context_of c.state given back link)
-is_context {admits = admits} {views = views} {c = c} l k link = record {
-  tied = k.tied;
-  newest = k.newest;
-  targets = k.targets;
-  counted = l.views_are;
-  latency = k.latency;
-  few = k.few;
-  encoders = k.encoders;
-  gathered = gathered_admitted admits (view_count c.state.book.resources.views) views c.state.seat c.state.begun c.state.gathered l.views_are k.gathered l.admitted;
-  frames = l.frames;
-}
+module _ {L : Type 0} {T : TableId} {admits : ℕ → ℕ → List Item → ℕ → Type 0} {views latency : ℕ} {c : CoreView} {given : List Frame} {back : List RenderedFrame} (l : IsLinked T admits views latency c given back)
+    (k : IsCore anything (view_count c.state.book.resources.views) ⊤ c.state) (link : L) where
+  pub is_context : IsContext admits views (context_of c.state given back link)
+  is_context = record {
+    tied = k.tied;
+    newest = k.newest;
+    targets = k.targets;
+    counted = l.views_are;
+    latency = k.latency;
+    few = k.few;
+    encoders = k.encoders;
+    gathered = gathered_admitted admits (view_count c.state.book.resources.views) views c.state.seat c.state.begun c.state.gathered l.views_are k.gathered l.admitted;
+    frames = l.frames;
+  }

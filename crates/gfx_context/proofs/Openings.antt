@@ -16,20 +16,22 @@ use Rattle.gfx_context.specs.Kept.{KeepsNames, IsLinked}
 none_out : (given : List Frame) (back : List RenderedFrame) → given ≡ frames_of back → out_of given back ≡ []
 none_out given back e = drop_all (length back) given (let a = ap length e in let b = length-map back (λ r. r.frame) in omega arith)
 
-pub linked_new : {T : TableId} {admits : ℕ → ℕ → List Item → ℕ → Type 0} {views latency : ℕ} {given : List Frame} {back : List RenderedFrame} (start : Start) (c : CoreView) (t : TableId) → c ≡ core_of t (opened_core start)
-    → t ≡ T → start.views ≡ views → latency ≡ start.latency → given ≡ frames_of back → IsLinked T admits views latency c given back
-linked_new {T = T} {admits = admits} {views = views} {latency = latency} {given = given} {back = back} start c t is table counted late none =
-    let outs = none_out given back none in
-    subst (λ (x : CoreView). IsLinked T admits views latency x given back) (sym is) (record {
-      table_is = table;
-      views_are = length-replicate start.views plain_view ∙ counted;
-      latency_is = late;
-      admitted = tt;
-      frames = record {
-        counted = (let a = ap length none in let b = length-map back (λ r. r.frame) in omega arith);
-        prefix = none ∙ sym (append-nil (frames_of back)) ∙ ap (λ l. frames_of back ++ l) (sym outs);
-        some = omega arith;
-        numbers = ap (map (λ f. f.number)) outs;
-        names = subst (AllByRecursion (KeepsNames admits views (first_view start.frame).places)) (sym outs) tt;
-      };
-    })
+module _ {T : TableId} {admits : ℕ → ℕ → List Item → ℕ → Type 0} {views latency : ℕ} {given : List Frame} {back : List RenderedFrame} (start : Start) (c : CoreView) (t : TableId) (is : c ≡ core_of t (opened_core start))
+    (table : t ≡ T) (counted : start.views ≡ views) (late : latency ≡ start.latency) (none : given ≡ frames_of back) where
+  outs : out_of given back ≡ []
+  outs = none_out given back none
+
+  pub linked_new : IsLinked T admits views latency c given back
+  linked_new = subst (λ (x : CoreView). IsLinked T admits views latency x given back) (sym is) (record {
+    table_is = table;
+    views_are = length-replicate start.views plain_view ∙ counted;
+    latency_is = late;
+    admitted = tt;
+    frames = record {
+      counted = (let a = ap length none in let b = length-map back (λ r. r.frame) in omega (arith, a, b));
+      prefix = none ∙ sym (append-nil (frames_of back)) ∙ ap (λ l. frames_of back ++ l) (sym outs);
+      some = omega arith;
+      numbers = ap (map (λ f. f.number)) outs;
+      names = subst (AllByRecursion (KeepsNames admits views (first_view start.frame).places)) (sym outs) tt;
+    };
+  })

@@ -8,6 +8,8 @@ use Rattle.gfx_context.proofs.gathering.gather_all.Given as goal
 
 abbrev pub invariant-loop-i : goal.invariant-loop-i
 invariant-loop-i g l = record {
+  table : l.core.table ≡ g.C.Naming.table;
+  views : view_count l.core.state.book.resources.views ≡ g.C.Naming.views;
   left : length l.core.state.seat.off + l.i ≡ length l.initial.core.state.seat.off;
   kept : (more : List Recording) × (l.core.state.gathered ≡ l.initial.core.state.gathered ++ more);
   seat : l.core.state.seat ≡ with_gathered l.core.state.seat l.initial.core.state.seat;
