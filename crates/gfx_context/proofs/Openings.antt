@@ -18,11 +18,10 @@ none_out given back e = drop_all (length back) given (let a = ap length e in let
 
 module _ {T : TableId} {admits : ℕ → ℕ → List Item → ℕ → Type 0} {views latency : ℕ} {given : List Frame} {back : List RenderedFrame} (start : Start) (c : CoreView) (t : TableId) (is : c ≡ core_of t (opened_core start))
     (table : t ≡ T) (counted : start.views ≡ views) (late : latency ≡ start.latency) (none : given ≡ frames_of back) where
-  outs : out_of given back ≡ []
-  outs = none_out given back none
-
   pub linked_new : IsLinked T admits views latency c given back
-  linked_new = subst (λ (x : CoreView). IsLinked T admits views latency x given back) (sym is) (record {
+  linked_new =
+      let outs = none_out given back none in
+      subst (λ (x : CoreView). IsLinked T admits views latency x given back) (sym is) (record {
     table_is = table;
     views_are = length-replicate start.views plain_view ∙ counted;
     latency_is = late;

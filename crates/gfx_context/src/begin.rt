@@ -17,6 +17,7 @@ impl<'t, C: Naming, L: FrameLink + Drop> Context<'t, C, L> {
         requires running { self.old.is_ended ≡ false }
         ensures { IsBegin result (room_seen room) self.old self.new }
     {
+        self.core.tell_facts();
         let Lent {
             seat,
             number,

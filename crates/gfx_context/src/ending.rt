@@ -40,6 +40,7 @@ impl<'t, C: Naming, L: FrameLink + Drop> Context<'t, C, L> {
         ensures origin { L.origin self.new.link ≡ L.origin self.old.link }
         ensures same { self.new ≡ record self.old { out = self.new.out; back = self.new.back; link = self.new.link } }
     {
+        self.core.tell_facts();
         if self.core.out() < self.core.latency() as u32 {
             return None;
         }

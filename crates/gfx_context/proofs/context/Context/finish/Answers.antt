@@ -15,8 +15,8 @@ pub invariant_of-self : goal.invariant_of-self
 invariant_of-self g c =
     linked_ended c.self.invariant c.finish-frame.new.self (made_none c.args.given c.args.prepared.work c.finish-frame.result.frame c.self.inside.core c.finish-frame.new.self c.in-None.is c.finish-frame.ensures.answer).1
 
-pub invariant_of-self-2 : goal.invariant_of-self-2
-invariant_of-self-2 g c =
+pub invariant_of-self-in-Some : goal.invariant_of-self-in-Some
+invariant_of-self-in-Some g c =
     let f = made_some c.args.given c.args.prepared.work c.finish-frame.result.frame c.in-Some.frame c.self.inside.core c.finish-frame.new.self c.in-Some.is c.finish-frame.ensures.answer in
     let few : c.self.inside.core.state.out < c.self.inside.core.state.book.resources.latency = subst (λ (o : ContextView g.row.L.Denot). o.out < o.book.resources.latency) (sym c.self.view_is) (c.requires.out f.0) in
     linked_given c.self.invariant c.finish-frame.new.self c.tell_facts.ensures.keeps c.args.prepared.work c.in-Some.frame f.1 c.finish-frame.ensures.stays few (g.L.FrameLink.given c.give.new.self) (g.L.FrameLink.back c.give.new.self) (g.L.FrameLink.latency c.give.new.self)
