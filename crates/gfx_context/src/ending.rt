@@ -1,5 +1,5 @@
 // The end of a frame.
-ghost use Rattle.std.specs.Prelude.{◌≡◌, ◌<◌, ◌≤◌, ◌+◌, [], map, true, None, vec_capacity, MatchOption};
+ghost use Rattle.std.specs.Prelude.{◌≡◌, ◌<◌, ◌≤◌, ◌+◌, [], map, true, false, None, vec_capacity, MatchOption};
 ghost use Rattle.gfx_model.specs.Frames.{collected};
 ghost use Rattle.gfx_model.specs.FrameCalls.{end_frame, frame_refusal};
 ghost use Rattle.frame_record.specs.Seen.{entry_seen, recordings_seen};

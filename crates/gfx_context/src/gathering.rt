@@ -1,5 +1,5 @@
 // The bundle of each encoder is collected once.
-ghost use Rattle.std.specs.Prelude.{◌≡◌, List, ◌++◌};
+ghost use Rattle.std.specs.Prelude.{◌≡◌, List, [], ◌++◌};
 ghost use Rattle.gfx_model.specs.Views.{view_count};
 ghost use Rattle.hold_table.specs.Seats.{enc_view};
 ghost use Rattle.draw_encoder.specs.declared.items.Recording.{Recording};

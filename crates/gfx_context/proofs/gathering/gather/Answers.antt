@@ -1,4 +1,4 @@
-use Rattle.std.proofs.Common.{◌≡◌, ℕ, sym, subst}
+use Rattle.std.proofs.Common.{ℕ, sym, subst}
 use Rattle.hold_table.specs.Seats.{enc_view}
 use Rattle.hold_table.specs.declared.table.EncSeat.{EncSeat}
 use Rattle.draw_encoder.specs.Bundles.{BelongTogether}
