@@ -12,4 +12,6 @@ mod limits;
 #[cfg(test)]
 mod room_tests;
 #[cfg(test)]
+mod row_tests;
+#[cfg(test)]
 mod runs;
