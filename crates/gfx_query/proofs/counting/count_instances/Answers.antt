@@ -25,14 +25,14 @@ loop-number-preserved c =
     let k = c.loop-number.number in
     let step : List Counted → Affine → List Counted = λ qs m. counted_by w state (h m) qs in
     record {
-      few = omega (arith, c.loop-number.invariant.few, c.count_instance-in-loop-number.ensures.few);
+      few = omega (arith, c.loop-number.invariant.few, c.count_instance-passed.ensures.few);
       counted = λ n ps s.
-          let sum : n + c.loop-number.passed + c.count_instance-in-loop-number.result ≡ n + (c.loop-number.passed + c.count_instance-in-loop-number.result) = omega arith in
+          let sum : n + c.loop-number.passed + c.count_instance-passed.result ≡ n + (c.loop-number.passed + c.count_instance-passed.result) = omega arith in
           let qs : List Counted = fold step ps (map t (range_with_len 0 k)) in
-          subst (λ m. Stand c.count_instance-in-loop-number.new.words m (fold step ps (map t (range_with_len 0 (k + 1))))) sum
-          (subst (Stand c.count_instance-in-loop-number.new.words (n + c.loop-number.passed + c.count_instance-in-loop-number.result)) (instance_more w state h t k _ ps c.transform_at-model.ensures) (c.count_instance-in-loop-number.ensures.counted (n + c.loop-number.passed) qs (c.loop-number.invariant.counted n ps s)));
-      vertices = c.count_instance-in-loop-number.ensures.vertices ∙ c.loop-number.invariant.vertices;
-      triangles = c.count_instance-in-loop-number.ensures.triangles ∙ c.loop-number.invariant.triangles;
+          subst (λ m. Stand c.count_instance-passed.new.words m (fold step ps (map t (range_with_len 0 (k + 1))))) sum
+          (subst (Stand c.count_instance-passed.new.words (n + c.loop-number.passed + c.count_instance-passed.result)) (instance_more w state h t k _ ps c.transform_at-model.ensures) (c.count_instance-passed.ensures.counted (n + c.loop-number.passed) qs (c.loop-number.invariant.counted n ps s)));
+      vertices = c.count_instance-passed.ensures.vertices ∙ c.loop-number.invariant.vertices;
+      triangles = c.count_instance-passed.ensures.triangles ∙ c.loop-number.invariant.triangles;
     }
 
 pub returns-clause-counted : goal.returns-clause-counted
