@@ -1,5 +1,5 @@
 -- The state behind the lock is kept where a frame ends and where an encoder begins.
-use Rattle.std.proofs.Common.{◌≡◌, ◌⊎◌, inl, inr, ℕ, ◌+◌, ◌-◌, ◌==◌, ◌||◌, Bool, true, false, if◌then◌else◌, List, sym, refl, ap, ◌∙◌, subst, Option, Some, None, MatchOption, MatchResult, Result, Ok, Err}
+use Rattle.std.proofs.Common.{◌≡◌, ◌⊎◌, inl, inr, ℕ, ◌+◌, ◌-◌, ◌==◌, ◌||◌, Bool, true, false, if◌then◌else◌, List, [], ◌∷◌, ◌++◌, sym, refl, ap, ◌∙◌, subst, Option, Some, None, MatchOption, MatchResult, IfOk, Result, Ok, Err}
 use Rattle.std.proofs.lemmas.Option.{none-some}
 use Rattle.gfx_model.specs.World.{Item}
 use Rattle.gfx_model.specs.Recorder.{Room}
@@ -12,16 +12,19 @@ use Rattle.gfx_words.specs.Seen.{refusal_seen}
 use Rattle.resource_laws.specs.Bare.{bare_of}
 use Rattle.resource_laws.proofs.RunLaws.{bare_started}
 use Rattle.resource_book.specs.Answered.{IsFirstRefusalOrOutOfMemory}
+use Rattle.hold_table.specs.Views.{SeatView, fresh}
 use Rattle.draw_encoder.specs.Calls.{EncoderView}
 use Rattle.frame_record.specs.declared.frame.Outcome.TheVariants as outcomes
 use Rattle.gfx_context.specs.States.{ContextView, state_of}
+use Rattle.gfx_context.specs.Kept.{IsContext}
 use Rattle.gfx_context.specs.Calls as context_calls
 use Rattle.gfx_context.specs.Ended.{is_shown, is_shown_outcome, Ends, IsEnd, CollectsAndEnds}
 use Rattle.gfx_context.specs.declared.report.BackNote.{BackNote}
 use Rattle.gfx_context.specs.declared.report.FrameReport.{FrameReport}
 use Rattle.res_lock.specs.Histories.{LockCall, ends_frame, begins, Reply, given, begun, refused, ending, LockEntry, IsToldOrRefused, IsFrameReply, IsRunningReply, IsReply, after_reply, state_after}
-use Rattle.res_lock.specs.Called.{reply_of, refusal_reply, frame_reply, Calls, Begins, IsOutOfMemory, IsFramed}
-use Rattle.res_lock.specs.Locked.{log_entries, LockView, bared, IsKept, Adds}
+use Rattle.res_lock.specs.Seats.{pass_view}
+use Rattle.res_lock.specs.Called.{entry_of, reply_of, refusal_reply, frame_reply, Calls, Begins, IsOutOfMemory, IsFramed}
+use Rattle.res_lock.specs.Locked.{log_entries, LockView, bared, IsKept, IsReport, Adds}
 use Rattle.res_lock.specs.declared.entry.LockRefusal.{LockRefusal}
 use Rattle.res_lock.specs.declared.entry.LockRefusal.TheVariants as lock_refusals
 use Rattle.res_lock.specs.declared.log.Log.{Log}
@@ -116,6 +119,24 @@ module _ {L : Type 0} (start : CallState) (c : ContextView L) (h : List LockEntr
       let f = end_follows (state_after start h) m.collected d same number (is ∙ ap (λ (z : CallState). z.resources.frame) (sym gathered)) result m.ends in
       entry_kept start c h k old new p q log_same d ends_frame (frame_reply number result) (subst (λ (x : Reply). Adds ends_frame x old new p q) told a) (running start c h k old new p q log_same runs ends_frame (frame_reply number result) f.replies) f.state
 
+  pub reported : {admits : ℕ → ℕ → List Item → ℕ → Type 0} {views : ℕ} → c.is_ended ≡ false → IsContext admits views c → (result : Result FrameReport Refusal) (d : ContextView L) (number : ℕ) (reply : Reply) → number ≡ c.book.resources.frame → reply ≡ frame_reply number result
+      → CollectsAndEnds admits views result c d → Adds ends_frame reply old new p q → (report : FrameReport) → result ≡ Ok report → IsReport L admits views start report (pass_view q).seen
+  reported {admits} {views} runs keeps result d number reply is told m a report ok =
+      let b = framed_kept runs result d number reply is told m a in
+      let seen : (pass_view q).seen ≡ log_entries new = ap (λ u. u.seen) a.view in
+      record {
+        before = h;
+        entry = entry_of ends_frame reply p;
+        last = seen ∙ (a.entries ∙ ap (λ l. l ++ entry_of ends_frame reply p ∷ []) log_same);
+        old = c;
+        new = d;
+        kept_before = k;
+        runs = runs;
+        keeps = keeps;
+        ends = subst (λ (x : Result FrameReport Refusal). CollectsAndEnds admits views x c d) ok m;
+        kept = subst (λ l. IsKept start (record { context = d; history = l })) (sym seen) b.kept;
+      }
+
   begin_refusal_is : (room : Room) → frame_refusal (state_of c) (begin_encoder room) ≡ frame_refusal (state_after start h) (begin_encoder room)
   begin_refusal_is room = ap (λ (z : CallState). frame_refusal z (begin_encoder room)) k.same
 
@@ -127,8 +148,8 @@ module _ {L : Type 0} (start : CallState) (c : ContextView L) (h : List LockEntr
     pub kept : IsKept start (record { context = d; history = log_entries new })
     pub begins_here : Begins start room e p q
 
-  pub begun_kept : c.is_ended ≡ false → (room : Room) (e : EncoderView) (number : ℕ) (d : ContextView L) → number ≡ e.seat.encoder → context_calls.Begins room e c d → Adds (begins room) (begun number) old new p q → Begun_kept d room e
-  begun_kept runs room e number d is m a =
+  pub begun_kept : {admits : ℕ → ℕ → List Item → ℕ → Type 0} {views : ℕ} → IsContext admits views c → c.is_ended ≡ false → (room : Room) (e : EncoderView) (number : ℕ) (d : ContextView L) → number ≡ e.seat.encoder → context_calls.Begins room e c d → Adds (begins room) (begun number) old new p q → Begun_kept d room e
+  begun_kept keeps runs room e number d is m a =
       let s : CallState = state_after start h in
       let made : (frame_effect true s (begin_encoder room)).made ≡ Some (record { encoder = e.seat.encoder; recorder = e.recorder }) = sym (ap (λ (z : CallState). (frame_effect true z (begin_encoder room)).made) k.same) ∙ m.made in
       let named : s.encoders ≡ e.seat.encoder = number_is _ _ made in
@@ -137,9 +158,15 @@ module _ {L : Type 0} (start : CallState) (c : ContextView L) (h : List LockEntr
       let first : state_of d ≡ record s { resources = bare_of s.resources; encoders = s.encoders + 1; out = c.out } = m.state ∙ ap (λ (z : CallState). record z { encoders = z.encoders + 1 }) k.same in
       first ∙ ap (λ (n : ℕ). record s { resources = bare_of s.resources; encoders = s.encoders + 1; out = n }) (sym (ap (λ (z : CallState). z.out) first)) in
       let b = entry_kept start c h k old new p q log_same d (begins room) (begun e.seat.encoder) (subst (λ (n : ℕ). Adds (begins room) (begun n) old new p q) is a) (running start c h k old new p q log_same runs (begins room) (begun e.seat.encoder) reply) state in
+      let frame : e.seat.frame ≡ s.resources.frame = ap (λ (v : SeatView). v.frame) m.seat ∙ (sym keeps.tied.frame ∙ ap (λ (z : CallState). z.resources.frame) k.same) in
       record {
         kept = b.kept;
-        begins_here = record { calls = b.calls; encoder = subst (λ l. (frame_effect true (state_after start l) (begin_encoder room)).made ≡ Some (record { encoder = e.seat.encoder; recorder = e.recorder })) (sym b.before_is) made };
+        begins_here = record {
+          calls = b.calls;
+          encoder = subst (λ l. (frame_effect true (state_after start l) (begin_encoder room)).made ≡ Some (record { encoder = e.seat.encoder; recorder = e.recorder })) (sym b.before_is) made;
+          frame = frame ∙ ap (λ l. (state_after start l).resources.frame) (sym b.before_is);
+          seat = (c.seat, m.seat ∙ ap (λ (n : ℕ). fresh n c.seat) (sym (ap (λ (v : SeatView). v.encoder) m.seat)));
+        };
       }
 
   pub begin_refused : c.is_ended ≡ false → (room : Room) (r : Refusal) (d : ContextView L) → IsFirstRefusalOrOutOfMemory (frame_refusal (state_of c) (begin_encoder room)) r × (d ≡ c) → Refuses start c h k old new p q log_same (begins room) r (refusal_seen r) → Refused start c h k old new p q log_same d (begins room) r (refusal_seen r)
@@ -150,6 +177,12 @@ module _ {L : Type 0} (start : CallState) (c : ContextView L) (h : List LockEntr
       by (Some x) seen first a = refused_by start c h k old new p q log_same d m.1 (begins room) r (Some x) (λ y e. running start c h k old new p q log_same runs (begins room) (refused r) (subst (λ (o : Option model.Refusal). IsToldOrRefused o (begun (state_after start h).encoders) (refused r)) (sym (sym (begin_refusal_is room) ∙ first)) (r, refl, seen))) a
 
 -- ---- what a caller is told of the end of a frame
+
+pub ok_reported : (P : FrameReport → Type 0) (answer : Result FrameReport Refusal) (result : Result FrameReport LockRefusal) (report : FrameReport) → answer ≡ Ok report → result ≡ Ok report → ((x : FrameReport) → answer ≡ Ok x → P x) → IfOk result P
+ok_reported P answer result report is e told = subst (λ (x : Result FrameReport LockRefusal). IfOk x P) (sym e) (told report is)
+
+pub err_reported : (P : FrameReport → Type 0) (result : Result FrameReport LockRefusal) (r : LockRefusal) → result ≡ Err r → IfOk result P
+err_reported P result r e = subst (λ (x : Result FrameReport LockRefusal). IfOk x P) (sym e) tt
 
 pub ok_framed : (start : CallState) (p q : ResPass) (number : ℕ) (answer : Result FrameReport Refusal) (result : Result FrameReport LockRefusal) (report : FrameReport) → answer ≡ Ok report → result ≡ Ok report → Calls start ends_frame (frame_reply number answer) p q → IsFramed start result p q
 ok_framed start p q number answer result report is e m = subst (λ (x : Result FrameReport LockRefusal). IsFramed start x p q) (sym e) (subst (λ (x : Result FrameReport Refusal). Calls start ends_frame (frame_reply number x) p q) is m)

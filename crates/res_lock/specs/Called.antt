@@ -9,6 +9,7 @@ use Rattle.gfx_words.specs.declared.refusals.Refusal.{Refusal}
 use Rattle.gfx_words.specs.declared.refusals.Refusal.TheVariants as refusals
 use Rattle.gfx_words.specs.Seen.{refusal_seen}
 use Rattle.frame_record.specs.declared.frame.Outcome.TheVariants as outcomes
+use Rattle.hold_table.specs.Views.{SeatView, fresh}
 use Rattle.draw_encoder.specs.Calls.{EncoderView}
 use Rattle.resource_laws.specs.Bare.{bare_of}
 use Rattle.gfx_context.specs.States.{ContextView, state_of}
@@ -145,10 +146,12 @@ IsFrameRefused start (lock_refusals.Ended frame) old new = Calls start ends_fram
 abbrev pub IsFramed : CallState → Result FrameReport LockRefusal → (old new : ResPass) → Type 0
 IsFramed start result old new = MatchResult result (λ report. Calls start ends_frame (reply_of report.given report.number report.back) old new) (λ r. IsFrameRefused start r old new)
 
--- an encoder that begins through the lock is the definition's after the history before
+-- an encoder that begins through the lock is the definition's after the history before; its seat is one of that frame, and has drawn and asked nothing
 pub record Begins (start : CallState) (room : Room) (e : EncoderView) (old new : ResPass) : Type 0 where
   pub calls : Calls start (begins room) (begun e.seat.encoder) old new
   pub encoder : (frame_effect true (state_after start calls.before) (begin_encoder room)).made ≡ Some (record { encoder = e.seat.encoder; recorder = e.recorder })
+  pub frame : e.seat.frame ≡ (state_after start calls.before).resources.frame
+  pub seat : (v : SeatView) × (e.seat ≡ fresh e.seat.encoder v)
 
 -- a begin through the lock
 abbrev pub IsBegun : CallState → Room → Result EncoderView LockRefusal → (old new : ResPass) → Type 0

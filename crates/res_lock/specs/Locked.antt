@@ -1,9 +1,13 @@
 -- What lies behind the lock.
-use Rattle.std.specs.Prelude.{◌≡◌, false, ◌<◌, ◌+◌, List, [], ◌∷◌, ◌++◌, vec_len, vec_capacity}
+use Rattle.std.specs.Prelude.{ℕ, ◌≡◌, false, ◌<◌, ◌+◌, List, [], ◌∷◌, ◌++◌, Ok, vec_len, vec_capacity}
 use Rattle.atomic_table.specs.Seated.{TableId}
+use Rattle.gfx_model.specs.World.{Item}
 use Rattle.gfx_model.specs.FrameCalls.{CallState}
 use Rattle.resource_laws.specs.Bare.{bare_of}
 use Rattle.gfx_context.specs.States.{ContextView, state_of}
+use Rattle.gfx_context.specs.Kept.{IsContext}
+use Rattle.gfx_context.specs.Ended.{CollectsAndEnds}
+use Rattle.gfx_context.specs.declared.report.FrameReport.{FrameReport}
 use Rattle.res_lock.specs.Histories.{LockCall, Reply, LockEntry, state_after, IsLegal}
 use Rattle.res_lock.specs.Seen.{entries_seen}
 use Rattle.res_lock.specs.Views.{GoesOn}
@@ -52,3 +56,16 @@ bared s context = record s { resources = bare_of s.resources; out = context.out 
 pub record IsKept {L : Type 0} (start : CallState) (v : LockView L) : Type 0 where
   pub legal : IsLegal start v.history
   pub same : state_of v.context ≡ bared (state_after start v.history) (state_of v.context)
+
+-- a report is a context's own: the context was in the state after all entries but the last, ended its frame with this report, and is in the state after all
+pub record IsReport (L : Type 0) (admits : ℕ → ℕ → List Item → ℕ → Type 0) (views : ℕ) (start : CallState) (report : FrameReport) (history : List LockEntry) : Type 0 where
+  pub before : List LockEntry
+  pub entry : LockEntry
+  pub last : history ≡ before ++ entry ∷ []
+  pub old : ContextView L
+  pub new : ContextView L
+  pub kept_before : IsKept start (record { context = old; history = before })
+  pub runs : old.is_ended ≡ false
+  pub keeps : IsContext admits views old
+  pub ends : CollectsAndEnds admits views (Ok report) old new
+  pub kept : IsKept start (record { context = new; history = history })

@@ -1,5 +1,5 @@
 // A context behind a lock.
-ghost use Rattle.std.specs.Prelude.{◌≡◌, ◌+◌, ◌<◌, ◌≤◌, ℕ, [], IfErr, MatchResult};
+ghost use Rattle.std.specs.Prelude.{◌≡◌, ◌+◌, ◌<◌, ◌≤◌, ℕ, [], IfOk, IfErr, MatchResult};
 ghost use Rattle.gfx_words.specs.declared.refusals.Refusal.TheVariants as refusals;
 ghost use Rattle.draw_encoder.specs.Seen.{room_seen};
 ghost use Rattle.gfx_context.specs.States.{state_of};
@@ -9,7 +9,7 @@ ghost use Rattle.res_lock.specs.Seen.{call_seen, entries_seen};
 ghost use Rattle.res_lock.specs.Seats.{log_table, table_of, pass_table, pass_view, caller_of, made_by, IsFirst, HasAll};
 ghost use Rattle.res_lock.specs.Views.{split_from, split_off, joined_with, GoesOn};
 ghost use Rattle.res_lock.specs.Called.{IsCreate, IsChange, IsSamePass, IsCreated, IsChanged, IsFramed, IsBegun};
-ghost use Rattle.res_lock.specs.Locked.{IsOpening, IsKept};
+ghost use Rattle.res_lock.specs.Locked.{IsOpening, IsKept, IsReport};
 
 use crate::entry::{Entry, LockRefusal, ResCall};
 use crate::log::Log;
@@ -90,7 +90,7 @@ impl<'t, C: Naming, L: FrameLink + Drop, H: HistoryNaming> ResLock<'t, C, L, H> 
     }
 
     /// Ends the lock. All other passes were joined into this one, the first, which so has seen the whole history. The context comes
-    /// back, in the state after the history.
+    /// back, in the state after the history, without contents: which bytes, texels and values it has is not said.
     pub fn close(self, pass: ResPass) -> (Context<'t, C, L>, Vec<Entry>)
         requires table { pass_table pass ≡ H.table }
         requires all { IsFirst pass × HasAll pass }
@@ -112,6 +112,9 @@ impl<'t, C: Naming, L: FrameLink + Drop, H: HistoryNaming> ResLock<'t, C, L, H> 
 
     /// Ends the frame, and waits for the encoders that were begun in it and have not ended; the lock is taken all the while.
     ///
+    /// The report is the context's own: the number of the frame, the items of all encoders that were begun in it, the sum of the numbers
+    /// that they ended with, the frame that came back, and whether this one was given.
+    ///
     /// `Ended` exactly where an earlier frame was not given; then `FramesSpent` exactly where the number is 1,073,741,823. A frame that
     /// is not given makes an entry that ends the context, with the outcome of `FrameReport.back`, or with want of memory where the
     /// context had none; then the answer is `OutOfMemory`.
@@ -124,11 +127,12 @@ impl<'t, C: Naming, L: FrameLink + Drop, H: HistoryNaming> ResLock<'t, C, L, H> 
         requires few { made_by pass.old < 4294967295 }
         ensures pass { IsSamePass pass.old pass.new }
         ensures answer { IsFramed H.start result pass.old pass.new }
+        ensures report { IfOk result (λ report. IsReport L C.admits C.views H.start report (pass_view pass.new).seen) }
     {
         self.state.lock(rt).frame(rt, &self.table, pass)
     }
 
-    /// Begins an encoder of the frame. `Ended` exactly where an earlier frame was not given; then `BadSize` exactly where the room is
+    /// Begins an encoder of the frame, which has drawn and asked nothing yet. `Ended` exactly where an earlier frame was not given; then `BadSize` exactly where the room is
     /// outside its limits; then `NoEncoder` exactly where eight were begun in the frame.
     pub fn begin<R: Wait>(
         &self,
