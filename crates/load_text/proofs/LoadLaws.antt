@@ -183,15 +183,18 @@ module _ (s : Stage) (low : ℕ) (r : Reading) (fs : List Field) (is : is_past s
       let b = number_bound low (r.callers - 1) (field fs 1) n.0 n.1 in
       let same : record r { stage = in_block n.0; names = []; blocks = r.blocks ++ the_block n.0 [] ∷ [] } ≡ q = cc n.2 in
       subst (Goes s fs r) same (record {
-        kept = (some, record {
-          front = r.blocks;
-          lines = [];
-          blocks = refl;
-          ascend = next n.0 b.0 (omega (arith, b.1, some.0));
-          each = whole.each;
-          last = record { bound = tt; frames = tt };
-          names = refl;
-        });
+        kept = (
+          some,
+          record {
+            front = r.blocks;
+            lines = [];
+            blocks = refl;
+            ascend = next n.0 b.0 (omega (arith, b.1, some.0));
+            each = whole.each;
+            last = record { bound = tt; frames = tt };
+            names = refl;
+          },
+        );
         past = λ h. (refl, refl);
         says = λ h i. absurd (never h);
       })
@@ -228,15 +231,18 @@ module _ (caller : ℕ) (r : Reading) (fs : List Field) (at : r.stage ≡ in_blo
   -- a line more
   line_goes : (names : List BoundName) (l : BlockLine) (q : Reading) → with_line l (record r { names = names }) ≡ q → AreBound (creates_in k.lines) (l ∷ []) → MayStand caller l → length names ≡ length r.names + creates_in (l ∷ []) → Goes (in_block caller) fs r q
   line_goes names l q same bound stands more = subst (Goes (in_block caller) fs r) same (record {
-    kept = subst (λ (s : Stage). KeptAt s (with_line l (record r { names = names }))) (sym at) (some, record {
-      front = k.front;
-      lines = k.lines ++ l ∷ [];
-      blocks = ap (on_last (with_one l)) k.blocks ∙ on_last_snoc (with_one l) k.front (the_block caller k.lines);
-      ascend = ascend_again 0 r.callers k.front (the_block caller k.lines) (the_block caller (k.lines ++ l ∷ [])) refl k.ascend;
-      each = k.each;
-      last = record { bound = bound_snoc 0 (creates_in k.lines) k.lines l (omega arith) k.last.bound bound; frames = all_snoc (MayStand caller) k.lines l k.last.frames stands };
-      names = more ∙ (ap (λ (n : ℕ). n + creates_in (l ∷ [])) k.names ∙ sym (creates_snoc k.lines l));
-    });
+    kept = subst (λ (s : Stage). KeptAt s (with_line l (record r { names = names }))) (sym at) (
+      some,
+      record {
+        front = k.front;
+        lines = k.lines ++ l ∷ [];
+        blocks = ap (on_last (with_one l)) k.blocks ∙ on_last_snoc (with_one l) k.front (the_block caller k.lines);
+        ascend = ascend_again 0 r.callers k.front (the_block caller k.lines) (the_block caller (k.lines ++ l ∷ [])) refl k.ascend;
+        each = k.each;
+        last = record { bound = bound_snoc 0 (creates_in k.lines) k.lines l (omega arith) k.last.bound bound; frames = all_snoc (MayStand caller) k.lines l k.last.frames stands };
+        names = more ∙ (ap (λ (n : ℕ). n + creates_in (l ∷ [])) k.names ∙ sym (creates_snoc k.lines l));
+      },
+    );
     past = λ h. (ap is_past at, refl);
     says = λ h i. absurd (cc h);
   })
