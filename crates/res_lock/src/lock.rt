@@ -41,8 +41,8 @@ pub struct ResLock<'t, C: Naming, L: FrameLink + Drop, H: HistoryNaming> {
 }
 
 impl<'t, C: Naming, L: FrameLink + Drop, H: HistoryNaming> ResLock<'t, C, L, H> {
-    /// Puts a context behind the lock. The table is the named one, and the named start is the state of the context's calls: nothing
-    /// was made in it, no encoder begun, and it is not ended. `Err` only for want of memory; the table and the context come back.
+    /// Puts a context behind the lock. The table is the named one; the named start is the state of the context's calls: nothing
+    /// was made in it, no encoder begun, and it is not ended; and the named book is what they wrote in this frame. `Err` only for want of memory; the table and the context come back.
     pub fn new(
         alloc: Global,
         table: HistoryTable,
@@ -50,6 +50,7 @@ impl<'t, C: Naming, L: FrameLink + Drop, H: HistoryNaming> ResLock<'t, C, L, H> 
     ) -> Result<ResLock<'t, C, L, H>, (HistoryTable, Context<'t, C, L>)>
         requires table { table_of table ≡ H.table }
         requires start { (state_of context ≡ H.start) × IsOpening H.start }
+        requires book { context.book ≡ H.book }
         ensures { IfErr result (λ e. (table_of e.0 ≡ table_of table) × (e.1 ≡ context.entry)) }
     {
         let HistoryTable { log, pen } = table;
@@ -90,14 +91,15 @@ impl<'t, C: Naming, L: FrameLink + Drop, H: HistoryNaming> ResLock<'t, C, L, H> 
     }
 
     /// Ends the lock. All other passes were joined into this one, the first, which so has seen the whole history. The context comes
-    /// back, in the state after the history, without contents: which bytes, texels and values it has is not said.
+    /// back, in the state after the history. Where it is not ended, it has written just what the calls of the frame that is recorded
+    /// write, with the bytes, texels and names of the history. Of an ended context that is not said.
     pub fn close(self, pass: ResPass) -> (Context<'t, C, L>, Vec<Entry>)
         requires table { pass_table pass ≡ H.table }
         requires all { IsFirst pass × HasAll pass }
         ensures whole { entries_seen result.1.items ≡ (pass_view pass).seen }
         ensures beyond { (c : ℕ) → (pass_view pass).next ≤ c → part_of c (entries_seen result.1.items) ≡ [] }
         ensures legal { IsLegal H.start (entries_seen result.1.items) }
-        ensures state { IsKept H.start (record { context = result.0; history = entries_seen result.1.items }) }
+        ensures state { IsKept H.start H.book (record { context = result.0; history = entries_seen result.1.items }) }
     {
         let ResLock {
             alloc: _,
@@ -127,7 +129,7 @@ impl<'t, C: Naming, L: FrameLink + Drop, H: HistoryNaming> ResLock<'t, C, L, H> 
         requires few { made_by pass.old < 4294967295 }
         ensures pass { IsSamePass pass.old pass.new }
         ensures answer { IsFramed H.start result pass.old pass.new }
-        ensures report { IfOk result (λ report. IsReport L C.admits C.views H.start report (pass_view pass.new).seen) }
+        ensures report { IfOk result (λ report. IsReport L C.admits C.views H.start H.book report (pass_view pass.new).seen) }
     {
         self.state.lock(rt).frame(rt, &self.table, pass)
     }

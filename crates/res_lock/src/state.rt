@@ -39,7 +39,7 @@ impl<'t, C: Naming, L: FrameLink + Drop, H: HistoryNaming> Model for LockState<'
 
     ghost view = { λ s. record { context = s.context; history = log_entries s.log } };
 
-    ghost invariant = { λ s. (table_of_log s.log ≡ H.table) × IsKept H.start (record { context = s.context; history = log_entries s.log }) };
+    ghost invariant = { λ s. (table_of_log s.log ≡ H.table) × IsKept H.start H.book (record { context = s.context; history = log_entries s.log }) };
 }
 
 impl<'t, C: Naming, L: FrameLink + Drop, H: HistoryNaming> LockState<'t, C, L, H> {
@@ -51,6 +51,7 @@ impl<'t, C: Naming, L: FrameLink + Drop, H: HistoryNaming> LockState<'t, C, L, H
     ) -> Result<LockState<'t, C, L, H>, (Context<'t, C, L>, Pen)>
         requires pen { (pen_table pen ≡ H.table) × (pen_log pen ≡ []) }
         requires start { (state_of context ≡ H.start) × IsOpening H.start }
+        requires book { context.book ≡ H.book }
         ensures { IfErr result (λ e. (e.0 ≡ context.entry) × (e.1 ≡ pen)) }
     {
         match Log::new(alloc, pen) {
@@ -66,7 +67,7 @@ impl<'t, C: Naming, L: FrameLink + Drop, H: HistoryNaming> LockState<'t, C, L, H
     /// The context, and the history with the right to append.
     pub fn into_parts(self) -> (Context<'t, C, L>, Log)
         ensures table { table_of_log result.1 ≡ H.table }
-        ensures kept { IsKept H.start (record { context = result.0; history = log_entries result.1 }) }
+        ensures kept { IsKept H.start H.book (record { context = result.0; history = log_entries result.1 }) }
     {
         let LockState {
             context,
@@ -150,7 +151,7 @@ impl<'t, C: Naming, L: FrameLink + Drop, H: HistoryNaming> LockState<'t, C, L, H
         requires few { made_by pass.old < 4294967295 }
         ensures pass { IsSamePass pass.old pass.new }
         ensures answer { IsFramed H.start result pass.old pass.new }
-        ensures report { IfOk result (λ report. IsReport L C.admits C.views H.start report (pass_view pass.new).seen) }
+        ensures report { IfOk result (λ report. IsReport L C.admits C.views H.start H.book report (pass_view pass.new).seen) }
     {
         if self.log.reserve().is_err() {
             return Err(LockRefusal::Refused(Refusal::OutOfMemory));

@@ -1,8 +1,5 @@
-use Rattle.std.proofs.Common.{rules, ℕ, subst, sym, ◌∙◌}
-use Rattle.gfx_context.specs.declared.report.FrameReport.{FrameReport}
+use Rattle.std.proofs.Common.{rules, sym, ◌∙◌}
 use Rattle.res_lock.specs.Histories.{ends_frame}
-use Rattle.res_lock.specs.Seats.{pass_view}
-use Rattle.res_lock.specs.Locked.{IsReport}
 use Rattle.res_lock.proofs.KeptLaws.{ended_kept}
 use Rattle.res_lock.proofs.FrameLaws.{framed_kept, ok_framed, err_framed, reported, ok_reported, err_reported}
 use Rattle.res_lock.proofs.state.LockState.frame.Goals as goal
