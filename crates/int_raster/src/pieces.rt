@@ -1,5 +1,5 @@
 // The colours of a piece of a row, by a painter, and its depths, by a ramp.
-ghost use Rattle.std.specs.Prelude.{◌≡◌, ◌≤◌, ◌<◌, ◌+◌, ◌/◌, ◌%◌, ◌^◌, ℕ, pos, length};
+ghost use Rattle.std.specs.Prelude.{◌≡◌, ◌≤◌, ◌<◌, ◌+◌, ◌*◌, ◌/◌, ◌%◌, ◌^◌, ℕ, pos, length};
 ghost use Rattle.gfx_model.specs.Number.{zip_with, byte_product};
 ghost use Rattle.gfx_model.specs.Raster.{sample};
 ghost use Rattle.fix_math.specs.Seen.{texels_seen};
@@ -107,6 +107,34 @@ pub(crate) fn paint_piece(painter: &Painter, piece: &Span, colors: &mut [[u8; 4]
     }
 }
 
+/// The upper half of a number.
+#[inline(always)]
+fn upper_half(n: u128) -> u64
+    ensures { result ≡ n / 2 ^ 64 }
+{
+    (n >> 64) as u64
+}
+
+/// The lower half of a number.
+#[inline(always)]
+fn lower_half(n: u128) -> u64
+    ensures { result ≡ n % 2 ^ 64 }
+{
+    (n % (1 << 64)) as u64
+}
+
+/// The sum of two numbers of 128 bits by their halves. A compiler makes of it one addition a column, and of a sum in 128 bits
+/// one for each of several columns side by side, which takes longer.
+#[inline(always)]
+fn sum_of_halves(high: u64, low: u64, by_high: u64, by_low: u64) -> (u64, u64)
+    ensures sum { result.0 * 2 ^ 64 + result.1 ≡ (high * 2 ^ 64 + low + (by_high * 2 ^ 64 + by_low)) % 2 ^ 128 }
+    ensures small { result.1 < 2 ^ 64 }
+{
+    let sum = low.wrapping_add(by_low);
+    let carry = if sum < low { 1 } else { 0 };
+    (high.wrapping_add(by_high).wrapping_add(carry), sum)
+}
+
 /// The depths of a ramp.
 pub(crate) fn depth_piece(ramp: &WideRamp, piece: &Span, depths: &mut [u32])
     requires room { piece.now.after ≤ piece.now.first + length depths.old }
@@ -114,9 +142,11 @@ pub(crate) fn depth_piece(ramp: &WideRamp, piece: &Span, depths: &mut [u32])
     ensures few { AreDepths depths.new piece.now.first piece.now.after }
 {
     let (ramp, piece) = (*ramp, *piece);
-    let mut depth = wide_value_at(&ramp, piece.first, piece.y);
+    let start = wide_value_at(&ramp, piece.first, piece.y);
+    let (mut high, mut low) = (upper_half(start), lower_half(start));
+    let (by_high, by_low) = (upper_half(ramp.right), lower_half(ramp.right));
     for x in piece.first..piece.after {
-        depths[(x - piece.first) as usize] = (depth >> 104) as u32;
-        depth = depth.wrapping_add(ramp.right);
+        depths[(x - piece.first) as usize] = (high >> 40) as u32;
+        (high, low) = sum_of_halves(high, low, by_high, by_low);
     }
 }
