@@ -1,5 +1,5 @@
 -- A ramp one column on.
-use Rattle.std.proofs.Common.{◌≡◌, ℕ, ◌+◌, ◌*◌, ◌/◌, ◌%◌, ◌^◌, ◌<◌, ap, sym, ◌∙◌, arith}
+use Rattle.std.proofs.Common.{◌≡◌, ℕ, ◌+◌, ◌*◌, ◌/◌, ◌%◌, ◌^◌, ◌<◌, ap, ◌∙◌, arith}
 use Rattle.tri_cover.specs.declared.ramps.Ramp.{Ramp}
 use Rattle.tri_cover.specs.declared.ramps.WideRamp.{WideRamp}
 use Rattle.tri_cover.specs.Slope.{ramp_at}

@@ -1,4 +1,5 @@
-// The colours of a piece of a row, by a painter, and its depths, by a ramp.
+// The colours of a piece of a row, by a painter, and its depths, by a ramp. What is borrowed may change with each entry that is
+// stored, as far as a compiler can tell; so each loop copies it first, and the places of the piece are known to ascend by one.
 ghost use Rattle.std.specs.Prelude.{◌≡◌, ◌≤◌, ◌<◌, ◌+◌, ◌*◌, ◌/◌, ◌%◌, ◌^◌, ℕ, pos, length};
 ghost use Rattle.gfx_model.specs.Number.{zip_with, byte_product};
 ghost use Rattle.gfx_model.specs.Raster.{sample};

@@ -1,4 +1,4 @@
-use Rattle.std.proofs.Common.{◌≡◌, ◌<◌, ◌+◌, ◌-◌, ◌^◌, ◌/◌, [], slice_index_or, arith, ap, ◌∙◌}
+use Rattle.std.proofs.Common.{◌≡◌, ◌<◌, ◌+◌, ◌-◌, [], slice_index_or, arith, ap, ◌∙◌}
 use Rattle.gfx_model.specs.Number.{map_from}
 use Rattle.int_raster.specs.Places.{deep_pixels, spanned, in_row}
 use Rattle.int_raster.specs.Seen.{step_seen}

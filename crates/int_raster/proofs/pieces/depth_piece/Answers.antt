@@ -1,6 +1,5 @@
-use Rattle.std.proofs.Common.{◌<◌, ◌≤◌, ◌-◌, ◌/◌, ◌%◌, ◌^◌, arith, length, ◌∙◌}
+use Rattle.std.proofs.Common.{◌<◌, ◌≤◌, ◌-◌, ◌/◌, ◌^◌, arith, length, ◌∙◌}
 use Rattle.tri_cover.specs.Widened.{wide_whole}
-use Rattle.std.proofs.Math.Nat.{mod-lt}
 use Rattle.int_raster.proofs.Ramped.{halves, halves_more, upper_whole}
 use Rattle.int_raster.proofs.Held.{depths_none, few_none, depths_more, few_more, depths_all, few_all}
 use Rattle.int_raster.proofs.pieces.depth_piece.Goals as goal
