@@ -14,6 +14,7 @@ cosines =
     pos 65536 ∷ pos 60547 ∷ pos 46341 ∷ pos 25080 ∷ pos 0 ∷ negsuc 25079 ∷ negsuc 46340 ∷ negsuc 60546
     ∷ negsuc 65535 ∷ negsuc 60546 ∷ negsuc 46340 ∷ negsuc 25079 ∷ pos 0 ∷ pos 25080 ∷ pos 46341 ∷ pos 60547 ∷ []
 
+-- the cosine of so many steps
 abbrev pub cosine : ℕ → ℤ
 cosine steps = slice_index_or cosines (steps % 16) (pos 0)
 

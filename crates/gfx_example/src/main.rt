@@ -1,7 +1,7 @@
 //! `gfx_example`: a ring of sixteen small triangles that turns, without scene text, as an engine draws it. The pictures of sixteen frames
 //! go to standard output, one behind the other, in the P6 format.
 //!
-//! The exit status is 0 where all pictures were written, 4 where a write failed, and 8 where memory ran out.
+//! The exit status is 0 where all pictures were written, 4 where a write failed, and 8 where a call was refused, as for want of memory.
 #![tactic(auto)]
 
 mod recording;

@@ -3,15 +3,19 @@ use Rattle.std.specs.Prelude.{◌≡◌, ◌⊎◌, ℕ, List, Option, Ok, Err}
 use Rattle.io_edge.specs.Edge.{with_back}
 use Rattle.load_text.specs.Loads.{Block}
 use Rattle.load_text.specs.Text.{load_of}
+use Rattle.load_text.specs.Laws.{IsTextOf, AreBlocks}
 use Rattle.gfx_load.specs.LoadHistories.{AreNotesOf}
 use Rattle.gfx_load.specs.Io.{longest, IsRead, HasMoreThan, HasFront}
 use Rattle.gfx_load.specs.declared.status.LoadStatus.{LoadStatus}
 use Rattle.gfx_load.specs.declared.status.LoadStatus.TheVariants as status
 
--- the source was read to its end, and its bytes are a load of these blocks
+-- the source was read to its end, and its bytes are a load of these blocks, one for each caller at most
 pub record IsLoad (bytes : List ℕ) (blocks : List Block) (before after : Option (List ℕ)) : Type 0 where
   pub read : IsRead bytes before after
   pub is : load_of bytes ≡ Ok blocks
+  pub count : ℕ
+  pub callers : IsTextOf count bytes
+  pub are : AreBlocks count blocks
 
 -- before and after: what the source has left; old and new: what the notes hold; the last two: a read failed, a put failed
 abbrev pub Ended : LoadStatus → (before after old new : Option (List ℕ)) → Type 0 → Type 0 → Type 0

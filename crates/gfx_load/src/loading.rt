@@ -15,7 +15,7 @@ use crate::output::put_all;
 use crate::running::run_load;
 use crate::status::LoadStatus;
 use io_edge::{Gate, Sink, Source};
-use load_text::{Block, LoadFault, read_load};
+use load_text::{Block, LoadFault, load_law, read_load};
 use std::alloc::{AllocError, Global};
 use std::sync::Wait;
 use std::thread::Threads;
@@ -68,6 +68,7 @@ fn run<R: Threads + Wait + Sync, S: Source, N: Sink, G: Gate + Sync>(
     ensures sure { N.sure notes.new ≡ N.sure notes.old }
     ensures no_fewer { (S.faults source.old ≤ S.faults source.new) × (N.faults notes.old ≤ N.faults notes.new) }
 {
+    load_law();
     let bytes = match read_all(alloc, source) {
         Ok(bytes) => bytes,
         Err(InputError::Fault) => return LoadStatus::ReadFault,
@@ -87,7 +88,7 @@ fn run<R: Threads + Wait + Sync, S: Source, N: Sink, G: Gate + Sync>(
 /// thread of its own, or by this thread where none can be started, all on one context behind a lock. Whoever runs a block calls the gate
 /// with the caller's number before each line, with how many lines of the block came before. The notes are put when all blocks were run.
 ///
-/// The history is legal: each reply is the one of the definition after the calls before it. It has the calls of each block once, in
+/// Each caller has one block at most. The history is legal: each reply is the one of the definition after the calls before it. It has the calls of each block once, in
 /// their order, and no others. To destroy what a refused create line did not make is no call.
 ///
 /// The status says how it ended. `Text` and `TooLong` come exactly by the bytes; `ReadFault` and `NoteFault` only where that object's count

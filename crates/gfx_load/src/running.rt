@@ -7,7 +7,7 @@ ghost use Rattle.load_text.specs.Loads.{lines_of};
 ghost use Rattle.load_text.specs.Seen.{block_seen};
 ghost use Rattle.res_lock.specs.Seen.{entries_seen};
 ghost use Rattle.res_lock.specs.Seats.{table_of, pass_table};
-ghost use Rattle.gfx_load.specs.LoadHistories.{load_start, IsHistoryOf};
+ghost use Rattle.gfx_load.specs.LoadHistories.{load_start, load_book, IsHistoryOf};
 ghost use Rattle.gfx_load.specs.Runs.{IsFirstOf};
 
 use crate::blocks::Ran;
@@ -91,7 +91,7 @@ where
     requires seat { (seats.api_table seat ≡ C.table) × (seats.api_view seat ≡ seat_views.first_view 0) }
     requires views { C.views ≡ fewest_views }
     requires link { (L.given link ≡ []) × (L.back link ≡ []) × (L.latency link ≡ 1) }
-    requires start { H.start ≡ load_start }
+    requires start { (H.start ≡ load_start) × (H.book ≡ load_book) }
     requires table { (table_of table ≡ H.table) × (pass_table first ≡ H.table) }
     requires first { IsFirstOf 1 first }
     ensures { IfOk result (λ entries. IsHistoryOf (map block_seen blocks.now) (entries_seen entries.items)) }
@@ -130,7 +130,7 @@ where
     requires hold { seats.table_of hold ≡ C.table }
     requires seat { (seats.api_table seat ≡ C.table) × (seats.api_view seat ≡ seat_views.first_view 0) }
     requires views { C.views ≡ fewest_views }
-    requires start { H.start ≡ load_start }
+    requires start { (H.start ≡ load_start) × (H.book ≡ load_book) }
     requires table { (table_of table ≡ H.table) × (pass_table first ≡ H.table) }
     requires first { IsFirstOf 1 first }
     ensures { IfOk result (λ entries. IsHistoryOf (map block_seen blocks.now) (entries_seen entries.items)) }

@@ -75,6 +75,50 @@ impl Gate for Hold {
     }
 }
 
+// Counts its calls, and keeps the greatest number of a line of caller 0 and of the other caller.
+#[derive(Drop)]
+struct Count {
+    calls: AtomicU32,
+    first: AtomicU32,
+    other: AtomicU32,
+}
+
+impl Count {
+    fn new() -> Count {
+        Count {
+            calls: AtomicU32::new(0),
+            first: AtomicU32::new(0),
+            other: AtomicU32::new(0),
+        }
+    }
+
+    fn found(&self) -> (u32, u32, u32) {
+        (
+            self.calls.load(Ordering::SeqCst),
+            self.first.load(Ordering::SeqCst),
+            self.other.load(Ordering::SeqCst),
+        )
+    }
+}
+
+// One thread alone stores the number of a caller's lines.
+fn keep_greatest(kept: &AtomicU32, item: u32) {
+    if item > kept.load(Ordering::SeqCst) {
+        kept.store(item, Ordering::SeqCst);
+    }
+}
+
+impl Gate for Count {
+    fn at(&self, who: u8, item: u32) {
+        self.calls.fetch_add(1, Ordering::SeqCst);
+        if who == 0 {
+            keep_greatest(&self.first, item);
+        } else {
+            keep_greatest(&self.other, item);
+        }
+    }
+}
+
 const ONE_CALLER: &[u8] =
     b"load 1\ncallers 1\ncaller 0\nprogram a solid\nuniform u vec4\ndestroy a\nprogram b solid\nframe\nframe\nprogram c solid\ndone\n";
 
@@ -139,6 +183,20 @@ fn what_was_refused_is_not_destroyed(rt: HostRuntime) -> Result<(), Fail> {
     let first = notes == b"0:0 index 0 serial 1\n0:1 index 0 serial 2\n1:0 refused 6\n".as_slice();
     let second = notes == b"0:0 index 0 serial 1\n1:0 refused 6\n0:1 index 0 serial 2\n".as_slice();
     assert!(rt; first || second);
+    Ok(())
+}
+
+// The gate is called before each line of a block, also before one that is no call.
+#[test]
+fn each_line_is_at_the_gate(rt: HostRuntime) -> Result<(), Fail> {
+    let gate = Count::new();
+    let left = left_by(&rt, rt.alloc(), ONE_CALLER, &[], 1000, &gate)?;
+    assert_eq!(rt; left.status, LoadStatus::Done);
+    assert_eq!(rt; gate.found(), (7, 6, 0));
+    let gate = Count::new();
+    let left = left_by(&rt, rt.alloc(), ONE_REFUSED, &[], 1000, &gate)?;
+    assert_eq!(rt; left.status, LoadStatus::Done);
+    assert_eq!(rt; gate.found(), (4, 1, 1));
     Ok(())
 }
 

@@ -3,6 +3,7 @@ use Rattle.std.specs.Prelude.{ℕ}
 use Rattle.gfx_query.specs.declared.status.QueryStatus.{QueryStatus}
 use Rattle.gfx_query.specs.declared.status.QueryStatus.TheVariants as status
 
+-- the exit number of a status
 abbrev pub status_number : QueryStatus → ℕ
 status_number status.Done = 0
 status_number (status.Text line) = 2

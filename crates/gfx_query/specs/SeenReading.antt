@@ -10,6 +10,7 @@ use Rattle.gfx_query.specs.declared.script.Script.{Script}
 use Rattle.gfx_query.specs.declared.text.TextFault.{TextFault}
 use Rattle.gfx_query.specs.declared.text.TextFault.TheVariants as faults
 
+-- which lines may come
 abbrev pub stage_seen : Stage → text.Stage
 stage_seen stages.Front = text.at_front
 stage_seen stages.Size = text.at_size
@@ -17,6 +18,7 @@ stage_seen stages.FirstFrame = text.at_first_frame
 stage_seen stages.InFrame = text.in_frame
 stage_seen stages.End = text.at_end
 
+-- what was read so far
 abbrev pub reading_seen : Reading → text.Reading
 reading_seen r = record { stage = stage_seen r.stage; width = r.sides.width; height = r.sides.height; frames = map frame_seen r.frames.items; instances = r.instances.items }
 

@@ -41,6 +41,7 @@ packed unit f = some_read (hex_bytes f) >>= λ bytes. when (length bytes % unit 
 unfoldable pub state_word : Field → Option ℕ
 state_word f = number 0 (2 ^ 64 - 1) f >>= λ n. when (is_state_word n) >>= λ _. Some n
 
+-- a number that is an admitted stencil word
 unfoldable pub stencil_word : Field → Option ℕ
 stencil_word f = number 0 4294967295 f >>= λ n. when (is_stencil_word n) >>= λ _. Some n
 
@@ -49,13 +50,15 @@ abbrev pub some_query : Option ℕ → Option (Option ℕ)
 some_query None = None
 some_query (Some q) = Some (Some q)
 
+-- `-` or the number of a query
 unfoldable pub query_field : Field → Option (Option ℕ)
 query_field f = if is_dash f then Some None else some_query (number 0 63 f)
 
--- a query whose last result is to be other than 0, or 0
+-- a query whose last result is to be other than 0
 abbrev pub seen_field : Field → Option Condition
 seen_field f = number 0 63 f >>= λ q. Some (where_seen q)
 
+-- a query whose last result is to be 0
 abbrev pub unseen_field : Field → Option Condition
 unseen_field f = number 0 63 f >>= λ q. Some (where_unseen q)
 
@@ -156,6 +159,7 @@ setting_form fs =
     else (if is_word (codes "state") fs then state_form fs
     else (if is_word (codes "stencil") fs then stencil_form fs else None))
 
+-- behind a line that clears or sets a word
 unfoldable pub after_setting : Reading → List Field → Option Reading
 after_setting r fs = setting_form fs >>= λ s. Some (with_step s r)
 

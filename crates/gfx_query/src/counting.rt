@@ -1,7 +1,6 @@
 // The fragments of a draw.
-ghost use Rattle.std.specs.Prelude.{◌≡◌, ◌≤◌, ◌+◌, ◌*◌, ◌^◌, ℕ, List, length, map, IfOk};
+ghost use Rattle.std.specs.Prelude.{◌≡◌, ◌≤◌, ◌+◌, ◌*◌, ◌/◌, ◌^◌, ℕ, List, length, map, vec_capacity, IfOk, OnErr};
 ghost use Rattle.fix_math.specs.Seen.{affine_seen};
-ghost use Rattle.tri_cover.specs.Shown.{setup_seen};
 ghost use Rattle.gfx_query.specs.Counting.{Counted, counted_by, counted_on, words_in, passed_in};
 ghost use Rattle.gfx_query.specs.Draws.{vertices_in, instance_facings, draw_facings};
 ghost use Rattle.gfx_query.specs.Standing.{Stand, facing_with, facing_seen};
@@ -32,12 +31,25 @@ pub struct InstanceRoom {
 }
 
 impl InstanceRoom {
+    ghost use Rattle.std.specs.Prelude.{◌≤◌, vec_capacity, IfOk};
+
     /// No room yet. It takes no memory.
     pub fn new(alloc: Global) -> InstanceRoom {
         InstanceRoom {
             vertices: Vec::new(alloc),
             triangles: Vec::new(alloc),
         }
+    }
+
+    /// Takes what is wanting of the room for an instance of so many vertices.
+    fn reserve(&mut self, vertices: usize) -> Result<(), AllocError>
+        ensures vertices { IfOk result (λ _. vertices ≤ vec_capacity self.new.vertices) }
+        ensures triangles { IfOk result (λ _. vertices ≤ vec_capacity self.new.triangles) }
+    {
+        self.vertices.clear();
+        self.vertices.try_reserve(vertices)?;
+        self.triangles.clear();
+        self.triangles.try_reserve(vertices)
     }
 }
 
@@ -86,21 +98,25 @@ fn count_instance(
     model: &Affine,
     vertices: &[u8],
     room: &mut InstanceRoom,
-) -> Result<u64, AllocError>
+) -> u64
     requires whole { length words.old ≡ sides.now.width * sides.now.height }
     requires few { length vertices.now ≤ 16777216 }
-    ensures few { IfOk result (λ count. count ≤ 2 ^ 43) }
-    ensures counted { IfOk result (λ count. (n : ℕ) (ps : List Counted) → Stand words.old n ps →
-        Stand words.new (n + count) (counted_by sides.now.width draw.now.state (instance_facings sides.now.width sides.now.height draw.now.state draw.now.front draw.now.back (vertices_in vertices.now) (affine_seen model.now)) ps)) }
+    requires vertices { length vertices.now / 12 ≤ vec_capacity room.old.vertices }
+    requires triangles { length vertices.now / 12 ≤ vec_capacity room.old.triangles }
+    ensures few { result ≤ 2 ^ 43 }
+    ensures counted { (n : ℕ) (ps : List Counted) → Stand words.old n ps →
+        Stand words.new (n + result) (counted_by sides.now.width draw.now.state (instance_facings sides.now.width sides.now.height draw.now.state draw.now.front draw.now.back (vertices_in vertices.now) (affine_seen model.now)) ps) }
+    ensures vertices { vec_capacity room.new.vertices ≡ vec_capacity room.old.vertices }
+    ensures triangles { vec_capacity room.new.triangles ≡ vec_capacity room.old.triangles }
 {
-    place_vertices(&mut room.vertices, sides, model, vertices)?;
+    place_vertices(&mut room.vertices, sides, model, vertices);
     triangles_of(
         &mut room.triangles,
         &room.vertices,
         draw.state.primitive(),
         draw.state.cull(),
-    )?;
-    Ok(count_triangles(words, sides, draw, &room.triangles))
+    );
+    count_triangles(words, sides, draw, &room.triangles)
 }
 
 /// Counts the fragments of all instances that pass, one instance after the other.
@@ -111,30 +127,32 @@ fn count_instances(
     vertices: &[u8],
     instances: &[u8],
     room: &mut InstanceRoom,
-) -> Result<u64, AllocError>
+) -> u64
     requires whole { length words.old ≡ sides.now.width * sides.now.height }
     requires few_vertices { length vertices.now ≤ 16777216 }
     requires few_instances { length instances.now ≤ 16777216 }
-    ensures few { IfOk result (λ count. count ≤ 2 ^ 62) }
-    ensures counted { IfOk result (λ count. (n : ℕ) (ps : List Counted) → Stand words.old n ps →
-        Stand words.new (n + count) (counted_by sides.now.width draw.now.state (draw_facings sides.now.width sides.now.height draw.now.state draw.now.front draw.now.back vertices.now instances.now) ps)) }
+    requires vertices { length vertices.now / 12 ≤ vec_capacity room.old.vertices }
+    requires triangles { length vertices.now / 12 ≤ vec_capacity room.old.triangles }
+    ensures few { result ≤ 2 ^ 62 }
+    ensures counted { (n : ℕ) (ps : List Counted) → Stand words.old n ps →
+        Stand words.new (n + result) (counted_by sides.now.width draw.now.state (draw_facings sides.now.width sides.now.height draw.now.state draw.now.front draw.now.back vertices.now instances.now) ps) }
 {
     if instances.is_empty() {
         let identity = Affine::identity();
-        let passed = count_instance(words, sides, draw, &identity, vertices, room)?;
-        return Ok(passed);
+        return count_instance(words, sides, draw, &identity, vertices, room);
     }
     let mut passed = 0;
     for number in 0..instances.len() / 48 {
         let model = transform_at(instances, 48 * number);
-        let more = count_instance(words, sides, draw, &model, vertices, room)?;
-        passed += more;
+        passed += count_instance(words, sides, draw, &model, vertices, room);
     }
-    Ok(passed)
+    passed
 }
 
 /// Makes a draw's triangles, once for each instance, on the depth words of a target, and counts the fragments that pass both tests.
 /// The vertices are whole ones of three fixed numbers, the instances whole transforms; no bytes are one identity transform.
+///
+/// `Err` comes for want of memory alone, before anything is counted: the words are as they were.
 pub fn count_draw(
     words: &mut [u32],
     sides: &TargetSides,
@@ -149,7 +167,9 @@ pub fn count_draw(
     ensures few { IfOk result (λ count. count ≤ 2 ^ 62) }
     ensures words { IfOk result (λ _. words.new ≡ words_in (counted_on sides.now.width draw.now.state (draw_facings sides.now.width sides.now.height draw.now.state draw.now.front draw.now.back vertices.now instances.now) words.old)) }
     ensures count { IfOk result (λ count. count ≡ passed_in (counted_on sides.now.width draw.now.state (draw_facings sides.now.width sides.now.height draw.now.state draw.now.front draw.now.back vertices.now instances.now) words.old)) }
+    ensures stays { OnErr result (words.new ≡ words.old) }
 {
-    let passed = count_instances(words, sides, draw, vertices, instances, room)?;
+    room.reserve(vertices.len() / 12)?;
+    let passed = count_instances(words, sides, draw, vertices, instances, room);
     Ok(passed)
 }

@@ -1,5 +1,5 @@
 // Transforms, and the vertices of an instance on the target.
-ghost use Rattle.std.specs.Prelude.{◌≡◌, ◌≤◌, ◌+◌, ◌*◌, ◌/◌, ◌<◌, [], ◌∷◌, length, map, option_map, OnOk};
+ghost use Rattle.std.specs.Prelude.{◌≡◌, ◌≤◌, ◌+◌, ◌/◌, ◌<◌, [], ◌∷◌, length, map, option_map, vec_len, vec_capacity};
 ghost use Rattle.std.specs.Prelude.{FitsSigned};
 ghost use Rattle.std.specs.Int.{w32};
 ghost use Rattle.gfx_model.specs.Number.{i32_at};
@@ -10,7 +10,6 @@ ghost use Rattle.gfx_query.specs.Draws.{position_layout, vertices_in, transform_
 
 use crate::sides::TargetSides;
 use fix_math::{Affine, Rect};
-use std::alloc::AllocError;
 use tri_cover::{ScreenVertex, place};
 use vertex_layout::{Attr, AttrType, LayoutBuilder, Vertex, VertexLayout};
 
@@ -95,22 +94,23 @@ fn instance_vertex(
     }
 }
 
-/// Puts the vertices of an instance on the target, one after another.
+/// Puts the vertices of an instance on the target, one after another, in a vector that has room for them. It takes no memory.
 pub(crate) fn place_vertices(
     placed: &mut Vec<Option<ScreenVertex>>,
     sides: &TargetSides,
     model: &Affine,
     bytes: &[u8],
-) -> Result<(), AllocError>
-    requires { length bytes.now ≤ 16777216 }
-    ensures placed { OnOk result (map (option_map screen_seen) placed.new.items ≡ map (instance_vertex sides.now.width sides.now.height (affine_seen model.now)) (vertices_in bytes.now)) }
-    ensures few { OnOk result (length placed.new.items ≡ length bytes.now / 12) }
+)
+    requires small { length bytes.now ≤ 16777216 }
+    requires room { length bytes.now / 12 ≤ vec_capacity placed.old }
+    ensures placed { map (option_map screen_seen) placed.new.items ≡ map (instance_vertex sides.now.width sides.now.height (affine_seen model.now)) (vertices_in bytes.now) }
+    ensures few { length placed.new.items ≡ length bytes.now / 12 }
+    ensures room { vec_capacity placed.new ≡ vec_capacity placed.old }
 {
     placed.clear();
     let layout = position_layout();
     for number in 0..(bytes.len() / 12) as u32 {
         let vertex = layout.fetch(bytes, number);
-        placed.push(instance_vertex(sides, model, vertex))?;
+        placed.push_reserved(instance_vertex(sides, model, vertex));
     }
-    Ok(())
 }

@@ -3,6 +3,7 @@ use Rattle.std.specs.Prelude.{ℕ}
 use Rattle.gfx_shares.specs.declared.status.SharesStatus.{SharesStatus}
 use Rattle.gfx_shares.specs.declared.status.SharesStatus.TheVariants as status
 
+-- the exit number of a status
 abbrev pub status_number : SharesStatus → ℕ
 status_number status.Done = 0
 status_number (status.Scene line cause) = 2

@@ -87,7 +87,7 @@ fn run<R: Threads + Wait + Sync, S: Source, N: Sink>(
 
 /// Reads a scene to its end, at most 16,777,216 bytes, and puts one line for each frame and each of its views in which two encoders
 /// share a key: `frame K view V encoders A B`, the frames and in each frame the views ascending, A and B the least pair of such
-/// encoders. Where no line is put, the pictures do not depend on the threads' schedule.
+/// encoders. Where it is done and no line was put, the pictures do not depend on the threads' schedule.
 ///
 /// All frames are recorded, by recorder threads where they can be started, before a line is put; none is rendered. Resource calls of
 /// the scene's lines that are refused are dropped, as in a play.

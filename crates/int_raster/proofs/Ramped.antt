@@ -1,9 +1,9 @@
 -- A ramp one column on.
-use Rattle.std.proofs.Common.{◌≡◌, ℕ, ◌+◌, ◌*◌, ◌%◌, ◌^◌, ap, ◌∙◌, arith}
+use Rattle.std.proofs.Common.{◌≡◌, ℕ, ◌+◌, ◌*◌, ◌/◌, ◌%◌, ◌^◌, ◌<◌, ap, ◌∙◌, arith}
 use Rattle.tri_cover.specs.declared.ramps.Ramp.{Ramp}
 use Rattle.tri_cover.specs.declared.ramps.WideRamp.{WideRamp}
 use Rattle.tri_cover.specs.Slope.{ramp_at}
-use Rattle.tri_cover.specs.Widened.{wide_at}
+use Rattle.tri_cover.specs.Widened.{wide_at, wide_whole}
 
 next_column : (s x r d : ℕ) → ((s + x * r + d) % 2 ^ 64 + r) % 2 ^ 64 ≡ (s + (x + 1) * r + d) % 2 ^ 64
 next_column s x r d = omega arith
@@ -16,3 +16,21 @@ next_wide s x r d = omega arith
 
 pub wide_more : (r : WideRamp) (x y v : ℕ) → v ≡ wide_at r x y → (v + r.right) % 2 ^ 128 ≡ wide_at r (x + 1) y
 wide_more r x y v e = ap (λ n. (n + r.right) % 2 ^ 128) e ∙ next_wide r.start x r.right (y * r.down)
+
+-- a number by its halves
+pub halves : (n high low : ℕ) → high ≡ n / 2 ^ 64 → low ≡ n % 2 ^ 64 → high * 2 ^ 64 + low ≡ n
+halves n high low h l = omega (arith, h, l)
+
+-- a wide ramp one column on, by halves
+pub halves_more : (r : WideRamp) (x y high low by_high by_low next_high next_low : ℕ) → high * 2 ^ 64 + low ≡ wide_at r x y → by_high ≡ r.right / 2 ^ 64 → by_low ≡ r.right % 2 ^ 64 →
+    next_high * 2 ^ 64 + next_low ≡ (high * 2 ^ 64 + low + (by_high * 2 ^ 64 + by_low)) % 2 ^ 128 →
+    next_high * 2 ^ 64 + next_low ≡ wide_at r (x + 1) y
+halves_more r x y high low by_high by_low next_high next_low e h l sum =
+    sum ∙ ap (λ n. (high * 2 ^ 64 + low + n) % 2 ^ 128) (halves r.right by_high by_low h l) ∙ wide_more r x y (high * 2 ^ 64 + low) e
+
+-- the whole part by the upper half
+pub upper_whole : (r : WideRamp) (x y high low : ℕ) → high * 2 ^ 64 + low ≡ wide_at r x y → low < 2 ^ 64 → high / 2 ^ 40 ≡ wide_whole r x y
+upper_whole r x y high low e b = upper high low b ∙ ap (λ n. n / 2 ^ 104) e
+  where
+    upper : (high low : ℕ) → low < 2 ^ 64 → high / 2 ^ 40 ≡ (high * 2 ^ 64 + low) / 2 ^ 104
+    upper high low b = omega (arith, b)

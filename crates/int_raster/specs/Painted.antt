@@ -82,3 +82,11 @@ bytes_of c = slice_index c 0 ∷ slice_index c 1 ∷ slice_index c 2 ∷ slice_i
 -- a list has the colours of the columns from one up to another
 abbrev pub HoldsPiece : List Color → (ℕ → Color) → (first after : ℕ) → Type 0
 HoldsPiece colors f first after = (x : ℕ) → first ≤ x → x < after → slice_index_or colors (x - first) [] ≡ f x
+
+-- a list has the depths of the columns from one up to another
+abbrev pub HoldsDepths : List ℕ → (ℕ → ℕ) → (first after : ℕ) → Type 0
+HoldsDepths depths f first after = (x : ℕ) → first ≤ x → x < after → slice_index_or depths (x - first) 0 ≡ f x
+
+-- a list has depths in the columns from one up to another
+abbrev pub AreDepths : List ℕ → (first after : ℕ) → Type 0
+AreDepths depths first after = (x : ℕ) → first ≤ x → x < after → slice_index_or depths (x - first) 0 ≤ 16777215

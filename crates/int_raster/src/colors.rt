@@ -11,7 +11,7 @@ ghost use Rattle.int_raster.specs.Seen.{paint_seen, color_seen, color_change};
 
 use crate::columns::{drawn_columns, drawn_rows};
 use crate::lists::Prepared;
-use crate::painters::{Painter, Shade, is_opaque, value_at, whole};
+use crate::painters::{Painter, Shade, is_opaque, packed, value_at, whole};
 use crate::painting::stepped;
 use crate::pieces::paint_piece;
 use crate::rows::Rows;
@@ -54,17 +54,19 @@ fn store_shade(colors: &mut [[u8; 4]], span: &Span, shade: &Shade, setup: &Setup
     requires paints { (x : ℕ) → span.now.first ≤ x → x < span.now.after → shade_at shade.now x span.now.y ≡ painted (paint_seen draw.now.paint) (fragment_at (setup_seen setup.now).triangle x span.now.y) }
     ensures { colors.new ≡ map_from (spanned (in_row span.now.start span.now.y (color_seen draw.now setup.now)) (span.now.start + span.now.first) (span.now.start + span.now.after)) 0 colors.old }
 {
+    let (span, shade) = (*span, *shade);
     let mut red = value_at(&shade.red, span.first, span.y);
     let mut green = value_at(&shade.green, span.first, span.y);
     let mut blue = value_at(&shade.blue, span.first, span.y);
     let mut alpha = value_at(&shade.alpha, span.first, span.y);
     for x in span.first..span.after {
-        colors[span.start + x as usize] = [
+        let color = [
             (red >> 56) as u8,
             (green >> 56) as u8,
             (blue >> 56) as u8,
             (alpha >> 56) as u8,
         ];
+        colors[span.start + x as usize] = packed(color);
         red = red.wrapping_add(shade.red.right);
         green = green.wrapping_add(shade.green.right);
         blue = blue.wrapping_add(shade.blue.right);
@@ -87,6 +89,7 @@ fn store<S: Store>(
     requires paints { HoldsPiece paints.now (λ x. painted (paint_seen draw.now.paint) (fragment_at (setup_seen setup.now).triangle x span.now.y)) span.now.first span.now.after }
     ensures { colors.new ≡ map_from (spanned (in_row span.now.start span.now.y (color_seen draw.now setup.now)) (span.now.start + span.now.first) (span.now.start + span.now.after)) 0 colors.old }
 {
+    let span = *span;
     for x in span.first..span.after {
         let old = colors[span.start + x as usize];
         let color = paints[(x - span.first) as usize];

@@ -6,7 +6,7 @@ ghost use Rattle.gfx_model.specs.World.{painted};
 ghost use Rattle.tri_cover.specs.Shown.{setup_seen};
 ghost use Rattle.int_raster.specs.Drawing.{prepared_step};
 ghost use Rattle.int_raster.specs.Places.{deep_pixels, spanned, by_place, below, in_row};
-ghost use Rattle.int_raster.specs.Painted.{PaintsSpan, Paints, HoldsPiece, HasDepths, HasWideDepths, HasSpanDepths, HasWideSpanDepths};
+ghost use Rattle.int_raster.specs.Painted.{PaintsSpan, Paints, HoldsPiece, HoldsDepths, AreDepths, HasDepths, HasWideDepths, HasSpanDepths, HasWideSpanDepths};
 ghost use Rattle.int_raster.specs.Rules.{IsPlain, IsMix, IsLevel, IsOver, IsFree};
 ghost use Rattle.int_raster.specs.Seen.{paint_seen, prepared_seen, step_seen, change_seen};
 
@@ -17,12 +17,12 @@ use crate::lists::Prepared;
 use crate::opaque::{Level, Mix, Rule, rule_of};
 use crate::painters::{Brush, Painter, brush_of, is_opaque, one_color, one_depth, painter_of};
 use crate::painting::stencil_of;
-use crate::pieces::paint_piece;
+use crate::pieces::{depth_piece, paint_piece};
 use crate::rows::Rows;
 use crate::spans::Span;
 use crate::stores::{Laid, Opaque};
 use pixel_ops::Blending;
-use tri_cover::{Ramp, Setup, WideRamp};
+use tri_cover::{Ramp, Setup};
 
 /// Blends or masks painted colours in a piece, with their depths.
 fn store_mixed(
@@ -30,7 +30,7 @@ fn store_mixed(
     depths: &mut [[u8; 4]],
     span: &Span,
     paints: &[[u8; 4]],
-    depth: &WideRamp,
+    news: &[u32],
     mixing: &Mix,
     setup: &Setup,
     draw: &Prepared,
@@ -39,18 +39,18 @@ fn store_mixed(
     requires same { length depths.old ≡ length colors.old }
     requires room { span.now.after ≤ span.now.first + length paints.now }
     requires paints { HoldsPiece paints.now (λ x. painted (paint_seen draw.now.paint) (fragment_at (setup_seen setup.now).triangle x span.now.y)) span.now.first span.now.after }
-    requires depths { HasWideSpanDepths depth.now setup.now span.now.y span.now.first span.now.after }
+    requires new_room { span.now.after ≤ span.now.first + length news.now }
+    requires depths { HoldsDepths news.now (λ x. (fragment_at (setup_seen setup.now).triangle x span.now.y).depth) span.now.first span.now.after }
+    requires few { AreDepths news.now span.now.first span.now.after }
     requires mixing { IsMix mixing.now draw.now setup.now }
     ensures { deep_pixels colors.new depths.new ≡ map_from (spanned (in_row span.now.start span.now.y (step_seen draw.now setup.now)) (span.now.start + span.now.first) (span.now.start + span.now.after)) 0 (deep_pixels colors.old depths.old) }
 {
     let (rule, blending) = (&mixing.rule, &mixing.blending);
     if blending.lays_over() {
-        store(
-            colors, depths, span, paints, depth, rule, &Laid, setup, draw,
-        );
+        store(colors, depths, span, paints, news, rule, &Laid, setup, draw);
     } else {
         store(
-            colors, depths, span, paints, depth, rule, blending, setup, draw,
+            colors, depths, span, paints, news, rule, blending, setup, draw,
         );
     }
 }
@@ -61,7 +61,7 @@ fn store_piece(
     depths: &mut [[u8; 4]],
     span: &Span,
     paints: &[[u8; 4]],
-    depth: &WideRamp,
+    news: &[u32],
     rule: &Option<Rule>,
     mixing: &Option<Mix>,
     setup: &Setup,
@@ -71,18 +71,20 @@ fn store_piece(
     requires same { length depths.old ≡ length colors.old }
     requires room { span.now.after ≤ span.now.first + length paints.now }
     requires paints { HoldsPiece paints.now (λ x. painted (paint_seen draw.now.paint) (fragment_at (setup_seen setup.now).triangle x span.now.y)) span.now.first span.now.after }
-    requires depths { HasWideSpanDepths depth.now setup.now span.now.y span.now.first span.now.after }
+    requires new_room { span.now.after ≤ span.now.first + length news.now }
+    requires depths { HoldsDepths news.now (λ x. (fragment_at (setup_seen setup.now).triangle x span.now.y).depth) span.now.first span.now.after }
+    requires few { AreDepths news.now span.now.first span.now.after }
     requires rule { IfSome rule.now (λ r. IsPlain r draw.now setup.now) }
     requires mixing { IfSome mixing.now (λ m. IsMix m draw.now setup.now) }
     ensures { deep_pixels colors.new depths.new ≡ map_from (spanned (in_row span.now.start span.now.y (step_seen draw.now setup.now)) (span.now.start + span.now.first) (span.now.start + span.now.after)) 0 (deep_pixels colors.old depths.old) }
 {
     match rule {
         Some(rule) => store(
-            colors, depths, span, paints, depth, rule, &Opaque, setup, draw,
+            colors, depths, span, paints, news, rule, &Opaque, setup, draw,
         ),
         None => match mixing {
-            Some(mixing) => store_mixed(colors, depths, span, paints, depth, mixing, setup, draw),
-            None => step(colors, depths, span, paints, depth, setup, draw),
+            Some(mixing) => store_mixed(colors, depths, span, paints, news, mixing, setup, draw),
+            None => step(colors, depths, span, paints, news, setup, draw),
         },
     }
 }
@@ -107,20 +109,14 @@ fn in_pieces(
     ensures { deep_pixels colors.new depths.new ≡ map_from (spanned (in_row span.now.start span.now.y (step_seen draw.now setup.now)) (span.now.start + span.now.first) (span.now.start + span.now.after)) 0 (deep_pixels colors.old depths.old) }
 {
     let mut paints = [[0; 4]; 32];
+    let mut news = [0; 32];
     let mut first = span.first;
     while first < span.after {
         let piece = span.piece(first);
         paint_piece(&brush.painter, &piece, &mut paints);
+        depth_piece(&brush.depth, &piece, &mut news);
         store_piece(
-            colors,
-            depths,
-            &piece,
-            &paints,
-            &brush.depth,
-            rule,
-            mixing,
-            setup,
-            draw,
+            colors, depths, &piece, &paints, &news, rule, mixing, setup, draw,
         );
         first = piece.after;
     }

@@ -5,18 +5,18 @@ ghost use Rattle.gfx_model.specs.Raster.{covers, fragment_at};
 ghost use Rattle.gfx_model.specs.World.{painted};
 ghost use Rattle.tri_cover.specs.Shown.{setup_seen};
 ghost use Rattle.int_raster.specs.Places.{deep_pixels, spanned, in_row};
-ghost use Rattle.int_raster.specs.Painted.{shade_at, HoldsPiece, HasSpanDepths, HasWideSpanDepths};
+ghost use Rattle.int_raster.specs.Painted.{shade_at, HoldsPiece, HoldsDepths, AreDepths, HasSpanDepths};
 ghost use Rattle.int_raster.specs.Rules.{IsLevel, IsPlain, IsRule};
 ghost use Rattle.int_raster.specs.Seen.{facing_seen, paint_seen, step_seen};
 
 use crate::lists::Prepared;
 use crate::opaque::{Level, Rule, stored_after};
-use crate::painters::{Shade, value_at, wide_value_at};
+use crate::painters::{Shade, value_at};
 use crate::painting::{stencil_of, stepped, stepped_by};
 use crate::spans::Span;
 use crate::stores::{Opaque, Store};
 use pixel_ops::Pixel;
-use tri_cover::{Ramp, Setup, WideRamp};
+use tri_cover::{Ramp, Setup};
 
 /// From so many columns on it pays to copy what does not change along a span. What is borrowed may change with each pixel
 /// that is stored, as far as a compiler can tell, so it is read again for each.
@@ -74,13 +74,13 @@ pub(crate) fn step_exactly(
     }
 }
 
-/// Steps the pixels of a piece by painted colours and a ramp's depths.
+/// Steps the pixels of a piece by painted colours and their depths.
 pub(crate) fn step(
     colors: &mut [[u8; 4]],
     depths: &mut [[u8; 4]],
     span: &Span,
     paints: &[[u8; 4]],
-    depth: &WideRamp,
+    news: &[u32],
     setup: &Setup,
     draw: &Prepared,
 )
@@ -88,25 +88,27 @@ pub(crate) fn step(
     requires same { length depths.old ≡ length colors.old }
     requires room { span.now.after ≤ span.now.first + length paints.now }
     requires paints { HoldsPiece paints.now (λ x. painted (paint_seen draw.now.paint) (fragment_at (setup_seen setup.now).triangle x span.now.y)) span.now.first span.now.after }
-    requires depths { HasWideSpanDepths depth.now setup.now span.now.y span.now.first span.now.after }
+    requires new_room { span.now.after ≤ span.now.first + length news.now }
+    requires depths { HoldsDepths news.now (λ x. (fragment_at (setup_seen setup.now).triangle x span.now.y).depth) span.now.first span.now.after }
+    requires few { AreDepths news.now span.now.first span.now.after }
     ensures { deep_pixels colors.new depths.new ≡ map_from (spanned (in_row span.now.start span.now.y (step_seen draw.now setup.now)) (span.now.start + span.now.first) (span.now.start + span.now.after)) 0 (deep_pixels colors.old depths.old) }
 {
+    let span = *span;
     let start = span.start;
     let stencil = stencil_of(draw, setup);
-    let mut new = wide_value_at(depth, span.first, span.y);
     for x in span.first..span.after {
-        let color = colors[start + x as usize];
+        let old = colors[start + x as usize];
         let word = depth_word(depths[start + x as usize]);
         let before = Pixel {
-            color,
+            color: old,
             depth: Some(word),
         };
-        let shade = paints[(x - span.first) as usize];
-        let after = stepped_by(before, shade, (new >> 104) as u32, stencil, draw);
+        let color = paints[(x - span.first) as usize];
+        let depth = news[(x - span.first) as usize];
+        let after = stepped_by(before, color, depth, stencil, draw);
         let painted = after.color;
         colors[start + x as usize] = painted;
         depths[start + x as usize] = depth_texel(&after);
-        new = new.wrapping_add(depth.right);
     }
 }
 
@@ -126,7 +128,7 @@ pub(crate) fn store_level(
     ensures { deep_pixels colors.new depths.new ≡ map_from (spanned (in_row span.now.start span.now.y (step_seen draw.now setup.now)) (span.now.start + span.now.first) (span.now.start + span.now.after)) 0 (deep_pixels colors.old depths.old) }
 {
     let start = span.start;
-    let level = *level;
+    let (span, level) = (*span, *level);
     for x in span.first..span.after {
         let old = colors[start + x as usize];
         let word = depth_word(depths[start + x as usize]);
@@ -273,7 +275,7 @@ pub(crate) fn store<S: Store>(
     depths: &mut [[u8; 4]],
     span: &Span,
     paints: &[[u8; 4]],
-    depth: &WideRamp,
+    news: &[u32],
     rule: &Rule,
     store: &S,
     setup: &Setup,
@@ -286,19 +288,21 @@ pub(crate) fn store<S: Store>(
     requires plain { (facing_seen draw.now setup.now).stencil ≡ 0 }
     requires room { span.now.after ≤ span.now.first + length paints.now }
     requires paints { HoldsPiece paints.now (λ x. painted (paint_seen draw.now.paint) (fragment_at (setup_seen setup.now).triangle x span.now.y)) span.now.first span.now.after }
-    requires depths { HasWideSpanDepths depth.now setup.now span.now.y span.now.first span.now.after }
+    requires new_room { span.now.after ≤ span.now.first + length news.now }
+    requires depths { HoldsDepths news.now (λ x. (fragment_at (setup_seen setup.now).triangle x span.now.y).depth) span.now.first span.now.after }
+    requires few { AreDepths news.now span.now.first span.now.after }
     ensures { deep_pixels colors.new depths.new ≡ map_from (spanned (in_row span.now.start span.now.y (step_seen draw.now setup.now)) (span.now.start + span.now.first) (span.now.start + span.now.after)) 0 (deep_pixels colors.old depths.old) }
 {
+    let (span, rule) = (*span, *rule);
     let start = span.start;
-    let mut new = wide_value_at(depth, span.first, span.y);
     for x in span.first..span.after {
         let old = colors[start + x as usize];
         let word = depth_word(depths[start + x as usize]);
         let color = paints[(x - span.first) as usize];
-        let after = stored_after(old, word, color, (new >> 104) as u32, rule, store);
+        let depth = news[(x - span.first) as usize];
+        let after = stored_after(old, word, color, depth, &rule, store);
         let painted = after.color;
         colors[start + x as usize] = painted;
         depths[start + x as usize] = word_texel(after.word);
-        new = new.wrapping_add(depth.right);
     }
 }

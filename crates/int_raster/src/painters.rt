@@ -272,9 +272,18 @@ pub(crate) fn is_opaque(state: &StateWord) -> bool
     state.write_mask() == 15 && !state.blended()
 }
 
+/// The same colour, moved as one word.
+#[inline(always)]
+pub(crate) fn packed(color: [u8; 4]) -> [u8; 4]
+    ensures { result ≡ color }
+{
+    u32::from_le_bytes(color).to_le_bytes()
+}
+
 /// The four bytes of a colour.
+#[inline(always)]
 pub(crate) fn whole(color: [u8; 4]) -> [u8; 4]
     ensures { result ≡ bytes_of color }
 {
-    [color[0], color[1], color[2], color[3]]
+    packed([color[0], color[1], color[2], color[3]])
 }

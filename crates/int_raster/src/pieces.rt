@@ -1,15 +1,18 @@
-// The colours of a piece of a row, by a painter.
-ghost use Rattle.std.specs.Prelude.{◌≡◌, ◌≤◌, ◌<◌, ◌+◌, ◌/◌, ◌%◌, ◌^◌, ℕ, pos, length};
+// The colours of a piece of a row, by a painter, and its depths, by a ramp. What is borrowed may change with each entry that is
+// stored, as far as a compiler can tell; so each loop copies it first, and the places of the piece are known to ascend by one.
+ghost use Rattle.std.specs.Prelude.{◌≡◌, ◌≤◌, ◌<◌, ◌+◌, ◌*◌, ◌/◌, ◌%◌, ◌^◌, ℕ, pos, length};
 ghost use Rattle.gfx_model.specs.Number.{zip_with, byte_product};
 ghost use Rattle.gfx_model.specs.Raster.{sample};
 ghost use Rattle.fix_math.specs.Seen.{texels_seen};
-ghost use Rattle.int_raster.specs.Painted.{place_at, shade_at, painter_color, HoldsPiece};
+ghost use Rattle.tri_cover.specs.Widened.{wide_whole};
+ghost use Rattle.int_raster.specs.Painted.{place_at, shade_at, painter_color, HoldsPiece, HoldsDepths, AreDepths};
 
-use crate::painters::{Painter, Place, Shade, value_at, wide_value_at};
+use crate::painters::{Painter, Place, Shade, packed, value_at, wide_value_at};
 use crate::painting::product;
 use crate::sampling::{sampler_of, texel_at};
 use crate::spans::Span;
 use fix_math::Texels;
+use tri_cover::WideRamp;
 
 /// The position within one unit of a value of a texture position's ramp.
 #[inline(always)]
@@ -25,17 +28,19 @@ fn shade_piece(shade: &Shade, piece: &Span, colors: &mut [[u8; 4]])
     requires room { piece.now.after ≤ piece.now.first + length colors.old }
     ensures { HoldsPiece colors.new (λ x. shade_at shade.now x piece.now.y) piece.now.first piece.now.after }
 {
+    let (shade, piece) = (*shade, *piece);
     let mut red = value_at(&shade.red, piece.first, piece.y);
     let mut green = value_at(&shade.green, piece.first, piece.y);
     let mut blue = value_at(&shade.blue, piece.first, piece.y);
     let mut alpha = value_at(&shade.alpha, piece.first, piece.y);
     for x in piece.first..piece.after {
-        colors[(x - piece.first) as usize] = [
+        let color = [
             (red >> 56) as u8,
             (green >> 56) as u8,
             (blue >> 56) as u8,
             (alpha >> 56) as u8,
         ];
+        colors[(x - piece.first) as usize] = packed(color);
         red = red.wrapping_add(shade.red.right);
         green = green.wrapping_add(shade.green.right);
         blue = blue.wrapping_add(shade.blue.right);
@@ -48,6 +53,7 @@ fn texture_piece(texels: &Texels, at: &Place, piece: &Span, colors: &mut [[u8; 4
     requires room { piece.now.after ≤ piece.now.first + length colors.old }
     ensures { HoldsPiece colors.new (λ x. sample (texels_seen texels.now) (pos (place_at at.now.u x piece.now.y)) (pos (place_at at.now.v x piece.now.y))) piece.now.first piece.now.after }
 {
+    let (at, piece) = (*at, *piece);
     let sampler = sampler_of(texels);
     let mut u = wide_value_at(&at.u, piece.first, piece.y);
     let mut v = wide_value_at(&at.v, piece.first, piece.y);
@@ -70,6 +76,7 @@ fn product_piece(texels: &Texels, at: &Place, shade: &Shade, piece: &Span, color
     let mut shades = [[0; 4]; 32];
     texture_piece(texels, at, piece, &mut samples);
     shade_piece(shade, piece, &mut shades);
+    let piece = *piece;
     for x in piece.first..piece.after {
         let place = (x - piece.first) as usize;
         colors[place] = product(samples[place], shades[place]);
@@ -81,6 +88,7 @@ fn solid_piece(color: [u8; 4], piece: &Span, colors: &mut [[u8; 4]])
     requires room { piece.now.after ≤ piece.now.first + length colors.old }
     ensures { HoldsPiece colors.new (λ x. color) piece.now.first piece.now.after }
 {
+    let piece = *piece;
     for x in piece.first..piece.after {
         colors[(x - piece.first) as usize] = color;
     }
@@ -97,5 +105,49 @@ pub(crate) fn paint_piece(painter: &Painter, piece: &Span, colors: &mut [[u8; 4]
         Painter::Vertex(shade) => shade_piece(shade, piece, colors),
         Painter::Texture(texels, at) => texture_piece(texels, at, piece, colors),
         Painter::TexColor(texels, at, shade) => product_piece(texels, at, shade, piece, colors),
+    }
+}
+
+/// The upper half of a number.
+#[inline(always)]
+fn upper_half(n: u128) -> u64
+    ensures { result ≡ n / 2 ^ 64 }
+{
+    (n >> 64) as u64
+}
+
+/// The lower half of a number.
+#[inline(always)]
+fn lower_half(n: u128) -> u64
+    ensures { result ≡ n % 2 ^ 64 }
+{
+    (n % (1 << 64)) as u64
+}
+
+/// The sum of two numbers of 128 bits by their halves. A compiler makes of it one addition a column, and of a sum in 128 bits
+/// one for each of several columns side by side, which takes longer.
+#[inline(always)]
+fn sum_of_halves(high: u64, low: u64, by_high: u64, by_low: u64) -> (u64, u64)
+    ensures sum { result.0 * 2 ^ 64 + result.1 ≡ (high * 2 ^ 64 + low + (by_high * 2 ^ 64 + by_low)) % 2 ^ 128 }
+    ensures small { result.1 < 2 ^ 64 }
+{
+    let sum = low.wrapping_add(by_low);
+    let carry = if sum < low { 1 } else { 0 };
+    (high.wrapping_add(by_high).wrapping_add(carry), sum)
+}
+
+/// The depths of a ramp.
+pub(crate) fn depth_piece(ramp: &WideRamp, piece: &Span, depths: &mut [u32])
+    requires room { piece.now.after ≤ piece.now.first + length depths.old }
+    ensures depths { HoldsDepths depths.new (λ x. wide_whole ramp.now x piece.now.y) piece.now.first piece.now.after }
+    ensures few { AreDepths depths.new piece.now.first piece.now.after }
+{
+    let (ramp, piece) = (*ramp, *piece);
+    let start = wide_value_at(&ramp, piece.first, piece.y);
+    let (mut high, mut low) = (upper_half(start), lower_half(start));
+    let (by_high, by_low) = (upper_half(ramp.right), lower_half(ramp.right));
+    for x in piece.first..piece.after {
+        depths[(x - piece.first) as usize] = (high >> 40) as u32;
+        (high, low) = sum_of_halves(high, low, by_high, by_low);
     }
 }

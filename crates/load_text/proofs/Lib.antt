@@ -1,3 +1,4 @@
 pub mod Splits
 pub mod Found
 pub mod Lines
+pub mod LoadLaws

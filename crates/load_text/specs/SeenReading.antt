@@ -7,6 +7,7 @@ use Rattle.load_text.specs.declared.stages.Stage.{Stage}
 use Rattle.load_text.specs.declared.stages.Stage.TheVariants as stages
 use Rattle.load_text.specs.declared.stages.Reading.{Reading}
 
+-- the same place in the order of lines
 abbrev pub stage_seen : Stage → text.Stage
 stage_seen stages.Front = text.at_front
 stage_seen stages.Callers = text.at_callers
@@ -14,6 +15,7 @@ stage_seen stages.FirstBlock = text.at_first_block
 stage_seen (stages.InBlock caller) = text.in_block caller
 stage_seen stages.End = text.at_end
 
+-- what was read so far, with the blocks' lines as they are seen
 abbrev pub reading_seen : Reading → text.Reading
 reading_seen r = record { stage = stage_seen r.stage; callers = r.callers; names = r.names; blocks = map block_seen r.blocks.items }
 

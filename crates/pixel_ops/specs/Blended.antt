@@ -1,5 +1,6 @@
 -- A state word's blending and mask, decoded.
-use Rattle.std.specs.Prelude.{◌≡◌, ℕ, if◌then◌else◌, true, false, [], ◌∷◌, ◌++◌, map, slice_index}
+use Rattle.std.specs.Prelude.{◌≡◌, ℕ, ◌+◌, ◌-◌, if◌then◌else◌, true, false, [], ◌∷◌, ◌++◌, map, slice_index}
+use Rattle.gfx_model.specs.Number.{byte_product}
 use Rattle.gfx_model.specs.Vertex.{Color}
 use Rattle.gfx_model.specs.Words.{write_mask, is_blended, color_source, color_destination, color_equation, alpha_source, alpha_destination, alpha_equation}
 use Rattle.gfx_model.specs.Pixel.{blend_channel, stored_channels, stored_color}
@@ -30,6 +31,10 @@ mixed_by b source stored =
 -- the channels of it whose write bit is set, and of the stored colour elsewhere
 abbrev pub stored_by : Blending → Color → Color → Color
 stored_by b source stored = stored_channels b.mask (mixed_by b source stored) stored
+
+-- a channel of the source by an alpha, and of the stored colour by what is left
+abbrev pub over_byte : ℕ → ℕ → ℕ → ℕ
+over_byte s d alpha = byte_product s alpha + byte_product d (255 - alpha)
 
 -- the source by its alpha over the stored colour by what is left, in all channels
 abbrev pub over_by : Color → Color → Color

@@ -1,7 +1,7 @@
 // Blending, and the channels that are written.
-ghost use Rattle.std.specs.Prelude.{◌≡◌, ◌<◌, if◌then◌else◌, ℕ, Bool, true, IsTrue};
+ghost use Rattle.std.specs.Prelude.{◌≡◌, ◌<◌, ◌≤◌, ◌+◌, ◌*◌, ◌/◌, ◌%◌, if◌then◌else◌, ℕ, true, IsTrue, slice_index};
 ghost use Rattle.gfx_model.specs.Words.{is_blended, write_mask, color_source, color_destination, color_equation, alpha_source, alpha_destination, alpha_equation};
-ghost use Rattle.pixel_ops.specs.Blended.{over_by};
+ghost use Rattle.pixel_ops.specs.Blended.{over_by, over_byte};
 ghost use Rattle.gfx_model.specs.Number.{byte_product, is_bit_set};
 ghost use Rattle.gfx_model.specs.Pixel as model;
 
@@ -91,26 +91,59 @@ fn is_over(state: &StateWord) -> bool
         && state.alpha_equation() == 0
 }
 
-/// A channel of the source by an alpha, over the stored one by what is left.
+/// The lower byte of each half of a word.
 #[inline(always)]
-fn over_channel(s: u8, d: u8, sa: u8) -> u8
-    ensures { (is_alpha : Bool) (da : ℕ) → result ≡ model.blend_channel 5 6 0 is_alpha s d sa da }
+fn lower_bytes(word: u32) -> u32
+    ensures { result ≡ word / 65536 % 256 * 65536 + word % 256 }
 {
-    multiply(s, sa).saturating_add(multiply(d, 255 - sa))
+    word & 0x00ff_00ff
 }
 
-/// The source by its alpha over the stored colour by what is left.
+/// Red and blue in the halves of a word.
+#[inline(always)]
+fn even_channels(color: [u8; 4]) -> u32
+    ensures { result ≡ slice_index color 2 * 65536 + slice_index color 0 }
+{
+    lower_bytes(u32::from_le_bytes(color))
+}
+
+/// Green and alpha in the halves of a word.
+#[inline(always)]
+fn odd_channels(color: [u8; 4]) -> u32
+    ensures { result ≡ slice_index color 3 * 65536 + slice_index color 1 }
+{
+    lower_bytes(u32::from_le_bytes(color) >> 8)
+}
+
+/// The products of two bytes, in the halves of a word, with a byte.
+#[inline(always)]
+fn multiply_pair(pair: u32, factor: u8) -> u32
+    requires { pair ≤ 16711935 }
+    ensures products { (a b : ℕ) → a < 256 → b < 256 → pair ≡ a * 65536 + b → result ≡ byte_product a factor * 65536 + byte_product b factor }
+    ensures few { result ≤ 16711935 }
+{
+    let sum = pair * factor as u32 + 0x007f_007f;
+    lower_bytes((sum + 0x0001_0001 + lower_bytes(sum >> 8)) >> 8)
+}
+
+/// Two channels of the source by an alpha, over the stored ones by what is left, all in halves of words.
+#[inline(always)]
+fn over_pair(source: u32, stored: u32, alpha: u8) -> u32
+    requires source { source ≤ 16711935 }
+    requires stored { stored ≤ 16711935 }
+    ensures { (a b c d : ℕ) → a < 256 → b < 256 → c < 256 → d < 256 → source ≡ a * 65536 + b → stored ≡ c * 65536 + d → result ≡ over_byte a c alpha * 65536 + over_byte b d alpha }
+{
+    multiply_pair(source, alpha) + multiply_pair(stored, 255 - alpha)
+}
+
+/// The source by its alpha over the stored colour by what is left. Two channels at a time are multiplied in one word.
 #[inline(always)]
 pub fn lay_over(source: [u8; 4], stored: [u8; 4]) -> [u8; 4]
     ensures { result ≡ over_by source stored }
 {
-    let sa = source[3];
-    [
-        over_channel(source[0], stored[0], sa),
-        over_channel(source[1], stored[1], sa),
-        over_channel(source[2], stored[2], sa),
-        over_channel(sa, stored[3], sa),
-    ]
+    let even = over_pair(even_channels(source), even_channels(stored), source[3]);
+    let odd = over_pair(odd_channels(source), odd_channels(stored), source[3]);
+    even.wrapping_add(odd << 8).to_le_bytes()
 }
 
 impl Blending {

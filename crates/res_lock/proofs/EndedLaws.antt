@@ -1,11 +1,10 @@
 -- A call is answered by the end of the context exactly behind the entry that ended it.
-use Rattle.std.proofs.Common.{◌≡◌, ◌⊎◌, inl, inr, ⊎_elim, ℕ, Bool, true, false, List, [], ◌∷◌, ◌++◌, sym, refl, ap, ◌∙◌, subst, Option, Some, None}
-use Rattle.gfx_model.specs.Recorder.{Room}
+use Rattle.std.proofs.Common.{◌≡◌, inl, inr, ⊎_elim, ℕ, Bool, true, false, List, [], ◌∷◌, ◌++◌, sym, refl, ap, ◌∙◌, subst, Option, Some, None}
 use Rattle.gfx_model.specs.Resources as model
 use Rattle.gfx_model.specs.Resources.{refusal_of, effect}
 use Rattle.gfx_model.specs.FrameCalls.{CallState, begin_encoder, end_frame, frame_refusal}
 use Rattle.frame_record.specs.declared.frame.Outcome.{Outcome}
-use Rattle.res_lock.specs.Histories.{LockCall, on_things, ends_frame, begins, Reply, made, done, given, begun, refused, ending, ended, LockEntry, told_of, IsToldOrRefused, IsFrameReply, IsRunningReply, IsReplyWhere, IsReply, accepted, after_reply, after_entry, HasReplies}
+use Rattle.res_lock.specs.Histories.{LockCall, on_things, ends_frame, begins, Reply, made, done, given, begun, refused, ending, ended, LockEntry, told_of, IsToldOrRefused, IsFrameReply, IsRunningReply, IsReplyWhere, accepted, after_reply, after_entry, HasReplies}
 use Rattle.res_lock.specs.Laws.{IsEndingOf, HasEnding, EndedLaw}
 
 -- ---- a running context

@@ -1,5 +1,5 @@
 -- The state behind the lock is kept where a frame ends and where an encoder begins.
-use Rattle.std.proofs.Common.{◌≡◌, ◌⊎◌, inl, inr, ℕ, ◌+◌, ◌-◌, ◌==◌, ◌||◌, Bool, true, false, if◌then◌else◌, List, sym, refl, ap, ◌∙◌, subst, Option, Some, None, MatchOption, MatchResult, Result, Ok, Err}
+use Rattle.std.proofs.Common.{◌≡◌, inl, inr, ℕ, ◌+◌, ◌-◌, ◌==◌, ◌||◌, Bool, true, false, if◌then◌else◌, List, [], ◌∷◌, ◌++◌, sym, refl, ap, ◌∙◌, subst, Option, Some, None, MatchOption, IfOk, Result, Ok, Err}
 use Rattle.std.proofs.lemmas.Option.{none-some}
 use Rattle.gfx_model.specs.World.{Item}
 use Rattle.gfx_model.specs.Recorder.{Room}
@@ -11,22 +11,27 @@ use Rattle.gfx_words.specs.declared.refusals.Refusal.{Refusal}
 use Rattle.gfx_words.specs.Seen.{refusal_seen}
 use Rattle.resource_laws.specs.Bare.{bare_of}
 use Rattle.resource_laws.proofs.RunLaws.{bare_started}
+use Rattle.resource_book.specs.Written.{BookView}
 use Rattle.resource_book.specs.Answered.{IsFirstRefusalOrOutOfMemory}
+use Rattle.hold_table.specs.Views.{SeatView, fresh}
 use Rattle.draw_encoder.specs.Calls.{EncoderView}
 use Rattle.frame_record.specs.declared.frame.Outcome.TheVariants as outcomes
 use Rattle.gfx_context.specs.States.{ContextView, state_of}
+use Rattle.gfx_context.specs.Kept.{IsContext}
 use Rattle.gfx_context.specs.Calls as context_calls
-use Rattle.gfx_context.specs.Ended.{is_shown, is_shown_outcome, Ends, IsEnd, CollectsAndEnds}
+use Rattle.gfx_context.specs.Ended.{is_shown, is_shown_outcome, started, GivesWhere, IsEnd, CollectsAndEnds}
 use Rattle.gfx_context.specs.declared.report.BackNote.{BackNote}
 use Rattle.gfx_context.specs.declared.report.FrameReport.{FrameReport}
-use Rattle.res_lock.specs.Histories.{LockCall, ends_frame, begins, Reply, given, begun, refused, ending, LockEntry, IsToldOrRefused, IsFrameReply, IsRunningReply, IsReply, after_reply, state_after}
-use Rattle.res_lock.specs.Called.{reply_of, refusal_reply, frame_reply, Calls, Begins, IsOutOfMemory, IsFramed}
-use Rattle.res_lock.specs.Locked.{log_entries, LockView, bared, IsKept, Adds}
+use Rattle.res_lock.specs.Histories.{LockCall, ends_frame, begins, Reply, given, begun, refused, ending, LockEntry, IsToldOrRefused, IsFrameReply, IsRunningReply, after_reply, state_after}
+use Rattle.res_lock.specs.Written.{written_where, book_after}
+use Rattle.res_lock.specs.Seats.{pass_view}
+use Rattle.res_lock.specs.Called.{entry_of, reply_of, refusal_reply, frame_reply, Calls, Begins, IsOutOfMemory, IsFramed}
+use Rattle.res_lock.specs.Locked.{log_entries, bared, IsKept, IsReport, Adds}
 use Rattle.res_lock.specs.declared.entry.LockRefusal.{LockRefusal}
 use Rattle.res_lock.specs.declared.entry.LockRefusal.TheVariants as lock_refusals
 use Rattle.res_lock.specs.declared.log.Log.{Log}
 use Rattle.res_lock.specs.declared.table.ResPass.{ResPass}
-use Rattle.res_lock.proofs.KeptLaws.{Both, entry_kept, running, Refuses, Refused, refused_by}
+use Rattle.res_lock.proofs.KeptLaws.{RunsAs, Both, entry_kept, running, Refuses, Refused, refused_by}
 
 -- ---- the end of a frame, over states of the calls
 
@@ -105,16 +110,62 @@ end_follows s c d same number is (Err r) m = refusal_follows s (state_of c) (sta
     stated None m = (m.0, ap state_of m.1)
     stated (Some z) m = (m.0, ap state_of m.1)
 
+-- ---- what is written, and how many frames are out
+
+true_false : true ≡ false → ⊥
+true_false e = cc e
+
+given_out : (s x : CallState) → x ≡ bared s x → x.out ≡ s.out → (frames.given x).out ≡ (frames.given s).out
+given_out s x same out =
+    let whole : x ≡ record s { resources = bare_of s.resources } = same ∙ ap (λ (n : ℕ). record s { resources = bare_of s.resources; out = n }) out in
+    ap (λ (z : CallState). (frames.given z).out) whole
+
+end_as : {L : Type 0} (b : BookView) (s : CallState) (c d : ContextView L) → state_of c ≡ bared s (state_of c) → c.book ≡ b → c.out ≡ s.out → (number : ℕ) (result : Result FrameReport Refusal) → IsEnd result c d
+    → RunsAs (written_where b ends_frame (frame_reply number result)) (after_reply s ends_frame (frame_reply number result)) d
+end_as b s c d same has out number (Ok report) m = by report.given report.back m.given m.gives
+  where
+    by : (is_in : Bool) (back : Option BackNote) → is_in ≡ is_given (is_shown report.back) (state_of c) → GivesWhere is_in c d → RunsAs (written_where b ends_frame (reply_of is_in report.number back)) (after_reply s ends_frame (reply_of is_in report.number back)) d
+    by true back is g = λ runs. (
+      ap (λ v. v.book) g.same ∙ ap started has,
+      ap (λ (z : CallState). z.out) (m.state ∙ ap (λ (t : Bool). if t then frames.given (state_of c) else frames.ended (state_of c)) (sym is)) ∙ given_out s (state_of c) same out,
+    )
+    by false back is g = λ runs. absurd (true_false (sym (ap (λ v. v.is_ended) g) ∙ runs))
+end_as b s c d same has out number (Err r) m = by (refusal_seen r) m
+  where
+    by : (o : Option model.Refusal) → MatchOption o ((frame_refusal (state_of c) end_frame ≡ None) × (d ≡ record c { is_ended = true })) (λ x. (frame_refusal (state_of c) end_frame ≡ Some x) × (d ≡ c))
+        → RunsAs (written_where b ends_frame (refusal_reply number r o)) (after_reply s ends_frame (refusal_reply number r o)) d
+    by None m = λ runs. absurd (true_false (sym (ap (λ v. v.is_ended) m.1) ∙ runs))
+    by (Some x) m = λ runs. (ap (λ v. v.book) m.1 ∙ has, ap (λ v. v.out) m.1 ∙ out)
+
 -- ---- entries
 
-module _ {L : Type 0} (start : CallState) (c : ContextView L) (h : List LockEntry) (k : IsKept start (record { context = c; history = h })) (old new : Log) (p q : ResPass) (log_same : log_entries old ≡ h) where
+module _ {L : Type 0} {book : BookView} (start : CallState) (c : ContextView L) (h : List LockEntry) (k : IsKept start book (record { context = c; history = h })) (old new : Log) (p q : ResPass) (log_same : log_entries old ≡ h) where
   pub framed_kept : {admits : ℕ → ℕ → List Item → ℕ → Type 0} {views : ℕ} → c.is_ended ≡ false → (result : Result FrameReport Refusal) (d : ContextView L) (number : ℕ) (reply : Reply) → number ≡ c.book.resources.frame → reply ≡ frame_reply number result
-      → CollectsAndEnds admits views result c d → Adds ends_frame reply old new p q → Both start d ends_frame (frame_reply number result) new p q h
+      → CollectsAndEnds admits views result c d → Adds ends_frame reply old new p q → Both start book d ends_frame (frame_reply number result) new p q h
   framed_kept runs result d number reply is told m a =
       let gathered : state_of m.collected ≡ state_of c = ap state_of m.collects.same in
       let same : state_of m.collected ≡ bared (state_after start h) (state_of m.collected) = gathered ∙ (k.same ∙ ap (bared (state_after start h)) (sym gathered)) in
       let f = end_follows (state_after start h) m.collected d same number (is ∙ ap (λ (z : CallState). z.resources.frame) (sym gathered)) result m.ends in
       entry_kept start c h k old new p q log_same d ends_frame (frame_reply number result) (subst (λ (x : Reply). Adds ends_frame x old new p q) told a) (running start c h k old new p q log_same runs ends_frame (frame_reply number result) f.replies) f.state
+      (end_as (book_after book h) (state_after start h) m.collected d same (ap (λ v. v.book) m.collects.same ∙ k.written runs) (ap (λ v. v.out) m.collects.same ∙ k.out runs) number result m.ends)
+
+  pub reported : {admits : ℕ → ℕ → List Item → ℕ → Type 0} {views : ℕ} → c.is_ended ≡ false → IsContext admits views c → (result : Result FrameReport Refusal) (d : ContextView L) (number : ℕ) (reply : Reply) → number ≡ c.book.resources.frame → reply ≡ frame_reply number result
+      → CollectsAndEnds admits views result c d → Adds ends_frame reply old new p q → (report : FrameReport) → result ≡ Ok report → IsReport L admits views start book report (pass_view q).seen
+  reported {admits} {views} runs keeps result d number reply is told m a report ok =
+      let b = framed_kept runs result d number reply is told m a in
+      let seen : (pass_view q).seen ≡ log_entries new = ap (λ u. u.seen) a.view in
+      record {
+        before = h;
+        entry = entry_of ends_frame reply p;
+        last = seen ∙ (a.entries ∙ ap (λ l. l ++ entry_of ends_frame reply p ∷ []) log_same);
+        old = c;
+        new = d;
+        kept_before = k;
+        runs = runs;
+        keeps = keeps;
+        ends = subst (λ (x : Result FrameReport Refusal). CollectsAndEnds admits views x c d) ok m;
+        kept = subst (λ l. IsKept start book (record { context = d; history = l })) (sym seen) b.kept;
+      }
 
   begin_refusal_is : (room : Room) → frame_refusal (state_of c) (begin_encoder room) ≡ frame_refusal (state_after start h) (begin_encoder room)
   begin_refusal_is room = ap (λ (z : CallState). frame_refusal z (begin_encoder room)) k.same
@@ -124,11 +175,11 @@ module _ {L : Type 0} (start : CallState) (c : ContextView L) (h : List LockEntr
 
   -- what an encoder that begins tells
   pub record Begun_kept (d : ContextView L) (room : Room) (e : EncoderView) : Type 0 where
-    pub kept : IsKept start (record { context = d; history = log_entries new })
+    pub kept : IsKept start book (record { context = d; history = log_entries new })
     pub begins_here : Begins start room e p q
 
-  pub begun_kept : c.is_ended ≡ false → (room : Room) (e : EncoderView) (number : ℕ) (d : ContextView L) → number ≡ e.seat.encoder → context_calls.Begins room e c d → Adds (begins room) (begun number) old new p q → Begun_kept d room e
-  begun_kept runs room e number d is m a =
+  pub begun_kept : {admits : ℕ → ℕ → List Item → ℕ → Type 0} {views : ℕ} → IsContext admits views c → c.is_ended ≡ false → (room : Room) (e : EncoderView) (number : ℕ) (d : ContextView L) → number ≡ e.seat.encoder → context_calls.Begins room e c d → Adds (begins room) (begun number) old new p q → Begun_kept d room e
+  begun_kept keeps runs room e number d is m a =
       let s : CallState = state_after start h in
       let made : (frame_effect true s (begin_encoder room)).made ≡ Some (record { encoder = e.seat.encoder; recorder = e.recorder }) = sym (ap (λ (z : CallState). (frame_effect true z (begin_encoder room)).made) k.same) ∙ m.made in
       let named : s.encoders ≡ e.seat.encoder = number_is _ _ made in
@@ -136,10 +187,17 @@ module _ {L : Type 0} (start : CallState) (c : ContextView L) (h : List LockEntr
       let state : state_of d ≡ bared (frame_effect true s (begin_encoder room)).after (state_of d) =
       let first : state_of d ≡ record s { resources = bare_of s.resources; encoders = s.encoders + 1; out = c.out } = m.state ∙ ap (λ (z : CallState). record z { encoders = z.encoders + 1 }) k.same in
       first ∙ ap (λ (n : ℕ). record s { resources = bare_of s.resources; encoders = s.encoders + 1; out = n }) (sym (ap (λ (z : CallState). z.out) first)) in
-      let b = entry_kept start c h k old new p q log_same d (begins room) (begun e.seat.encoder) (subst (λ (n : ℕ). Adds (begins room) (begun n) old new p q) is a) (running start c h k old new p q log_same runs (begins room) (begun e.seat.encoder) reply) state in
+      let b = entry_kept start c h k old new p q log_same d (begins room) (begun e.seat.encoder) (subst (λ (n : ℕ). Adds (begins room) (begun n) old new p q) is a) (running start c h k old new p q log_same runs (begins room) (begun e.seat.encoder) reply) state
+      (λ _. (ap (λ v. v.book) m.after ∙ k.written runs, ap (λ v. v.out) m.after ∙ k.out runs)) in
+      let frame : e.seat.frame ≡ s.resources.frame = ap (λ (v : SeatView). v.frame) m.seat ∙ (sym keeps.tied.frame ∙ ap (λ (z : CallState). z.resources.frame) k.same) in
       record {
         kept = b.kept;
-        begins_here = record { calls = b.calls; encoder = subst (λ l. (frame_effect true (state_after start l) (begin_encoder room)).made ≡ Some (record { encoder = e.seat.encoder; recorder = e.recorder })) (sym b.before_is) made };
+        begins_here = record {
+          calls = b.calls;
+          encoder = subst (λ l. (frame_effect true (state_after start l) (begin_encoder room)).made ≡ Some (record { encoder = e.seat.encoder; recorder = e.recorder })) (sym b.before_is) made;
+          frame = frame ∙ ap (λ l. (state_after start l).resources.frame) (sym b.before_is);
+          seat = (c.seat, m.seat ∙ ap (λ (n : ℕ). fresh n c.seat) (sym (ap (λ (v : SeatView). v.encoder) m.seat)));
+        };
       }
 
   pub begin_refused : c.is_ended ≡ false → (room : Room) (r : Refusal) (d : ContextView L) → IsFirstRefusalOrOutOfMemory (frame_refusal (state_of c) (begin_encoder room)) r × (d ≡ c) → Refuses start c h k old new p q log_same (begins room) r (refusal_seen r) → Refused start c h k old new p q log_same d (begins room) r (refusal_seen r)
@@ -150,6 +208,12 @@ module _ {L : Type 0} (start : CallState) (c : ContextView L) (h : List LockEntr
       by (Some x) seen first a = refused_by start c h k old new p q log_same d m.1 (begins room) r (Some x) (λ y e. running start c h k old new p q log_same runs (begins room) (refused r) (subst (λ (o : Option model.Refusal). IsToldOrRefused o (begun (state_after start h).encoders) (refused r)) (sym (sym (begin_refusal_is room) ∙ first)) (r, refl, seen))) a
 
 -- ---- what a caller is told of the end of a frame
+
+pub ok_reported : (P : FrameReport → Type 0) (answer : Result FrameReport Refusal) (result : Result FrameReport LockRefusal) (report : FrameReport) → answer ≡ Ok report → result ≡ Ok report → ((x : FrameReport) → answer ≡ Ok x → P x) → IfOk result P
+ok_reported P answer result report is e told = subst (λ (x : Result FrameReport LockRefusal). IfOk x P) (sym e) (told report is)
+
+pub err_reported : (P : FrameReport → Type 0) (result : Result FrameReport LockRefusal) (r : LockRefusal) → result ≡ Err r → IfOk result P
+err_reported P result r e = subst (λ (x : Result FrameReport LockRefusal). IfOk x P) (sym e) tt
 
 pub ok_framed : (start : CallState) (p q : ResPass) (number : ℕ) (answer : Result FrameReport Refusal) (result : Result FrameReport LockRefusal) (report : FrameReport) → answer ≡ Ok report → result ≡ Ok report → Calls start ends_frame (frame_reply number answer) p q → IsFramed start result p q
 ok_framed start p q number answer result report is e m = subst (λ (x : Result FrameReport LockRefusal). IsFramed start x p q) (sym e) (subst (λ (x : Result FrameReport Refusal). Calls start ends_frame (frame_reply number x) p q) is m)

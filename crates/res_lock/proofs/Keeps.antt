@@ -4,14 +4,14 @@ use mathlib.Core.Option.{some, some-injective, some-ne-none}
 use mathlib.Core.Logic.{dite}
 use native.Mathlib.Decide.{ℕ_discrete}
 use lib.ListN.{get_elem?}
-use Rattle.atomic_table.proofs.Lists.{at_set, set_here, set_else, at_longer}
-use Rattle.schedule_model.specs.Held.{count_of, IsPrefix}
+use Rattle.atomic_table.proofs.Lists.{at_set, set_else}
+use Rattle.schedule_model.specs.Held.{count_of}
 use Rattle.schedule_model.proofs.Lists.{count_of-append}
 use Rattle.res_lock.specs.Histories.{LockEntry, part_of}
-use Rattle.res_lock.specs.Views.{Heard, PassView, no_view, opening_view, split_from, split_off, hears, longer, learnt, without_pen, pen_of, with_pen, appended, IsWholeIn, GoesOn}
+use Rattle.res_lock.specs.Views.{Heard, PassView, no_view, split_from, split_off, longer, learnt, without_pen, pen_of, appended, IsWholeIn, GoesOn}
 use Rattle.res_lock.specs.Rule.{total, count_heard, has_caller, heard_length, caller_count, pen_count, has_pen, once_below, IsPass, Kept}
-use Rattle.res_lock.proofs.PartLaws.{prefix_same, prefix_nil, prefix_snoc, part-append, part_other, part_none, goes_same, goes_nothing, goes_between, goes_snoc, longer_between}
-use Rattle.res_lock.proofs.Totals.{total_set, total_snoc, total_at, total_two, below, not_below, once_most, count_here, count_other, next_below}
+use Rattle.res_lock.proofs.PartLaws.{part-append, part_other, part_none, goes_same, goes_nothing, goes_between, goes_snoc, longer_between}
+use Rattle.res_lock.proofs.Totals.{total_set, total_snoc, total_at, total_two, not_below, once_most, count_other, next_below}
 
 -- ---- one view
 

@@ -1,38 +1,43 @@
 -- The state behind the lock is kept by each kind of entry.
-use Rattle.std.proofs.Common.{◌≡◌, ◌⊎◌, inl, inr, ℕ, ◌+◌, ◌==◌, ◌||◌, Bool, true, false, if◌then◌else◌, List, [], ◌∷◌, ◌++◌, length, map, sym, refl, ap, ◌∙◌, subst, arith, Option, Some, None, MatchOption, Result, Ok, Err}
+use Rattle.std.proofs.Common.{◌≡◌, ℕ, Bool, true, false, List, [], ◌∷◌, ◌++◌, length, map, sym, refl, ap, ◌∙◌, subst, Option, Some, None, MatchOption, Ok, Err}
 use Rattle.std.specs.Bool.{⊤}
 use Rattle.std.proofs.lemmas.Option.{none-some}
 use Rattle.gfx_model.specs.Words.{Handle}
-use Rattle.gfx_model.specs.Recorder.{Room}
 use Rattle.gfx_model.specs.Resources as model
 use Rattle.gfx_model.specs.Resources.{ResourceCall, refusal_of, effect, start_frame}
-use Rattle.gfx_model.specs.FrameCalls as frames
-use Rattle.gfx_model.specs.FrameCalls.{CallState, Begun, begin_encoder, end_frame, frame_refusal, frame_effect, backs_at_end, is_given}
+use Rattle.gfx_model.specs.FrameCalls.{CallState}
 use Rattle.gfx_words.specs.declared.refusals.Refusal.{Refusal}
 use Rattle.gfx_words.specs.Seen.{refusal_seen}
 use Rattle.resource_laws.specs.Bare.{bare, bare_of}
-use Rattle.resource_laws.proofs.RunLaws.{bare_law, bare_started}
+use Rattle.resource_laws.proofs.RunLaws.{bare_law}
+use Rattle.resource_book.specs.Written.{BookView, after_in}
 use Rattle.gfx_context.specs.States.{ContextView, state_of}
-use Rattle.res_lock.specs.Histories.{LockCall, on_things, ends_frame, begins, Reply, made, done, given, begun, refused, ending, ended, LockEntry, told_of, IsToldOrRefused, IsRunningReply, IsReplyWhere, IsReply, after_reply, after_entry, state_after, part_of, IsLegal}
+use Rattle.res_lock.specs.Histories.{LockCall, on_things, ends_frame, begins, Reply, made, done, refused, ended, LockEntry, told_of, IsToldOrRefused, IsRunningReply, IsReplyWhere, IsReply, after_reply, state_after, part_of, IsLegal}
+use Rattle.res_lock.specs.Written.{written_where, book_after}
 use Rattle.res_lock.specs.Seats.{pass_view, caller_of, made_by}
 use Rattle.res_lock.specs.Called.{entry_of, Does, CreatesBy, ChangesBy, Calls, Stays}
 use Rattle.res_lock.specs.Locked.{log_entries, LockView, IsOpening, bared, IsKept, Adds}
 use Rattle.res_lock.specs.declared.log.Log.{Log}
 use Rattle.res_lock.specs.declared.table.ResPass.{ResPass}
 use Rattle.res_lock.proofs.PartLaws.{part-append, part_own}
-use Rattle.res_lock.proofs.HistoryLaws.{after_snoc, legal_snoc}
+use Rattle.res_lock.proofs.HistoryLaws.{after_snoc, book_snoc, legal_snoc}
 
 -- ---- an entry more
 
+-- what a context that runs has written, and how many frames are out
+abbrev pub RunsAs : {L : Type 0} → BookView → CallState → ContextView L → Type 0
+RunsAs b s d = d.is_ended ≡ false → (d.book ≡ b) × (d.out ≡ s.out)
+
 -- the state is kept, and the pass has learnt of its call
-pub record Both {L : Type 0} (start : CallState) (context : ContextView L) (call : LockCall) (reply : Reply) (log : Log) (p q : ResPass) (h : List LockEntry) : Type 0 where
-  pub kept : IsKept start (record { context = context; history = log_entries log })
+pub record Both {L : Type 0} (start : CallState) (book : BookView) (context : ContextView L) (call : LockCall) (reply : Reply) (log : Log) (p q : ResPass) (h : List LockEntry) : Type 0 where
+  pub kept : IsKept start book (record { context = context; history = log_entries log })
   pub calls : Calls start call reply p q
   pub before_is : calls.before ≡ h
 
-module _ {L : Type 0} (start : CallState) (c : ContextView L) (h : List LockEntry) (k : IsKept start (record { context = c; history = h })) (old new : Log) (p q : ResPass) (same : log_entries old ≡ h) where
-  pub entry_kept : (d : ContextView L) (call : LockCall) (reply : Reply) → Adds call reply old new p q → IsReply (state_after start h) call reply → state_of d ≡ bared (after_reply (state_after start h) call reply) (state_of d) → Both start d call reply new p q h
-  entry_kept d call reply a is state =
+module _ {L : Type 0} {book : BookView} (start : CallState) (c : ContextView L) (h : List LockEntry) (k : IsKept start book (record { context = c; history = h })) (old new : Log) (p q : ResPass) (same : log_entries old ≡ h) where
+  pub entry_kept : (d : ContextView L) (call : LockCall) (reply : Reply) → Adds call reply old new p q → IsReply (state_after start h) call reply → state_of d ≡ bared (after_reply (state_after start h) call reply) (state_of d)
+      → RunsAs (written_where (book_after book h) call reply) (after_reply (state_after start h) call reply) d → Both start book d call reply new p q h
+  entry_kept d call reply a is state held =
       let e : LockEntry = entry_of call reply p in
       let own : part_of (caller_of p) (log_entries old) ≡ part_of (caller_of p) (pass_view p).seen = a.on.1 (caller_of p) p.is_caller in
       let ordinal : e.ordinal ≡ length (part_of e.caller h) = p.made_is ∙ ap length (sym own ∙ ap (part_of (caller_of p)) same) in
@@ -42,6 +47,8 @@ module _ {L : Type 0} (start : CallState) (c : ContextView L) (h : List LockEntr
         kept = record {
           legal = subst (IsLegal start) (sym entries) legal;
           same = state ∙ ap (λ x. bared x (state_of d)) (sym (ap (state_after start) entries ∙ after_snoc start h e));
+          written = λ runs. (held runs).0 ∙ sym (ap (book_after book) entries ∙ book_snoc book h e);
+          out = λ runs. (held runs).1 ∙ sym (ap (λ l. (state_after start l).out) entries ∙ ap (λ (x : CallState). x.out) (after_snoc start h e));
         };
         calls = record {
           before = log_entries old;
@@ -68,10 +75,14 @@ module _ {L : Type 0} (start : CallState) (c : ContextView L) (h : List LockEntr
   refusal_is : (call : ResourceCall) → refusal_of c.book.resources call ≡ refusal_of (state_after start h).resources call
   refusal_is call = ap (λ (x : CallState). refusal_of x.resources call) k.same ∙ (bare_law (state_after start h).resources call).0
 
+  -- the context stays as it was
+  stays_as : (d : ContextView L) → d ≡ c → RunsAs (book_after book h) (state_after start h) d
+  stays_as d is = subst (λ (u : ContextView L). RunsAs (book_after book h) (state_after start h) u) (sym is) (λ runs. (k.written runs, k.out runs))
+
   -- ---- a context that is ended
 
-  pub ended_kept : c.is_ended ≡ true → (call : LockCall) (frame : ℕ) → frame ≡ c.book.resources.frame → Adds call (ended frame) old new p q → Both start c call (ended frame) new p q h
-  ended_kept over call frame is a = entry_kept c call (ended frame) a (subst (λ (b : Bool). IsReplyWhere b (state_after start h) call (ended frame)) (sym over ∙ ended_is) (ap ended (is ∙ frame_is))) k.same
+  pub ended_kept : c.is_ended ≡ true → (call : LockCall) (frame : ℕ) → frame ≡ c.book.resources.frame → Adds call (ended frame) old new p q → Both start book c call (ended frame) new p q h
+  ended_kept over call frame is a = entry_kept c call (ended frame) a (subst (λ (b : Bool). IsReplyWhere b (state_after start h) call (ended frame)) (sym over ∙ ended_is) (ap ended (is ∙ frame_is))) k.same (stays_as c refl)
 
   -- ---- calls on things and views
 
@@ -95,13 +106,16 @@ module _ {L : Type 0} (start : CallState) (c : ContextView L) (h : List LockEntr
   accepted_is : (call : ResourceCall) (handle : Option Handle) (d : ContextView L) → c.is_ended ≡ false → (reply : Reply) → told_of handle ≡ reply → Does call handle c d → IsReply (state_after start h) (on_things call) reply
   accepted_is call handle d runs reply tells m = running runs (on_things call) reply (told _ _ _ (sym (refusal_is call) ∙ m.accepted) (sym (ap told_of (made_is call handle d m) ∙ tells)))
 
-  pub made_kept : c.is_ended ≡ false → (call : LockCall) (handle : Handle) (d : ContextView L) → CreatesBy call (Ok handle) c d → Adds call (made handle) old new p q → Both start d call (made handle) new p q h
-  made_kept runs (on_things call) handle d m a = entry_kept d (on_things call) (made handle) a (accepted_is call (Some handle) d runs (made handle) refl m) (done_state d call (Some handle) m)
+  done_as : (d : ContextView L) (call : ResourceCall) (handle : Option Handle) → c.is_ended ≡ false → Does call handle c d → RunsAs (after_in call handle (book_after book h)) (state_after start h) d
+  done_as d call handle runs m = λ _. (m.book ∙ ap (after_in call handle) (k.written runs), ap (λ (x : CallState). x.out) m.state ∙ k.out runs)
+
+  pub made_kept : c.is_ended ≡ false → (call : LockCall) (handle : Handle) (d : ContextView L) → CreatesBy call (Ok handle) c d → Adds call (made handle) old new p q → Both start book d call (made handle) new p q h
+  made_kept runs (on_things call) handle d m a = entry_kept d (on_things call) (made handle) a (accepted_is call (Some handle) d runs (made handle) refl m) (done_state d call (Some handle) m) (done_as d call (Some handle) runs m)
   made_kept runs ends_frame handle d m a = absurd m
   made_kept runs (begins room) handle d m a = absurd m
 
-  pub done_kept : c.is_ended ≡ false → (call : LockCall) (u : Unit {0}) (d : ContextView L) → ChangesBy call (Ok u) c d → Adds call done old new p q → Both start d call done new p q h
-  done_kept runs (on_things call) u d m a = entry_kept d (on_things call) done a (accepted_is call None d runs done refl m) (done_state d call None m)
+  pub done_kept : c.is_ended ≡ false → (call : LockCall) (u : Unit {0}) (d : ContextView L) → ChangesBy call (Ok u) c d → Adds call done old new p q → Both start book d call done new p q h
+  done_kept runs (on_things call) u d m a = entry_kept d (on_things call) done a (accepted_is call None d runs done refl m) (done_state d call None m) (done_as d call None runs m)
   done_kept runs ends_frame u d m a = absurd m
   done_kept runs (begins room) u d m a = absurd m
 
@@ -113,7 +127,7 @@ module _ {L : Type 0} (start : CallState) (c : ContextView L) (h : List LockEntr
 
   -- what is kept and learnt then
   pub record Refused (d : ContextView L) (call : LockCall) (r : Refusal) (o : Option model.Refusal) : Type 0 where
-    pub kept : IsKept start (record { context = d; history = log_entries new })
+    pub kept : IsKept start book (record { context = d; history = log_entries new })
     pub answer : MatchOption o (Stays p q) (λ x. Calls start call (refused r) p q)
 
   pub refused_by : (d : ContextView L) → d ≡ c → (call : LockCall) (r : Refusal) (o : Option model.Refusal) → ((x : model.Refusal) → o ≡ Some x → IsReply (state_after start h) call (refused r)) → Refuses call r o → Refused d call r o
@@ -122,10 +136,10 @@ module _ {L : Type 0} (start : CallState) (c : ContextView L) (h : List LockEntr
     answer = record { view = ap pass_view a.1; made = ap made_by a.1 };
   }
     where
-      stays : IsKept start (record { context = d; history = log_entries new })
-      stays = subst (λ (v : LockView L). IsKept start v) (λ j. record { context = sym is j; history = (sym same ∙ ap log_entries (sym a.0)) j }) k
+      stays : IsKept start book (record { context = d; history = log_entries new })
+      stays = subst (λ (v : LockView L). IsKept start book v) (λ j. record { context = sym is j; history = (sym same ∙ ap log_entries (sym a.0)) j }) k
   refused_by d is call r (Some x) legal a =
-      let b = entry_kept d call (refused r) a (legal x refl) (ap state_of is ∙ (k.same ∙ ap (λ (u : ContextView L). bared (state_after start h) (state_of u)) (sym is))) in
+      let b = entry_kept d call (refused r) a (legal x refl) (ap state_of is ∙ (k.same ∙ ap (λ (u : ContextView L). bared (state_after start h) (state_of u)) (sym is))) (stays_as d is) in
       record { kept = b.kept; answer = b.calls }
 
   refused_thing : c.is_ended ≡ false → (d : ContextView L) → d ≡ c → (call : ResourceCall) (r : Refusal) (o : Option model.Refusal) → refusal_seen r ≡ o → MatchOption o ⊤ (λ x. refusal_of c.book.resources call ≡ Some x) → Refuses (on_things call) r o → Refused d (on_things call) r o
@@ -145,10 +159,12 @@ module _ {L : Type 0} (start : CallState) (c : ContextView L) (h : List LockEntr
 -- ---- before the first entry
 
 -- a context of which nothing was called
-pub opening_kept : {L : Type 0} (start : CallState) (c : ContextView L) (h : List LockEntry) → state_of c ≡ start → IsOpening start → h ≡ [] → IsKept start (record { context = c; history = h })
-opening_kept start c h is opens none = subst (λ (l : List LockEntry). IsKept start (record { context = c; history = l })) (sym none) (record {
+pub opening_kept : {L : Type 0} (start : CallState) (book : BookView) (c : ContextView L) (h : List LockEntry) → state_of c ≡ start → IsOpening start → c.book ≡ book → h ≡ [] → IsKept start book (record { context = c; history = h })
+opening_kept start book c h is opens has none = subst (λ (l : List LockEntry). IsKept start book (record { context = c; history = l })) (sym none) (record {
   legal = record { replies = tt; ordered = λ caller. refl };
   same = is ∙ (ap (λ r. record start { resources = r }) bared_is ∙ ap (λ (n : ℕ). record start { resources = bare_of start.resources; out = n }) (sym (ap (λ (x : CallState). x.out) is)));
+  written = λ runs. has;
+  out = λ runs. ap (λ (x : CallState). x.out) is;
 })
   where
     bared_is : start.resources ≡ bare_of start.resources

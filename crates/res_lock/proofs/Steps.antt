@@ -1,21 +1,19 @@
 -- Each kind of step keeps the rule, and tells what it says.
-use Rattle.std.proofs.Common.{◌≡◌, ◌≢◌, inl, inr, ⊎_elim, ℕ, zero, suc, ◌+◌, ◌%◌, ◌^◌, ◌<◌, ◌≤◌, ◌==◌, Bool, true, false, if◌then◌else◌, IfSome, List, [], ◌∷◌, ◌++◌, length, get_or, set, sym, refl, ap, ◌∙◌, subst, arith, length-append, Option, Some, None}
+use Rattle.std.proofs.Common.{◌≡◌, inr, ⊎_elim, ℕ, zero, suc, ◌+◌, ◌%◌, ◌^◌, ◌<◌, ◌≤◌, ◌==◌, Bool, true, false, if◌then◌else◌, IfSome, List, [], ◌∷◌, ◌++◌, length, get_or, set, sym, refl, ap, ◌∙◌, subst, arith, length-append, Option, Some, None}
 use Rattle.std.proofs.lemmas.List.{append-nil}
 use Rattle.std.proofs.lemmas.Bool.{cases_lt}
 use mathlib.Core.Option.{none, some, some-injective, some-ne-none}
 use mathlib.Core.Option as maybe
-use mathlib.Core.Logic.{dite}
-use native.Mathlib.Decide.{ℕ_discrete}
 use lib.ListN.{get_elem?}
-use Rattle.atomic_table.specs.Table.{State, Act, step, opening, keeps, Valid, homes_after, carried_after, Allows, Splits, Joins, Seen}
+use Rattle.atomic_table.specs.Table.{State, Act, step, opening, keeps, Valid, homes_after, carried_after, Allows, Splits, Joins}
 use Rattle.atomic_table.proofs.Lists.{set_again}
 use Rattle.schedule_model.specs.Held.{count_of}
 use Rattle.schedule_model.proofs.Lists.{count_of-append}
 use Rattle.res_lock.specs.Histories.{LockEntry, part_of}
-use Rattle.res_lock.specs.Views.{Heard, PassView, no_view, opening_view, written_in, split_from, split_off, hears, longer, learnt, joined_with, without_pen, pen_view, pen_of, with_pen, appended, IsWholeIn, GoesOn, Mine, Looks, Learns, Appends}
+use Rattle.res_lock.specs.Views.{Heard, PassView, no_view, opening_view, written_in, split_from, split_off, hears, learnt, joined_with, without_pen, pen_view, pen_of, with_pen, appended, GoesOn, Mine, Looks, Learns, Appends}
 use Rattle.res_lock.specs.Rule.{total, count_heard, has_caller, heard_length, caller_count, pen_count, has_pen, once_below, IsPass, Kept, IsHeld}
 use Rattle.res_lock.proofs.PartLaws.{nil_of_parts, nil_of_same, part_none, part-append, part_own, goes_same}
-use Rattle.res_lock.proofs.Totals.{total_set, total_at, below, not_below, count_here, count_other, next_below, none_of_length}
+use Rattle.res_lock.proofs.Totals.{total_set, below, not_below, count_here, next_below}
 use Rattle.res_lock.proofs.Keeps.{first_at, split_kept, given_kept, learn_kept, append_kept, there_was, join_kept}
 
 some_same : {A : Type 0} (x y : A) → Some x ≡ Some y → x ≡ y

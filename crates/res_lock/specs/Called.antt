@@ -6,16 +6,17 @@ use Rattle.gfx_model.specs.Resources as model
 use Rattle.gfx_model.specs.Resources.{ResourceCall, refusal_of, effect}
 use Rattle.gfx_model.specs.FrameCalls.{CallState, begin_encoder, frame_effect}
 use Rattle.gfx_words.specs.declared.refusals.Refusal.{Refusal}
-use Rattle.gfx_words.specs.declared.refusals.Refusal.TheVariants as refusals
 use Rattle.gfx_words.specs.Seen.{refusal_seen}
 use Rattle.frame_record.specs.declared.frame.Outcome.TheVariants as outcomes
+use Rattle.hold_table.specs.Views.{SeatView, fresh}
 use Rattle.draw_encoder.specs.Calls.{EncoderView}
 use Rattle.resource_laws.specs.Bare.{bare_of}
+use Rattle.resource_book.specs.Written.{after_in}
 use Rattle.gfx_context.specs.States.{ContextView, state_of}
 use Rattle.gfx_context.specs.declared.report.BackNote.{BackNote}
 use Rattle.gfx_context.specs.declared.report.FrameReport.{FrameReport}
 use Rattle.res_lock.specs.Histories.{LockCall, on_things, ends_frame, begins, Reply, made, done, given, begun, refused, ending, ended, LockEntry, state_after, part_of, IsLegal}
-use Rattle.res_lock.specs.Views.{PassView, GoesOn}
+use Rattle.res_lock.specs.Views.{GoesOn}
 use Rattle.res_lock.specs.Seats.{pass_table, pass_view, caller_of, made_by}
 use Rattle.res_lock.specs.declared.table.ResPass.{ResPass}
 use Rattle.res_lock.specs.declared.entry.LockRefusal.{LockRefusal}
@@ -23,11 +24,12 @@ use Rattle.res_lock.specs.declared.entry.LockRefusal.TheVariants as lock_refusal
 
 -- ---- what the context does
 
--- an accepted call on things and views has the definition's effect without contents
+-- an accepted call on things and views has the definition's effect without contents, and writes what the definition says
 pub record Does {L : Type 0} (call : ResourceCall) (handle : Option Handle) (old new : ContextView L) : Type 0 where
   pub accepted : refusal_of old.book.resources call ≡ None
   pub made_is : (effect old.book.resources call).made ≡ handle
   pub state : state_of new ≡ record (state_of old) { resources = bare_of (effect old.book.resources call).after }
+  pub book : new.book ≡ after_in call handle old.book
 
 -- a refusal is the definition's; memory may be wanting at any call
 abbrev pub IsRefusalOrOutOfMemory : Option model.Refusal → Refusal → Type 0
@@ -145,10 +147,12 @@ IsFrameRefused start (lock_refusals.Ended frame) old new = Calls start ends_fram
 abbrev pub IsFramed : CallState → Result FrameReport LockRefusal → (old new : ResPass) → Type 0
 IsFramed start result old new = MatchResult result (λ report. Calls start ends_frame (reply_of report.given report.number report.back) old new) (λ r. IsFrameRefused start r old new)
 
--- an encoder that begins through the lock is the definition's after the history before
+-- an encoder that begins through the lock is the definition's after the history before; its seat is one of that frame, and has drawn and asked nothing
 pub record Begins (start : CallState) (room : Room) (e : EncoderView) (old new : ResPass) : Type 0 where
   pub calls : Calls start (begins room) (begun e.seat.encoder) old new
   pub encoder : (frame_effect true (state_after start calls.before) (begin_encoder room)).made ≡ Some (record { encoder = e.seat.encoder; recorder = e.recorder })
+  pub frame : e.seat.frame ≡ (state_after start calls.before).resources.frame
+  pub seat : (v : SeatView) × (e.seat ≡ fresh e.seat.encoder v)
 
 -- a begin through the lock
 abbrev pub IsBegun : CallState → Room → Result EncoderView LockRefusal → (old new : ResPass) → Type 0

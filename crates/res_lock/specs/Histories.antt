@@ -1,5 +1,5 @@
 -- Histories of the calls of several threads on one context, and which of them are legal.
-use Rattle.std.specs.Prelude.{◌≡◌, ◌⊎◌, ℕ, ◌==◌, Bool, true, false, List, [], ◌∷◌, length, map, filter, fold, Option, Some, None, ⊤}
+use Rattle.std.specs.Prelude.{◌≡◌, ◌⊎◌, ℕ, ◌==◌, Bool, true, false, List, [], ◌∷◌, length, map, filter, Option, Some, None, ⊤}
 use Rattle.std.specs.List.{range_with_len}
 use Rattle.gfx_model.specs.Words.{Handle}
 use Rattle.gfx_model.specs.Recorder.{Room}

@@ -4,5 +4,6 @@ pub mod Rule
 pub mod Seen
 pub mod Seats
 pub mod Called
+pub mod Written
 pub mod Locked
 pub mod Laws

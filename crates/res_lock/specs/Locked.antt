@@ -1,13 +1,19 @@
 -- What lies behind the lock.
-use Rattle.std.specs.Prelude.{◌≡◌, false, ◌<◌, ◌+◌, List, [], ◌∷◌, ◌++◌, vec_len, vec_capacity}
+use Rattle.std.specs.Prelude.{ℕ, ◌≡◌, false, ◌<◌, ◌+◌, List, [], ◌∷◌, ◌++◌, Ok, vec_len, vec_capacity}
 use Rattle.atomic_table.specs.Seated.{TableId}
+use Rattle.gfx_model.specs.World.{Item}
 use Rattle.gfx_model.specs.FrameCalls.{CallState}
 use Rattle.resource_laws.specs.Bare.{bare_of}
+use Rattle.resource_book.specs.Written.{BookView}
 use Rattle.gfx_context.specs.States.{ContextView, state_of}
+use Rattle.gfx_context.specs.Kept.{IsContext}
+use Rattle.gfx_context.specs.Ended.{CollectsAndEnds}
+use Rattle.gfx_context.specs.declared.report.FrameReport.{FrameReport}
 use Rattle.res_lock.specs.Histories.{LockCall, Reply, LockEntry, state_after, IsLegal}
+use Rattle.res_lock.specs.Written.{book_after}
 use Rattle.res_lock.specs.Seen.{entries_seen}
 use Rattle.res_lock.specs.Views.{GoesOn}
-use Rattle.res_lock.specs.Seats.{pen_table, pass_view, caller_of, made_by}
+use Rattle.res_lock.specs.Seats.{pen_table, pass_view, made_by}
 use Rattle.res_lock.specs.Called.{entry_of, IsSamePass}
 use Rattle.res_lock.specs.declared.table.ResPass.{ResPass}
 use Rattle.res_lock.specs.declared.log.Log.{Log}
@@ -48,7 +54,23 @@ pub record IsOpening (s : CallState) : Type 0 where
 abbrev pub bared : CallState → CallState → CallState
 bared s context = record s { resources = bare_of s.resources; out = context.out }
 
--- the history is legal from its start, and the context's state is that after it: so it is ended exactly where the history has an ending
-pub record IsKept {L : Type 0} (start : CallState) (v : LockView L) : Type 0 where
+-- the history is legal from its start, and the context's state is that after it: so it is ended exactly where the history has an ending. While it runs, what
+-- it has written in this frame is what the history's calls write, and as many frames are out as the definition says
+pub record IsKept {L : Type 0} (start : CallState) (book : BookView) (v : LockView L) : Type 0 where
   pub legal : IsLegal start v.history
   pub same : state_of v.context ≡ bared (state_after start v.history) (state_of v.context)
+  pub written : v.context.is_ended ≡ false → v.context.book ≡ book_after book v.history
+  pub out : v.context.is_ended ≡ false → v.context.out ≡ (state_after start v.history).out
+
+-- a report is a context's own: the context was in the state after all entries but the last, ended its frame with this report, and is in the state after all
+pub record IsReport (L : Type 0) (admits : ℕ → ℕ → List Item → ℕ → Type 0) (views : ℕ) (start : CallState) (book : BookView) (report : FrameReport) (history : List LockEntry) : Type 0 where
+  pub before : List LockEntry
+  pub entry : LockEntry
+  pub last : history ≡ before ++ entry ∷ []
+  pub old : ContextView L
+  pub new : ContextView L
+  pub kept_before : IsKept start book (record { context = old; history = before })
+  pub runs : old.is_ended ≡ false
+  pub keeps : IsContext admits views old
+  pub ends : CollectsAndEnds admits views (Ok report) old new
+  pub kept : IsKept start book (record { context = new; history = history })

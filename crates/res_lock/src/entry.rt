@@ -7,16 +7,21 @@ use vertex_layout::VertexLayout;
 /// A call through the lock, with what it was called with.
 #[derive(Drop)]
 pub enum ResCall {
+    /// `create_layout`.
     CreateLayout {
         layout: VertexLayout,
     },
+    /// `create_vertex_buffer` of a layout: 1 to 524,288 bytes are accepted.
     CreateVertexBuffer {
         layout: Handle,
         bytes: Vec<u8>,
     },
+    /// `create_index_buffer`: 2 to 524,288 bytes, an even number, are accepted.
     CreateIndexBuffer {
         bytes: Vec<u8>,
     },
+    /// `create_texture`: sides of 1 to 2,048 texels are accepted; `blit_dst` where it may be the destination of a blit; from bytes, four for
+    /// each texel.
     CreateTexture {
         width: u16,
         height: u16,
@@ -24,38 +29,48 @@ pub enum ResCall {
         blit_dst: bool,
         source: TexSource,
     },
+    /// `create_frame_buffer` of one or two textures.
     CreateFrameBuffer {
         color: Handle,
         depth: Option<Handle>,
     },
+    /// `create_program`.
     CreateProgram {
         kind: ProgramKind,
     },
+    /// `create_uniform`: a name of 1 to 32 bytes is accepted.
     CreateUniform {
         name: Vec<u8>,
         kind: UniformKind,
     },
+    /// `update_buffer`: these bytes from a byte on.
     UpdateBuffer {
         buffer: Handle,
         offset: u32,
         bytes: Vec<u8>,
     },
+    /// `update_texture`: the texels of a rectangle, four bytes each.
     UpdateTexture {
         texture: Handle,
         rect: Rect,
         bytes: Vec<u8>,
     },
+    /// `destroy`.
     Destroy {
         thing: Handle,
     },
+    /// `set_view_rect`. Views are counted from 0.
     ViewRect {
         view: u16,
         rect: Rect,
     },
+    /// `set_view_scissor`.
     ViewScissor {
         view: u16,
         rect: Rect,
     },
+    /// `set_view_clear`: what `flags` name is cleared, 0 to 7, to a colour (red, green, blue, alpha), a depth up to 16,777,215
+    /// and a stencil value.
     ViewClear {
         view: u16,
         flags: u8,
@@ -63,25 +78,32 @@ pub enum ResCall {
         depth: u32,
         stencil: u8,
     },
+    /// `set_view_mode`.
     ViewMode {
         view: u16,
         mode: ViewMode,
     },
+    /// `set_view_transform`.
     ViewTransform {
         view: u16,
         transform: Affine,
     },
+    /// `set_view_target`: a frame buffer, or none for the back buffer.
     ViewTarget {
         view: u16,
         target: Option<Handle>,
     },
+    /// `set_view_order`: the views that come first, each at most once.
     ViewOrder {
         ids: Vec<u16>,
     },
+    /// `reset_view`.
     ViewReset {
         view: u16,
     },
+    /// `frame`.
     Frame,
+    /// `begin`: an encoder with room for so much.
     Begin {
         room: Room,
     },

@@ -1,5 +1,5 @@
 // A context behind a lock.
-ghost use Rattle.std.specs.Prelude.{◌≡◌, ◌+◌, ◌<◌, ◌≤◌, ℕ, [], IfErr, MatchResult};
+ghost use Rattle.std.specs.Prelude.{◌≡◌, ◌+◌, ◌<◌, ◌≤◌, ℕ, [], IfOk, IfErr, MatchResult};
 ghost use Rattle.gfx_words.specs.declared.refusals.Refusal.TheVariants as refusals;
 ghost use Rattle.draw_encoder.specs.Seen.{room_seen};
 ghost use Rattle.gfx_context.specs.States.{state_of};
@@ -9,7 +9,7 @@ ghost use Rattle.res_lock.specs.Seen.{call_seen, entries_seen};
 ghost use Rattle.res_lock.specs.Seats.{log_table, table_of, pass_table, pass_view, caller_of, made_by, IsFirst, HasAll};
 ghost use Rattle.res_lock.specs.Views.{split_from, split_off, joined_with, GoesOn};
 ghost use Rattle.res_lock.specs.Called.{IsCreate, IsChange, IsSamePass, IsCreated, IsChanged, IsFramed, IsBegun};
-ghost use Rattle.res_lock.specs.Locked.{IsOpening, IsKept};
+ghost use Rattle.res_lock.specs.Locked.{IsOpening, IsKept, IsReport};
 
 use crate::entry::{Entry, LockRefusal, ResCall};
 use crate::log::Log;
@@ -41,8 +41,8 @@ pub struct ResLock<'t, C: Naming, L: FrameLink + Drop, H: HistoryNaming> {
 }
 
 impl<'t, C: Naming, L: FrameLink + Drop, H: HistoryNaming> ResLock<'t, C, L, H> {
-    /// Puts a context behind the lock. The table is the named one, and the named start is the state of the context's calls: nothing
-    /// was made in it, no encoder begun, and it is not ended. `Err` only for want of memory; the table and the context come back.
+    /// Puts a context behind the lock. The table is the named one; the named start is the state of the context's calls: nothing
+    /// was made in it, no encoder begun, and it is not ended; and the named book is what they wrote in this frame. `Err` only for want of memory; the table and the context come back.
     pub fn new(
         alloc: Global,
         table: HistoryTable,
@@ -50,6 +50,7 @@ impl<'t, C: Naming, L: FrameLink + Drop, H: HistoryNaming> ResLock<'t, C, L, H> 
     ) -> Result<ResLock<'t, C, L, H>, (HistoryTable, Context<'t, C, L>)>
         requires table { table_of table ≡ H.table }
         requires start { (state_of context ≡ H.start) × IsOpening H.start }
+        requires book { context.book ≡ H.book }
         ensures { IfErr result (λ e. (table_of e.0 ≡ table_of table) × (e.1 ≡ context.entry)) }
     {
         let HistoryTable { log, pen } = table;
@@ -90,14 +91,15 @@ impl<'t, C: Naming, L: FrameLink + Drop, H: HistoryNaming> ResLock<'t, C, L, H> 
     }
 
     /// Ends the lock. All other passes were joined into this one, the first, which so has seen the whole history. The context comes
-    /// back, in the state after the history.
+    /// back, in the state after the history. Where it is not ended, it has written just what the calls of the frame that is recorded
+    /// write, with the bytes, texels and names of the history. Of an ended context that is not said.
     pub fn close(self, pass: ResPass) -> (Context<'t, C, L>, Vec<Entry>)
         requires table { pass_table pass ≡ H.table }
         requires all { IsFirst pass × HasAll pass }
         ensures whole { entries_seen result.1.items ≡ (pass_view pass).seen }
         ensures beyond { (c : ℕ) → (pass_view pass).next ≤ c → part_of c (entries_seen result.1.items) ≡ [] }
         ensures legal { IsLegal H.start (entries_seen result.1.items) }
-        ensures state { IsKept H.start (record { context = result.0; history = entries_seen result.1.items }) }
+        ensures state { IsKept H.start H.book (record { context = result.0; history = entries_seen result.1.items }) }
     {
         let ResLock {
             alloc: _,
@@ -112,6 +114,9 @@ impl<'t, C: Naming, L: FrameLink + Drop, H: HistoryNaming> ResLock<'t, C, L, H> 
 
     /// Ends the frame, and waits for the encoders that were begun in it and have not ended; the lock is taken all the while.
     ///
+    /// The report is the context's own: the number of the frame, the items of all encoders that were begun in it, the sum of the numbers
+    /// that they ended with, the frame that came back, and whether this one was given.
+    ///
     /// `Ended` exactly where an earlier frame was not given; then `FramesSpent` exactly where the number is 1,073,741,823. A frame that
     /// is not given makes an entry that ends the context, with the outcome of `FrameReport.back`, or with want of memory where the
     /// context had none; then the answer is `OutOfMemory`.
@@ -124,11 +129,12 @@ impl<'t, C: Naming, L: FrameLink + Drop, H: HistoryNaming> ResLock<'t, C, L, H> 
         requires few { made_by pass.old < 4294967295 }
         ensures pass { IsSamePass pass.old pass.new }
         ensures answer { IsFramed H.start result pass.old pass.new }
+        ensures report { IfOk result (λ report. IsReport L C.admits C.views H.start H.book report (pass_view pass.new).seen) }
     {
         self.state.lock(rt).frame(rt, &self.table, pass)
     }
 
-    /// Begins an encoder of the frame. `Ended` exactly where an earlier frame was not given; then `BadSize` exactly where the room is
+    /// Begins an encoder of the frame, which has drawn and asked nothing yet. `Ended` exactly where an earlier frame was not given; then `BadSize` exactly where the room is
     /// outside its limits; then `NoEncoder` exactly where eight were begun in the frame.
     pub fn begin<R: Wait>(
         &self,

@@ -2,24 +2,31 @@
 use std::marker::Brand;
 
 /// Which table counts the lock's history, and from which state of the calls the history begins. The caller of the generic function
-/// in which the lock lives picks both.
+/// in which the lock lives picks all three meanings.
 pub trait HistoryNaming {
     ghost use Rattle.atomic_table.specs.Seated.{TableId};
     ghost use Rattle.gfx_model.specs.FrameCalls.{CallState};
+    ghost use Rattle.resource_book.specs.Written.{BookView};
 
     /// The named table.
     ghost table: { TableId };
 
     /// The state of the context's calls before the first entry.
     ghost start: { CallState };
+
+    /// What they wrote in this frame before the first entry.
+    ghost book: { BookView };
 }
 
 impl HistoryNaming for Brand {
     ghost use Rattle.gfx_model.specs.Resources.{opening};
     ghost use Rattle.gfx_model.specs.FrameCalls.{opened};
+    ghost use Rattle.gfx_context.specs.States.{no_book};
     ghost use Rattle.draw_encoder.specs.Bundles.{no_table};
 
     ghost table = { no_table };
 
     ghost start = { opened (opening 0 0 0 0) };
+
+    ghost book = { no_book };
 }

@@ -4,8 +4,8 @@ ghost use Rattle.gfx_model.specs.FrameCalls.{frame_refusal, end_frame};
 ghost use Rattle.draw_encoder.specs.Seen.{room_seen};
 ghost use Rattle.gfx_context.specs.States.{state_of};
 ghost use Rattle.res_lock.specs.Seen.{call_seen, reply_seen};
-ghost use Rattle.res_lock.specs.Seats.{log_table, pass_table, pen_table, pen_log, made_by};
-ghost use Rattle.res_lock.specs.Locked.{IsOpening, IsKept, table_of_log, log_entries};
+ghost use Rattle.res_lock.specs.Seats.{log_table, pass_table, pass_view, pen_table, pen_log, made_by};
+ghost use Rattle.res_lock.specs.Locked.{IsOpening, IsKept, IsReport, table_of_log, log_entries};
 ghost use Rattle.res_lock.specs.Called.{IsCreate, IsChange, IsSamePass, IsCreated, IsChanged, IsFramed, IsBegun, reply_of, frame_reply};
 
 use crate::entry::{LockRefusal, ResCall, ResReply};
@@ -39,7 +39,7 @@ impl<'t, C: Naming, L: FrameLink + Drop, H: HistoryNaming> Model for LockState<'
 
     ghost view = { λ s. record { context = s.context; history = log_entries s.log } };
 
-    ghost invariant = { λ s. (table_of_log s.log ≡ H.table) × IsKept H.start (record { context = s.context; history = log_entries s.log }) };
+    ghost invariant = { λ s. (table_of_log s.log ≡ H.table) × IsKept H.start H.book (record { context = s.context; history = log_entries s.log }) };
 }
 
 impl<'t, C: Naming, L: FrameLink + Drop, H: HistoryNaming> LockState<'t, C, L, H> {
@@ -51,6 +51,7 @@ impl<'t, C: Naming, L: FrameLink + Drop, H: HistoryNaming> LockState<'t, C, L, H
     ) -> Result<LockState<'t, C, L, H>, (Context<'t, C, L>, Pen)>
         requires pen { (pen_table pen ≡ H.table) × (pen_log pen ≡ []) }
         requires start { (state_of context ≡ H.start) × IsOpening H.start }
+        requires book { context.book ≡ H.book }
         ensures { IfErr result (λ e. (e.0 ≡ context.entry) × (e.1 ≡ pen)) }
     {
         match Log::new(alloc, pen) {
@@ -66,7 +67,7 @@ impl<'t, C: Naming, L: FrameLink + Drop, H: HistoryNaming> LockState<'t, C, L, H
     /// The context, and the history with the right to append.
     pub fn into_parts(self) -> (Context<'t, C, L>, Log)
         ensures table { table_of_log result.1 ≡ H.table }
-        ensures kept { IsKept H.start (record { context = result.0; history = log_entries result.1 }) }
+        ensures kept { IsKept H.start H.book (record { context = result.0; history = log_entries result.1 }) }
     {
         let LockState {
             context,
@@ -150,6 +151,7 @@ impl<'t, C: Naming, L: FrameLink + Drop, H: HistoryNaming> LockState<'t, C, L, H
         requires few { made_by pass.old < 4294967295 }
         ensures pass { IsSamePass pass.old pass.new }
         ensures answer { IsFramed H.start result pass.old pass.new }
+        ensures report { IfOk result (λ report. IsReport L C.admits C.views H.start H.book report (pass_view pass.new).seen) }
     {
         if self.log.reserve().is_err() {
             return Err(LockRefusal::Refused(Refusal::OutOfMemory));
@@ -160,6 +162,7 @@ impl<'t, C: Naming, L: FrameLink + Drop, H: HistoryNaming> LockState<'t, C, L, H
                 .append(table, pass, ResCall::Frame, ResReply::Ended { frame });
             return Err(LockRefusal::Ended { frame });
         }
+        self.context.tell_facts();
         let answer = self.context.frame(rt);
         let reply = reply_to(frame, &answer);
         self.log.append(table, pass, ResCall::Frame, reply);
@@ -191,6 +194,7 @@ impl<'t, C: Naming, L: FrameLink + Drop, H: HistoryNaming> LockState<'t, C, L, H
                 .append(table, pass, call, ResReply::Ended { frame });
             return Err(LockRefusal::Ended { frame });
         }
+        self.context.tell_facts();
         match self.context.begin(room) {
             Ok(encoder) => {
                 let number = encoder.number();

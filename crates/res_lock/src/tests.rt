@@ -3,6 +3,7 @@ ghost use Rattle.std.specs.Prelude.{◌≡◌, ◌<◌, ◌≤◌, ◌++◌, ◌
 ghost use Rattle.gfx_model.specs.Resources.{opening};
 ghost use Rattle.gfx_model.specs.FrameCalls.{opened};
 ghost use Rattle.gfx_model.specs.Views.{fewest_views};
+ghost use Rattle.gfx_context.specs.States.{no_book};
 ghost use Rattle.gfx_model.specs.World.{Item as SeenItem};
 ghost use Rattle.hold_table.specs.Seats.{table_of as hold_of, api_table, api_view};
 ghost use Rattle.hold_table.specs.Views.{first_view as first_seat};
@@ -114,6 +115,7 @@ fn locked<'t, C: Naming, L: FrameLink + Drop, H: HistoryNaming>(
     requires views { C.views ≡ fewest_views }
     requires table { table_of table ≡ H.table }
     requires start { H.start ≡ opened (opening 256 1 0 1) }
+    requires book { H.book ≡ record no_book { resources = opening 256 1 0 1 } }
     requires link { (L.latency link ≡ 1) × (L.given link ≡ frames_of (L.back link)) }
 {
     let start = Start {
@@ -291,6 +293,7 @@ fn all_calls<C: Naming, H: HistoryNaming, R: Threads + Wait + Sync>(
     requires admits { (e f d : ℕ) (items : List SeenItem) → C.admits e f items d }
     requires table { (table_of table ≡ H.table) × (pass_table pass ≡ H.table) × (pass_view pass ≡ first_view) }
     requires start { H.start ≡ opened (opening 256 1 0 1) }
+    requires book { H.book ≡ record no_book { resources = opening 256 1 0 1 } }
 {
     let shared = Shared::<C>::new(alloc, hold).ok()?;
     let link = list_link(alloc, Outcome::Shown);
@@ -408,6 +411,7 @@ fn ends<C: Naming, H: HistoryNaming, R: Threads + Wait + Sync>(
     requires views { C.views ≡ fewest_views }
     requires table { (table_of table ≡ H.table) × (pass_table pass ≡ H.table) × (pass_view pass ≡ first_view) }
     requires start { H.start ≡ opened (opening 256 1 0 1) }
+    requires book { H.book ≡ record no_book { resources = opening 256 1 0 1 } }
 {
     let shared = Shared::<C>::new(alloc, hold).ok()?;
     let link = list_link(alloc, Outcome::PictureFault);

@@ -19,6 +19,6 @@ returns-clause-counted c =
     let back = c.args.draw.now.back in
     let placed = map (instance_vertex w c.args.sides.now.height (affine_seen c.args.model.now)) (vertices_in c.args.vertices.now) in
     let shown : map setup_seen c.deref-2.result.now ≡ shown_of (cull_of state) (triangles_of (primitive_of state) placed) =
-    ap (map setup_seen) c.deref-2.ensures.value ∙ c.in_ok-triangles_of.ensures.shown
-    ∙ (λ i. shown_of (c.cull.ensures.value i) (triangles_of (c.primitive.ensures.value i) ((ap (map (option_map screen_seen)) c.deref.ensures.value ∙ c.in_ok-place_vertices.ensures.placed) i))) in
+    ap (map setup_seen) c.deref-2.ensures.value ∙ c.triangles_of.ensures.shown
+    ∙ (λ i. shown_of (c.cull.ensures.value i) (triangles_of (c.primitive.ensures.value i) ((ap (map (option_map screen_seen)) c.deref.ensures.value ∙ c.place_vertices.ensures.placed) i))) in
     λ n ps s. subst (λ fs. Stand c.count_triangles.new.words (n + c.count_triangles.result) (counted_by w state fs ps)) (facings_ready state front back c.deref-2.result.now (triangles_of (primitive_of state) placed) shown) (c.count_triangles.ensures.counted n ps s)

@@ -14,7 +14,7 @@ returns-then-is_empty-clause-counted c =
     let state = c.args.draw.now.state in
     let h : Affine → List Facing = instance_facings w c.args.sides.now.height state c.args.draw.now.front c.args.draw.now.back (vertices_in c.args.vertices.now) in
     let none : (length c.args.instances.now == 0) ≡ true = sym c.is_empty.ensures ∙ c.if-is_empty.true in
-    λ n ps s. subst (λ fs. Stand c.count_instance.new.words (n + c.in_ok-passed.passed) (counted_by w state fs ps)) (ap h c.identity-identity.ensures ∙ one_instance h c.args.instances.now none) (c.in_ok-passed.ensures.counted n ps s)
+    λ n ps s. subst (λ fs. Stand c.count_instance.new.words (n + c.count_instance.result) (counted_by w state fs ps)) (ap h c.identity-identity.ensures ∙ one_instance h c.args.instances.now none) (c.count_instance.ensures.counted n ps s)
 
 pub loop-number-preserved : goal.loop-number-preserved
 loop-number-preserved c =
@@ -25,12 +25,14 @@ loop-number-preserved c =
     let k = c.loop-number.number in
     let step : List Counted → Affine → List Counted = λ qs m. counted_by w state (h m) qs in
     record {
-      few = omega (arith, c.loop-number.invariant.few, c.in_ok-more.ensures.few);
+      few = omega (arith, c.loop-number.invariant.few, c.count_instance-passed.ensures.few);
       counted = λ n ps s.
-          let sum : n + c.loop-number.passed + c.in_ok-more.more ≡ n + (c.loop-number.passed + c.in_ok-more.more) = omega arith in
+          let sum : n + c.loop-number.passed + c.count_instance-passed.result ≡ n + (c.loop-number.passed + c.count_instance-passed.result) = omega arith in
           let qs : List Counted = fold step ps (map t (range_with_len 0 k)) in
-          subst (λ m. Stand c.count_instance-in-loop-number.new.words m (fold step ps (map t (range_with_len 0 (k + 1))))) sum
-          (subst (Stand c.count_instance-in-loop-number.new.words (n + c.loop-number.passed + c.in_ok-more.more)) (instance_more w state h t k _ ps c.transform_at-model.ensures) (c.in_ok-more.ensures.counted (n + c.loop-number.passed) qs (c.loop-number.invariant.counted n ps s)));
+          subst (λ m. Stand c.count_instance-passed.new.words m (fold step ps (map t (range_with_len 0 (k + 1))))) sum
+          (subst (Stand c.count_instance-passed.new.words (n + c.loop-number.passed + c.count_instance-passed.result)) (instance_more w state h t k _ ps c.transform_at-model.ensures) (c.count_instance-passed.ensures.counted (n + c.loop-number.passed) qs (c.loop-number.invariant.counted n ps s)));
+      vertices = c.count_instance-passed.ensures.vertices ∙ c.loop-number.invariant.vertices;
+      triangles = c.count_instance-passed.ensures.triangles ∙ c.loop-number.invariant.triangles;
     }
 
 pub returns-clause-counted : goal.returns-clause-counted

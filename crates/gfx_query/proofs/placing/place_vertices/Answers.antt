@@ -14,7 +14,9 @@ loop-number-preserved c =
     let start : c.loop-number.number ≡ 0 + c.loop-number.number = omega arith in
     record {
       placed = more (option_map screen_seen) p (λ (k : ℕ). fetch position_layout c.args.bytes.now k) 0 c.loop-number.number
-          c.loop-number.placed.items c.push.new.self.items c.instance_vertex.result c.in_ok-push.ensures.items
+          c.loop-number.placed.items c.push_reserved.new.self.items c.instance_vertex.result c.push_reserved.ensures.items
           (c.instance_vertex.ensures ∙ ap p (c.fetch-vertex.ensures ∙ (λ i. fetch (c.position_layout-layout.ensures i) c.args.bytes.now (start i)))) c.loop-number.invariant.placed;
-      few = omega (arith, ap length c.in_ok-push.ensures.items, length-append c.loop-number.placed.items (c.instance_vertex.result ∷ []), c.loop-number.invariant.few);
+      few = omega (arith, ap length c.push_reserved.ensures.items, length-append c.loop-number.placed.items (c.instance_vertex.result ∷ []), c.loop-number.invariant.few);
+      len = c.push_reserved.ensures.len ∙ ap (λ n. n + 1) c.loop-number.invariant.len;
+      room = c.push_reserved.ensures.capacity ∙ c.loop-number.invariant.room;
     }

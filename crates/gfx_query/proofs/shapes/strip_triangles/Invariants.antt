@@ -1,5 +1,5 @@
 use Rattle.std.proofs.Common.{◌≡◌, ◌≤◌, ◌+◌, ◌++◌, false, length, map}
-use Rattle.std.specs.Prelude.{option_map}
+use Rattle.std.specs.Prelude.{option_map, vec_len, vec_capacity}
 use Rattle.gfx_model.specs.Vertex.{strip_triangles}
 use Rattle.tri_cover.specs.Seen.{screen_seen}
 use Rattle.tri_cover.specs.Shown.{setup_seen}
@@ -9,6 +9,8 @@ use Rattle.gfx_query.proofs.shapes.strip_triangles.Given as goal
 abbrev pub invariant-loop-rest : goal.invariant-loop-rest
 invariant-loop-rest l = record {
   few : length l.triangles.items + length l.rest ≤ length l.vertices;
+  len : vec_len l.triangles + length l.rest ≤ length l.vertices;
+  room : vec_capacity l.triangles ≡ vec_capacity l.fn.triangles;
   shown : map setup_seen l.triangles.items ++ shown_of l.cull (strip_triangles l.odd (map (option_map screen_seen) l.rest)) ≡ shown_of l.cull (strip_triangles false (map (option_map screen_seen) l.vertices));
 }
 

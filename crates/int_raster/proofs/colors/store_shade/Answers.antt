@@ -31,9 +31,9 @@ loop-x-preserved c =
       green = ramp_more r.green c.loop-x.x s.y c.loop-x.green i.green;
       blue = ramp_more r.blue c.loop-x.x s.y c.loop-x.blue i.blue;
       alpha = ramp_more r.alpha c.loop-x.x s.y c.loop-x.alpha i.alpha;
-      done = color_more (color_seen c.args.draw.now c.args.setup.now) s.start s.y s.first c.loop-x.x c.args.colors.now c.loop-x.colors bytes
+      done = color_more (color_seen c.args.draw.now c.args.setup.now) s.start s.y s.first c.loop-x.x c.args.colors.now c.loop-x.colors c.packed.result
           i.done c.loop-x.auto.x (omega (arith, here, c.requires.inside))
-          (opaque_color c.args.draw.now c.args.setup.now c.loop-x.x s.y bytes (slice_index_or c.loop-x.colors (s.start + c.loop-x.x) []) c.requires.opaque
+          (c.packed.ensures ∙ opaque_color c.args.draw.now c.args.setup.now c.loop-x.x s.y bytes (slice_index_or c.loop-x.colors (s.start + c.loop-x.x) []) c.requires.opaque
           (shade ∙ c.requires.paints c.loop-x.x c.loop-x.auto.x here));
     }
 

@@ -1,13 +1,10 @@
 use Rattle.std.proofs.Common.{◌≡◌, ◌+◌}
 use Rattle.gfx_model.specs.Number.{map_from}
-use Rattle.tri_cover.specs.Widened.{wide_at}
 use Rattle.int_raster.specs.Places.{deep_pixels, spanned, in_row}
 use Rattle.int_raster.specs.Seen.{step_seen}
 use Rattle.int_raster.proofs.deep_spans.store.Given as goal
 
--- the pixels before the column are stepped, and the depth stands at it
+-- the pixels before the column are stepped
 abbrev pub invariant-loop-x : goal.invariant-loop-x
-invariant-loop-x g l = record {
-  new : l.new ≡ wide_at l.fn.depth l.x l.fn.span.y;
-  done : deep_pixels l.colors l.depths ≡ map_from (spanned (in_row l.fn.span.start l.fn.span.y (step_seen l.fn.draw l.fn.setup)) (l.fn.span.start + l.fn.span.first) (l.fn.span.start + l.x)) 0 (deep_pixels l.fn.colors l.fn.depths);
-}
+invariant-loop-x g l =
+    deep_pixels l.colors l.depths ≡ map_from (spanned (in_row l.fn.span.start l.fn.span.y (step_seen l.fn.draw l.fn.setup)) (l.fn.span.start + l.fn.span.first) (l.fn.span.start + l.x)) 0 (deep_pixels l.fn.colors l.fn.depths)

@@ -1,4 +1,4 @@
-use Rattle.std.proofs.Common.{◌≡◌, ◌/◌, ◌^◌, [], ◌∷◌, arith}
+use Rattle.std.proofs.Common.{◌≡◌, ◌/◌, ◌^◌, [], ◌∷◌, arith, ◌∙◌}
 use Rattle.gfx_model.specs.Vertex.{Color}
 use Rattle.int_raster.proofs.Ramped.{ramp_more}
 use Rattle.int_raster.specs.Painted.{shade_at}
@@ -26,8 +26,8 @@ loop-x-preserved c =
       green = ramp_more r.green c.loop-x.x s.y c.loop-x.green i.green;
       blue = ramp_more r.blue c.loop-x.x s.y c.loop-x.blue i.blue;
       alpha = ramp_more r.alpha c.loop-x.x s.y c.loop-x.alpha i.alpha;
-      held = held_more (λ x. shade_at r x s.y) s.first c.loop-x.x c.loop-x.colors bytes i.held c.loop-x.auto.x
-          (omega (arith, c.loop-x-test.true, c.loop-x.auto.colors, c.loop-x.auto.x, c.requires.room)) shade;
+      held = held_more (λ x. shade_at r x s.y) s.first c.loop-x.x c.loop-x.colors c.packed.result i.held c.loop-x.auto.x
+          (omega (arith, c.loop-x-test.true, c.loop-x.auto.colors, c.loop-x.auto.x, c.requires.room)) (c.packed.ensures ∙ shade);
     }
 
 pub returns : goal.returns

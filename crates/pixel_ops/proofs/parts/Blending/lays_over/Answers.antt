@@ -1,4 +1,4 @@
-use Rattle.std.proofs.Common.{◌≡◌, sym, ◌∙◌}
+use Rattle.std.proofs.Common.{sym, ◌∙◌}
 use Rattle.pixel_ops.proofs.Laid.{lays}
 use Rattle.pixel_ops.proofs.parts.Blending.lays_over.Goals as goal
 

@@ -20,7 +20,7 @@ returns-then-is_ended-clause-answer g c =
 pub invariant_of-self-in-Ok : goal.invariant_of-self-in-Ok
 invariant_of-self-in-Ok g c =
     let runs = sym c.is_ended.ensures ∙ c.if-is_ended.false in
-    (search rules, (begun_kept g.H.HistoryNaming.start _ _ c.self.invariant.1 _ _ _ _ c.reserve.ensures.same.0 runs (room_seen c.args.room) c.in-Ok.encoder c.number-number.result _ c.number-number.ensures c.in-Ok.ensures c.append-in-Ok.ensures).kept)
+    (search rules, (begun_kept g.H.HistoryNaming.start _ _ c.self.invariant.1 _ _ _ _ c.reserve.ensures.same.0 c.tell_facts.ensures.keeps runs (room_seen c.args.room) c.in-Ok.encoder c.number-number.result _ c.number-number.ensures c.in-Ok.ensures c.append-in-Ok.ensures).kept)
 
 pub invariant_of-self-in-Err : goal.invariant_of-self-in-Err
 invariant_of-self-in-Err g c =
@@ -30,7 +30,7 @@ invariant_of-self-in-Err g c =
 pub returns-in-Ok-clause-answer : goal.returns-in-Ok-clause-answer
 returns-in-Ok-clause-answer g c =
     let runs = sym c.is_ended.ensures ∙ c.if-is_ended.false in
-    (begun_kept g.H.HistoryNaming.start _ _ c.self.invariant.1 _ _ _ _ c.reserve.ensures.same.0 runs (room_seen c.args.room) c.in-Ok.encoder c.number-number.result _ c.number-number.ensures c.in-Ok.ensures c.append-in-Ok.ensures).begins_here
+    (begun_kept g.H.HistoryNaming.start _ _ c.self.invariant.1 _ _ _ _ c.reserve.ensures.same.0 c.tell_facts.ensures.keeps runs (room_seen c.args.room) c.in-Ok.encoder c.number-number.result _ c.number-number.ensures c.in-Ok.ensures c.append-in-Ok.ensures).begins_here
 
 pub returns-in-Err-clause-answer : goal.returns-in-Err-clause-answer
 returns-in-Err-clause-answer g c =

@@ -1,7 +1,7 @@
-use Rattle.std.proofs.Common.{rules, subst, sym, ◌∙◌}
+use Rattle.std.proofs.Common.{rules, sym, ◌∙◌}
 use Rattle.res_lock.specs.Histories.{ends_frame}
 use Rattle.res_lock.proofs.KeptLaws.{ended_kept}
-use Rattle.res_lock.proofs.FrameLaws.{framed_kept, ok_framed, err_framed}
+use Rattle.res_lock.proofs.FrameLaws.{framed_kept, ok_framed, err_framed, reported, ok_reported, err_reported}
 use Rattle.res_lock.proofs.state.LockState.frame.Goals as goal
 use Rattle.res_lock.proofs.state.LockState.frame.Goals.{in-Ok, in-Err}
 
@@ -27,4 +27,13 @@ returns-clause-answer g c =
     elim c.match-answer.branch [
       | in-Ok w ↦ ok_framed g.H.HistoryNaming.start c.args.pass.now c.append-2.new.pass c.frame_number-frame.result c.frame-answer.result c.match-answer.result _ w.in-Ok.is w.result-is told
       | in-Err w ↦ err_framed g.H.HistoryNaming.start c.args.pass.now c.append-2.new.pass c.frame_number-frame.result c.frame-answer.result c.match-answer.result _ w.in-Err.is w.result-is told
+    ]
+
+pub returns-clause-report : goal.returns-clause-report
+returns-clause-report g c =
+    let runs = sym c.is_ended.ensures ∙ c.if-is_ended.false in
+    let told = reported g.H.HistoryNaming.start _ _ c.self.invariant.1 _ _ _ _ c.reserve.ensures.same.0 runs c.tell_facts.ensures.keeps c.frame-answer.result _ c.frame_number-frame.result _ c.frame_number-frame.ensures.same c.reply_to-reply.ensures c.frame-answer.ensures.answer c.append-2.ensures in
+    elim c.match-answer.branch [
+      | in-Ok w ↦ ok_reported _ c.frame-answer.result c.match-answer.result _ w.in-Ok.is w.result-is told
+      | in-Err w ↦ err_reported _ c.match-answer.result _ w.result-is
     ]

@@ -1,5 +1,4 @@
-use Rattle.std.proofs.Common.{rules, ap, ◌∙◌, subst, sym, length, ◌<◌}
-use Rattle.res_lock.specs.Views.{PassView}
+use Rattle.std.proofs.Common.{rules, ap}
 use Rattle.res_lock.proofs.Steps.{takes_pen, closes_with, closes_beyond}
 use Rattle.res_lock.proofs.table.LogTable.close.Goals as goal
 

@@ -1,6 +1,5 @@
-use Rattle.std.proofs.Common.{rules, ℕ, ◌<◌, length, ap, subst, sym, ◌∙◌}
+use Rattle.std.proofs.Common.{rules, ◌<◌, length, ap, subst, sym, ◌∙◌}
 use Rattle.schedule_model.specs.Held.{count_of}
-use Rattle.res_lock.specs.Histories.{part_of}
 use Rattle.res_lock.specs.Views.{PassView}
 use Rattle.res_lock.proofs.Steps.{hears_other, learns_keep, joined_after, own_caller}
 use Rattle.res_lock.proofs.table.LogTable.join.Goals as goal

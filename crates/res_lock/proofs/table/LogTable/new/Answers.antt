@@ -1,5 +1,5 @@
 use Rattle.std.proofs.Common.{rules}
-use Rattle.res_lock.proofs.Steps.{opens, gives_pen}
+use Rattle.res_lock.proofs.Steps.{gives_pen}
 use Rattle.res_lock.proofs.table.LogTable.new.Goals as goal
 
 pub split_seat-pen-requires : goal.split_seat-pen-requires

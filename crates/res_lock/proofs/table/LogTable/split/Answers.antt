@@ -2,7 +2,6 @@ use Rattle.std.proofs.Common.{rules, ℕ, ◌<◌, length, ap, subst, sym, ◌�
 use Rattle.schedule_model.specs.Held.{count_of}
 use Rattle.res_lock.specs.Histories.{part_of}
 use Rattle.res_lock.specs.Views.{PassView, split_off}
-use Rattle.res_lock.proofs.Totals.{count_here}
 use Rattle.res_lock.proofs.Steps.{looks_keep, splits_off, new_caller}
 use Rattle.res_lock.proofs.table.LogTable.split.Goals as goal
 
