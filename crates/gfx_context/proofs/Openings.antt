@@ -22,15 +22,15 @@ module _ {T : TableId} {admits : ℕ → ℕ → List Item → ℕ → Type 0} {
   linked_new =
       let outs = none_out given back none in
       subst (λ (x : CoreView). IsLinked T admits views latency x given back) (sym is) (record {
-    table_is = table;
-    views_are = length-replicate start.views plain_view ∙ counted;
-    latency_is = late;
-    admitted = tt;
-    frames = record {
-      counted = (let a = ap length none in let b = length-map back (λ r. r.frame) in omega (arith, a, b));
-      prefix = none ∙ sym (append-nil (frames_of back)) ∙ ap (λ l. frames_of back ++ l) (sym outs);
-      some = omega arith;
-      numbers = ap (map (λ f. f.number)) outs;
-      names = subst (AllByRecursion (KeepsNames admits views (first_view start.frame).places)) (sym outs) tt;
-    };
-  })
+        table_is = table;
+        views_are = length-replicate start.views plain_view ∙ counted;
+        latency_is = late;
+        admitted = tt;
+        frames = record {
+          counted = (let a = ap length none in let b = length-map back (λ r. r.frame) in omega (arith, a, b));
+          prefix = none ∙ sym (append-nil (frames_of back)) ∙ ap (λ l. frames_of back ++ l) (sym outs);
+          some = omega arith;
+          numbers = ap (map (λ f. f.number)) outs;
+          names = subst (AllByRecursion (KeepsNames admits views (first_view start.frame).places)) (sym outs) tt;
+        };
+      })

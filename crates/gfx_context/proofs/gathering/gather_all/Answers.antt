@@ -26,14 +26,14 @@ loop-i-preserved g c =
     }
 
 pub returns-clause-none_off : goal.returns-clause-none_off
-returns-clause-none_off g c = none_off_when c.loop-i.core.state.seat (let le = c.loop-i-test.false in let left = c.loop-i.invariant.left in let off = c.off.ensures in omega (arith, le, left, off))
+returns-clause-none_off g c = none_off_when c.loop-i.core.state.seat (let le = c.loop-i-test.false in let left = c.loop-i.invariant.left in let off = c.off-left.ensures in omega (arith, le, left, off))
 
 pub returns-clause-recordings : goal.returns-clause-recordings
 returns-clause-recordings g c =
     let i = c.loop-i.invariant in
     let now = c.loop-i.core in
     let first = c.args.core.now in
-    let none : now.state.seat.off ≡ [] = none_off_when now.state.seat (let le = c.loop-i-test.false in let left = i.left in let off = c.off.ensures in omega (arith, le, left, off)) in
+    let none : now.state.seat.off ≡ [] = none_off_when now.state.seat (let le = c.loop-i-test.false in let left = i.left in let off = c.off-left.ensures in omega (arith, le, left, off)) in
     let all = gathered_admitted g.C.Naming.admits (view_count now.state.book.resources.views) g.C.Naming.views now.state.seat now.state.begun now.state.gathered i.views c.tell_facts.ensures.keeps.gathered i.admitted in
     of_frame g.C.Naming.admits g.C.Naming.views now.state.seat first.state.seat first.state.begun now.state.gathered
     (subst (λ (n : ℕ). AreGathered g.C.Naming.admits g.C.Naming.views now.state.seat n now.state.gathered) (ap (λ (x : CoreView). x.state.begun) i.same) all) none i.seat

@@ -19,7 +19,7 @@ pub invariant_of-self-in-Err : goal.invariant_of-self-in-Err
 invariant_of-self-in-Err g c =
     let l = c.in_ok-seat.ensures in
     let again : c.take_again.new.self ≡ c.self.inside.core = c.take_again.ensures c.self.inside.core.state (record { fresh_still = ap enc_view c.in-Err.ensures.err ∙ l.seat; same_still = ap (λ (o : CoreView). o.state) l.after })
-        ∙ ap (λ (o : CoreView). record o { state = c.self.inside.core.state }) l.after in
+    ∙ ap (λ (o : CoreView). record o { state = c.self.inside.core.state }) l.after in
     same_as c.self.invariant c.take_again.new.self again
 
 pub returns-in-Err : goal.returns-in-Err
