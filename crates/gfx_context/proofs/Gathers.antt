@@ -1,5 +1,5 @@
 -- The bundles of a frame are collected.
-use Rattle.std.proofs.Common.{◌≡◌, ℕ, ◌+◌, ◌≤◌, List, [], ◌∷◌, ◌++◌, length, refl, ap, ◌∙◌, sym, arith, subst, append_assoc}
+use Rattle.std.proofs.Common.{◌≡◌, ℕ, List, [], ◌∷◌, ◌++◌, length, refl, ap, ◌∙◌, sym, arith, subst, append_assoc}
 use Rattle.schedule_model.proofs.Lists.{all-snoc}
 use Rattle.gfx_model.specs.World.{Item}
 use Rattle.schedule_model.specs.Held.{count_of}

@@ -10,7 +10,7 @@ use Rattle.frame_record.specs.declared.frame.RenderedFrame.{RenderedFrame}
 use Rattle.context_core.specs.Calls as cores
 use Rattle.context_core.specs.States.{CoreView, own}
 use Rattle.context_core.specs.States as states
-use Rattle.gfx_context.specs.Calls.{Makes, Creates, Updates, Changes, Destroys}
+use Rattle.gfx_context.specs.Calls.{Creates, Updates, Changes, Destroys}
 use Rattle.gfx_context.specs.States.{ContextView, context_of, state_of}
 
 module _ {L : Type 0} (given : List Frame) (back : List RenderedFrame) (link : L) (a b : CoreView) where

@@ -1,7 +1,7 @@
 -- What a context keeps beside its core, call by call.
-use Rattle.std.proofs.Common.{◌≡◌, ℕ, suc, ◌+◌, ◌-◌, ◌<◌, ◌≤◌, Bool, true, false, not, nat_lt, if◌then◌else◌, List, [], ◌∷◌, ◌++◌, Option, None, Some, Result, Ok, Err, refl, sym, ap, ◌∙◌, subst, arith}
+use Rattle.std.proofs.Common.{◌≡◌, ℕ, suc, ◌+◌, ◌-◌, ◌<◌, Bool, true, false, not, nat_lt, if◌then◌else◌, List, [], ◌∷◌, ◌++◌, None, Result, Ok, Err, refl, sym, ap, ◌∙◌, subst, arith}
 use Rattle.std.specs.Prelude.{⊤}
-use Rattle.std.specs.List.{AllByRecursion, find}
+use Rattle.std.specs.List.{find}
 use Rattle.std.proofs.lemmas.List.{length-map}
 use Rattle.atomic_table.specs.Seated.{TableId}
 use Rattle.gfx_model.specs.Words.{Handle, place_of_handle}
@@ -18,12 +18,11 @@ use Rattle.frame_record.specs.declared.frame.RenderedFrame.{RenderedFrame}
 use Rattle.frame_record.specs.Links.{CameBack}
 use Rattle.resource_book.specs.Written.{BookView, after_in}
 use Rattle.resource_book.specs.declared.frames.Work.{Work}
-use Rattle.context_core.specs.Places.{Stays}
 use Rattle.context_core.specs.Gathered.{anything, IsCollected, AreCollected, AreGathered, with_gathered}
 use Rattle.context_core.specs.Kept.{AreTargets, IsCore, KeepsUsable, KeepsOut}
-use Rattle.context_core.specs.Calls.{IsPlacedBy, Creates, Updates, Changes, Destroys, Makes, destroyed, with_lent}
+use Rattle.context_core.specs.Calls.{IsPlacedBy, Creates, Updates, Changes, Destroys, with_lent}
 use Rattle.context_core.specs.Ended.{Gives, ended_core}
-use Rattle.context_core.specs.States.{CoreState, CoreView, own}
+use Rattle.context_core.specs.States.{CoreView, own}
 use Rattle.context_core.proofs.Same.{same_after}
 use Rattle.gfx_context.specs.Kept.{AreOut, AreAdmitted, IsLinked, IsContext}
 use Rattle.gfx_context.specs.States.{context_of}

@@ -1,4 +1,4 @@
-use Rattle.std.proofs.Common.{◌≡◌, ap, ◌∙◌, map}
+use Rattle.std.proofs.Common.{ap, ◌∙◌, map}
 use Rattle.frame_record.specs.Seen.{entry_seen}
 use Rattle.context_core.specs.States.{CoreView}
 use Rattle.gfx_context.specs.declared.report.FrameReport.{FrameReport}

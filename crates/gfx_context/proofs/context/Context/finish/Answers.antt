@@ -1,4 +1,4 @@
-use Rattle.std.proofs.Common.{◌≡◌, ◌<◌, sym, subst, arith}
+use Rattle.std.proofs.Common.{◌<◌, sym, subst, arith}
 use Rattle.gfx_context.specs.States.{ContextView}
 use Rattle.gfx_context.proofs.Linked.{linked_ended, linked_given}
 use Rattle.gfx_context.proofs.Finish.{made_none, made_some, finishes_none, finishes_some}

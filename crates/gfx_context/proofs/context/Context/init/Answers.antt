@@ -1,4 +1,3 @@
-use Rattle.std.proofs.Common.{ap, sym, ◌∙◌}
 use Rattle.gfx_context.proofs.Openings.{linked_new}
 use Rattle.gfx_context.proofs.context.Context.init.Goals as goal
 
