@@ -1,7 +1,7 @@
 use Rattle.std.proofs.Common.{rules}
 use Rattle.int_raster.specs.Bands.{deep}
 use Rattle.int_raster.proofs.Stacks.{deep_joined}
-use Rattle.int_raster.proofs.bands.+deep_bands+fn-deep_bands-join_mut+arg2+fn-deep_bands-join_mut+arg3.Goals as goal
+use Rattle.int_raster.proofs.bands.+deep_bands+fn-deep_bands-join_mut+arg3.Goals as goal
 
 pub returns : goal.returns
 returns g t c =

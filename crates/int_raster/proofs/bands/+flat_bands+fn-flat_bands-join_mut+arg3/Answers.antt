@@ -1,6 +1,6 @@
 use Rattle.std.proofs.Common.{rules}
 use Rattle.int_raster.proofs.Stacks.{flat_joined}
-use Rattle.int_raster.proofs.bands.+flat_bands+fn-flat_bands-join_mut+arg2+fn-flat_bands-join_mut+arg3.Goals as goal
+use Rattle.int_raster.proofs.bands.+flat_bands+fn-flat_bands-join_mut+arg3.Goals as goal
 
 pub returns : goal.returns
 returns g t c =

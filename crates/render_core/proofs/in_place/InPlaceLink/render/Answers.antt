@@ -8,7 +8,7 @@ use Rattle.frame_record.specs.Links.{frames_of}
 use Rattle.render_core.specs.Rendered.{AreRendered, rendered_more, seen_by}
 use Rattle.frame_swap.proofs.WholeSeat.{one_rendered, one_later, same_count}
 use Rattle.frame_swap.proofs.Slots.{next_slot, next_place, headed}
-use Rattle.render_core.proofs.in_place.InPlaceLinkFrameLink.give.Goals as goal
+use Rattle.render_core.proofs.in_place.InPlaceLink.render.Goals as goal
 
 pub give_here-taken-requires-clause-slot : goal.give_here-taken-requires-clause-slot
 give_here-taken-requires-clause-slot g c = let a = c.args.self.now in headed _ _ _ _ (a.has ∙ next_slot _ _ _ _ c.requires.room a.next_is)
