@@ -328,12 +328,7 @@ fn the_line_of_a_generated_scene_is_cut(rt: HostRuntime) -> Result<(), Fail> {
     let line = b"frames 1 items 1200 sum 43356822\n";
     let words = ["make", "--count", "1"];
     let fails = (0, 1, Some(0));
-    for (call, status, bytes) in [
-        (0, Status::NoteFault, 0),
-        (3, Status::NoteFault, 15),
-        (6, Status::NoteFault, 30),
-        (7, Status::Done, 33),
-    ] {
+    for (call, status, bytes) in [(3, Status::NoteFault, 15), (7, Status::Done, 33)] {
         let notes = (1000, 5, Some(call));
         let left = run(&rt, alloc, &words, Vec::new(alloc), Some(0), fails, notes)?;
         assert_eq!(rt; left.ended, (status, 1, 0, bytes), "{call}");

@@ -110,16 +110,32 @@ fn limits_of_one_thing(rt: HostRuntime) -> Result<(), Fail> {
     assert_eq!(rt; made, (65_535, Some(Refusal::Full)));
     assert_eq!(rt; gone, (65_535, Some(Refusal::Stale { word: 10 })));
     assert_eq!(rt; answers.names, [None, Some(Refusal::BadSize)]);
-    let size = Some(Refusal::BadSize);
-    assert_eq!(rt; answers.bytes, [size, size, None, Some(Refusal::BadRange)]);
+    assert_eq!(rt;
+        answers.bytes,
+        [
+            Some(Refusal::BadSize),
+            Some(Refusal::BadSize),
+            None,
+            Some(Refusal::BadRange)
+        ]
+    );
     assert_eq!(rt;
         answers.texels,
-        [None, Some(Refusal::TexelsFull), size, size]
+        [
+            None,
+            Some(Refusal::TexelsFull),
+            Some(Refusal::BadSize),
+            Some(Refusal::BadSize)
+        ]
     );
-    let state = Some(Refusal::BadState);
     assert_eq!(rt;
         answers.clears,
-        [None, state, state, Some(Refusal::BadView)]
+        [
+            None,
+            Some(Refusal::BadState),
+            Some(Refusal::BadState),
+            Some(Refusal::BadView)
+        ]
     );
     Ok(())
 }

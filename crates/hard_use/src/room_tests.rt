@@ -66,15 +66,14 @@ fn all_rooms<C: Naming>(
 fn rooms_outside_their_range(rt: HostRuntime) -> Result<(), Fail> {
     let (table, seat) = HoldTable::new(rt.alloc(), 0)?;
     let rooms = all_rooms::<Brand>(rt.alloc(), table, seat).ok_or("memory")?;
-    let size = Some(Refusal::BadSize);
     assert_eq!(rt;
         rooms,
         [
-            (size, 0),
+            (Some(Refusal::BadSize), 0),
             (None, 1),
-            (size, 1),
-            (size, 1),
-            (size, 1),
+            (Some(Refusal::BadSize), 1),
+            (Some(Refusal::BadSize), 1),
+            (Some(Refusal::BadSize), 1),
             (None, 2)
         ]
     );
