@@ -1,6 +1,5 @@
 // Worked scenes through the whole player: what they show was worked out by hand.
 use crate::runs::{WELL, run};
-use std::alloc::Global;
 use std::test::Fail;
 
 // How the scene is run, its text, with a journal behind it where it is replayed, and its pictures.
