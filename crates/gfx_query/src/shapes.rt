@@ -37,11 +37,7 @@ fn push_some(triangles: &mut Vec<Setup>, triangle: Option<Setup>)
 }
 
 /// The triangles of a list of vertices, three at a time.
-fn list_triangles(
-    triangles: &mut Vec<Setup>,
-    vertices: &[Option<ScreenVertex>],
-    cull: u8,
-)
+fn list_triangles(triangles: &mut Vec<Setup>, vertices: &[Option<ScreenVertex>], cull: u8)
     requires empty { triangles.old.items ≡ [] }
     requires none { vec_len triangles.old ≡ 0 }
     requires room { length vertices.now ≤ vec_capacity triangles.old }
@@ -74,11 +70,7 @@ fn strip_triangle(
 }
 
 /// The triangles of a strip of vertices: each vertex with the next two.
-fn strip_triangles(
-    triangles: &mut Vec<Setup>,
-    vertices: &[Option<ScreenVertex>],
-    cull: u8,
-)
+fn strip_triangles(triangles: &mut Vec<Setup>, vertices: &[Option<ScreenVertex>], cull: u8)
     requires empty { triangles.old.items ≡ [] }
     requires none { vec_len triangles.old ≡ 0 }
     requires room { length vertices.now ≤ vec_capacity triangles.old }
