@@ -6,15 +6,17 @@ use crate::bundle::Bundle;
 use crate::naming::Naming;
 use crossbeam_queue::ArrayQueue;
 use crossbeam_utils::Backoff;
+use crossbeam_utils::sync::EventCount;
 use hold_table::HoldTable;
 use std::alloc::Global;
 use std::sync::Wait;
 
-/// The hold table, and the queue of the bundles that wait, with 8 places.
+/// The hold table, and the queue of the bundles that wait, with 8 places. Who waits for a bundle sleeps.
 #[derive(Drop)]
 pub struct Shared<C: Naming> {
     table: HoldTable,
     queue: ArrayQueue<Bundle<C>>,
+    news: EventCount,
     ghost named: { table_of table ≡ C.table },
 }
 
@@ -25,7 +27,11 @@ impl<C: Naming> Shared<C> {
         ensures { IfErr result (λ t. t ≡ table) }
     {
         match ArrayQueue::new(alloc, 8) {
-            Ok(queue) => Ok(Shared { table, queue }),
+            Ok(queue) => Ok(Shared {
+                table,
+                queue,
+                news: EventCount::new(),
+            }),
             Err(_) => Err(table),
         }
     }
@@ -41,7 +47,7 @@ impl<C: Naming> Shared<C> {
     pub fn into_table(self) -> HoldTable
         ensures { table_of result ≡ C.table }
     {
-        let Shared { table, queue: _ } = self;
+        let Shared { table, .. } = self;
         table
     }
 
@@ -52,9 +58,23 @@ impl<C: Naming> Shared<C> {
             if let Some(bundle) = self.queue.pop(rt) {
                 return bundle;
             }
-            backoff.snooze();
+            if !backoff.is_completed() {
+                backoff.snooze();
+            } else {
+                self.sleep(rt);
+                backoff.reset();
+            }
         }
         unreachable!()
+    }
+
+    // Sleeps until a bundle is put into the queue, unless there is one. A push comes before its notification: where it comes before
+    // `is_empty`, that finds it; where it comes later, the notification comes behind `prepare_wait`, and so ends the wait.
+    fn sleep<R: Wait>(&self, rt: &R) {
+        let key = self.news.prepare_wait();
+        if self.queue.is_empty() {
+            key.wait(rt);
+        }
     }
 
     /// Puts a bundle into the queue, and tries again while it is full.
@@ -63,7 +83,10 @@ impl<C: Naming> Shared<C> {
         let mut bundle = bundle;
         for _ in rt.forever() {
             match self.queue.push(rt, bundle) {
-                Ok(()) => return,
+                Ok(()) => {
+                    self.news.notify_one();
+                    return;
+                }
                 Err(back) => bundle = back,
             }
             backoff.snooze();

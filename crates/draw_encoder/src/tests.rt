@@ -7,6 +7,8 @@ ghost use Rattle.hold_table.specs.Views.{first_view, lent};
 ghost use Rattle.hold_table.specs.Seats.{table_of, api_table, api_view};
 
 use super::*;
+use crossbeam_queue::ArrayQueue;
+use crossbeam_utils::Backoff;
 use fix_math::{Affine, Rect};
 use gfx_words::{Format, Handle, Info, Kind, Refusal, UniformKind, UniformValue};
 use hold_table::{ApiSeat, HoldTable};
@@ -15,8 +17,8 @@ use std::marker::Brand;
 use std::sync::Wait;
 use std::sync::atomic::{AtomicU32, Ordering};
 use std::test::Fail;
-use std::thread;
 use std::thread::Threads;
+use std::{hint, thread};
 
 // The number of views in the first version.
 const VIEWS: u16 = 256;
@@ -331,5 +333,83 @@ fn four_bundles(rt: HostRuntime) -> Result<(), Fail> {
     let (table, api) = HoldTable::new(rt.alloc(), 0)?;
     let sum = four::<Brand, _>(&rt, rt.alloc(), table, api);
     assert_eq!(rt; sum, Some(1_111));
+    Ok(())
+}
+
+// Lets some time pass, in which another thread may try, yield, come near to its sleep, or sleep.
+fn pause(turns: u32) {
+    for _ in 0..turns {
+        hint::spin_loop();
+    }
+}
+
+// The bundle that was collected last.
+fn last<C: Naming, R: Wait>(rt: &R, collected: &ArrayQueue<Bundle<C>>) -> Bundle<C> {
+    let backoff = Backoff::new();
+    for _ in rt.forever() {
+        if let Some(bundle) = collected.pop(rt) {
+            return bundle;
+        }
+        backoff.snooze();
+    }
+    unreachable!()
+}
+
+// Puts the bundle that was collected last into the queue again, a thousand times, each time later than before.
+fn put_late<C: Naming, R: Wait>(rt: &R, shared: &Shared<C>, collected: &ArrayQueue<Bundle<C>>) {
+    for turn in 0..1000u32 {
+        let bundle = last(rt, collected);
+        pause(turn);
+        shared.put(rt, bundle);
+    }
+}
+
+// Collects a bundle a thousand times, and answers how often it could be handed back.
+fn collect_late<C: Naming, R: Wait>(
+    rt: &R,
+    shared: &Shared<C>,
+    collected: &ArrayQueue<Bundle<C>>,
+) -> u32 {
+    let mut came = 0u32;
+    for _ in 0..1000u32 {
+        let bundle = shared.collect(rt);
+        if collected.push(rt, bundle).is_ok() {
+            came = came.wrapping_add(1);
+        }
+    }
+    came
+}
+
+fn thousand<C: Naming + Send + Sync, R: Threads + Wait + Sync>(
+    rt: &R,
+    alloc: Global,
+    table: HoldTable,
+    mut api: ApiSeat,
+) -> Option<u32>
+    requires table { (table_of table ≡ C.table) × (api_table api ≡ C.table) × (api_view api ≡ first_view 0) }
+    requires views { C.views ≡ fewest_views }
+    requires admits { (e f d : ℕ) (items : List SeenItem) → C.admits e f items d }
+{
+    let Ok(shared) = Shared::<C>::new(alloc, table) else {
+        return None;
+    };
+    let Ok(collected) = ArrayQueue::<Bundle<C>>::new(alloc, 1) else {
+        return None;
+    };
+    begun(alloc, &shared, &mut api, 0)?.end(rt, 1);
+    let _ = collected.push(rt, shared.collect(rt));
+    let (_, came) = thread::join(
+        rt,
+        || put_late(rt, &shared, &collected),
+        || collect_late(rt, &shared, &collected),
+    );
+    Some(came)
+}
+
+#[test]
+fn who_waits_for_a_bundle_wakes(rt: HostRuntime) -> Result<(), Fail> {
+    let (table, api) = HoldTable::new(rt.alloc(), 0)?;
+    let came = thousand::<Brand, _>(&rt, rt.alloc(), table, api);
+    assert_eq!(rt; came, Some(1000));
     Ok(())
 }

@@ -14,7 +14,7 @@ use std::alloc::{AllocError, Global};
 fn entries_of(alloc: Global, all: &[NumberedEntry]) -> Result<Vec<JournalEntry>, AllocError>
     ensures { IfOk result (λ journal. map entry_seen journal.items ≡ map (λ n. entry_seen n.entry) all.now) }
 {
-    let mut journal = Vec::new(alloc);
+    let mut journal = Vec::with_capacity(alloc, all.len())?;
     for numbered in all {
         journal.push(numbered.entry)?;
     }

@@ -12,7 +12,7 @@ pub use collecting::collect;
 pub use frame::{Frame, MOST_ITEMS, Outcome, RenderedFrame};
 pub use gfx_words::JournalEntry;
 pub use link::FrameLink;
-pub use ordering::{OrderedItem, bench_ordered, end_of_run};
+pub use ordering::{OrderedItem, end_of_run};
 pub use placing::{PlacedBlit, end_of_blits};
 
 #[cfg(test)]

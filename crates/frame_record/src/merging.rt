@@ -57,7 +57,7 @@ pub(crate) fn merged(
     ensures { IfOk result (λ all. map pair_of all.items ≡ sorted_by_key (map pair_of left.now ++ numbered_entries (recorded_seen recording.now))) }
 {
     let right = recording.items.as_slice();
-    let mut all = Vec::new(alloc);
+    let mut all = Vec::with_capacity(alloc, left.len() + right.len())?;
     let mut at = 0;
     let mut beside = 0;
     for _ in 0..left.len() + right.len() {

@@ -158,7 +158,7 @@ fn with_keys(
     ensures keyed { IfOk result (λ all. map keyed_of all.items ≡ keyed_entries views.now (recordings_seen recordings.now) (map entry_seen journal.now)) }
     ensures placed { IfOk result (λ all. AllByRecursion (IsPlaced views.now (recordings_seen recordings.now)) (map keyed_of all.items)) }
 {
-    let mut all = Vec::new(alloc);
+    let mut all = Vec::with_capacity(alloc, journal.len())?;
     for place in 0..journal.len() {
         let entry = journal[place];
         let key = key_at(views, recordings, entry, place as u32);
@@ -215,18 +215,4 @@ pub fn end_of_run(ordered: &[OrderedItem], from: usize, position: u16) -> usize
         }
     }
     ordered.len()
-}
-
-/// For measuring alone.
-pub fn bench_ordered(
-    alloc: Global,
-    views: &ViewTable,
-    recordings: &[Recording],
-    journal: &[JournalEntry],
-) -> Result<Vec<OrderedItem>, AllocError>
-    requires { length journal.now ≤ most_frame_items }
-{
-    let mut all = with_keys(alloc, views, recordings, journal)?;
-    sort(&mut all)?;
-    Ok(all)
 }

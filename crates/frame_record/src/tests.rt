@@ -207,13 +207,13 @@ fn items_by_view_depth_and_journal(rt: HostRuntime) -> Result<(), Fail> {
         alloc,
         4,
         draw(words, 0, 1, program, 1),
-        draw(words, 4, 5, program, 9),
+        draw(words, 4, 5, program, 3),
     )?;
     let second = two(
         alloc,
         2,
         draw(words, 1, 1, program, 2),
-        draw(words, 3, 5, program, 3),
+        draw(words, 3, 5, program, 9),
     )?;
     let third = two(
         alloc,

@@ -8,6 +8,7 @@ use crate::content::Content;
 use crate::view::{Claim, Give, Law, Learn, Part, Return, Stop, Take, TakeBack, View};
 use atomic_table::{Seat, Table};
 use crossbeam_utils::Backoff;
+use crossbeam_utils::sync::EventCount;
 use frame_record::{Frame, FrameLink, RenderedFrame};
 use std::alloc::{AllocError, Global};
 use std::sync::{Arc, Wait};
@@ -16,18 +17,26 @@ use std::thread::Threads;
 /// The table of the frames: as many words and slots as frames may be out; its key is that number.
 pub type FrameTable = Table<Option<Content>, View, u8, Law, Global>;
 
+/// What the two ends share: the table, and what wakes an end that sleeps. Each of the two has one waiter at most.
+#[derive(Drop)]
+pub struct Swap {
+    table: FrameTable,
+    given: EventCount,
+    returned: EventCount,
+}
+
 /// The end that gives frames and takes them back.
 #[derive(Drop)]
 pub struct ApiEnd {
-    table: Arc<FrameTable, Global>,
+    swap: Arc<Swap, Global>,
     seat: Seat<Option<Content>, View>,
     latency: u8,
     next: u8,
     oldest: u8,
-    ghost counts: { ((arc_value table).shared.table_id.words ≡ latency) × ((arc_value table).shared.table_id.slots ≡ latency) },
-    ghost keyed: { (arc_value table).shared.key ≡ latency },
+    ghost counts: { ((arc_value swap).table.shared.table_id.words ≡ latency) × ((arc_value swap).table.shared.table_id.slots ≡ latency) },
+    ghost keyed: { (arc_value swap).table.shared.key ≡ latency },
     ghost some_word: { 0 < latency },
-    ghost seated: { seat.table_id ≡ (arc_value table).shared.table_id },
+    ghost seated: { seat.table_id ≡ (arc_value swap).table.shared.table_id },
     ghost is_api: { seat.me.0.side ≡ api },
     ghost claimed: { seat.me.0.claimed ≡ latency },
     ghost next_is: { next ≡ length seat.me.0.given % latency },
@@ -39,14 +48,14 @@ pub struct ApiEnd {
 /// The end that takes frames and gives them back.
 #[derive(Drop)]
 pub struct RenderEnd {
-    table: Arc<FrameTable, Global>,
+    swap: Arc<Swap, Global>,
     seat: Seat<Option<Content>, View>,
     latency: u8,
     place: u8,
-    ghost counts: { ((arc_value table).shared.table_id.words ≡ latency) × ((arc_value table).shared.table_id.slots ≡ latency) },
-    ghost keyed: { (arc_value table).shared.key ≡ latency },
+    ghost counts: { ((arc_value swap).table.shared.table_id.words ≡ latency) × ((arc_value swap).table.shared.table_id.slots ≡ latency) },
+    ghost keyed: { (arc_value swap).table.shared.key ≡ latency },
     ghost some_word: { 0 < latency },
-    ghost seated: { seat.table_id ≡ (arc_value table).shared.table_id },
+    ghost seated: { seat.table_id ≡ (arc_value swap).table.shared.table_id },
     ghost is_render: { seat.me.0.side ≡ render },
     ghost place_is: { place ≡ length seat.me.0.returned % latency },
     ghost one_hand: { (length seat.me.0.returned ≤ length seat.me.0.taken) × (length seat.me.0.taken ≤ length seat.me.0.returned + 1) },
@@ -68,18 +77,23 @@ pub fn swap_pair(alloc: Global, latency: u8) -> Result<(ApiEnd, RenderEnd), Allo
     let (table, mut seat) = Table::vacant(alloc, words.as_slice(), latency as usize, &latency)?;
     claim_all(&table, &mut seat, latency);
     let other = table.shared.split_seat::<Part>(&mut seat);
-    let table = Arc::new(alloc, table)?;
-    let shared = Arc::try_clone(&table)?;
+    let swap = Swap {
+        table,
+        given: EventCount::new(),
+        returned: EventCount::new(),
+    };
+    let swap = Arc::new(alloc, swap)?;
+    let shared = Arc::try_clone(&swap)?;
     Ok((
         ApiEnd {
-            table,
+            swap,
             seat,
             latency,
             next: 0,
             oldest: 0,
         },
         RenderEnd {
-            table: shared,
+            swap: shared,
             seat: other,
             latency,
             place: 0,
@@ -110,7 +124,7 @@ impl ApiEnd {
         ensures none { IfNone result (self.new.seat.me.0 ≡ missed self.old.seat.me.0) }
         ensures same { (self.new.seat.table_id ≡ self.old.seat.table_id) × (self.new.latency ≡ self.old.latency) }
     {
-        let shared = &self.table.shared;
+        let shared = &self.swap.table.shared;
         let place = self.oldest as usize;
         if shared.compare_exchange::<TakeBack>(&mut self.seat, place, 3, 0) != 3 {
             return None;
@@ -124,6 +138,15 @@ impl ApiEnd {
         }
     }
 
+    // Sleeps until a frame is given back, unless the oldest that is out was. `Return` comes before its notification: where it comes
+    // before `peek`, `peek` finds it; where it comes later, the notification comes behind `prepare_wait`, and so ends the wait.
+    fn sleep<R: Wait>(&self, rt: &R) {
+        let key = self.swap.returned.prepare_wait();
+        if self.swap.table.shared.peek(self.oldest as usize) != 3 {
+            key.wait(rt);
+        }
+    }
+
     /// No frame is given any more. The word of the frame that would come next says so from then on; a `take` that finds it answers None.
     /// No frame is out.
     pub fn stop(&mut self)
@@ -131,9 +154,9 @@ impl ApiEnd {
         ensures view { self.new.seat.me.0 ≡ stopped self.old.seat.me.0 }
         ensures same { (self.new.seat.table_id ≡ self.old.seat.table_id) × (self.new.latency ≡ self.old.latency) }
     {
-        self.table
-            .shared
-            .store::<Stop>(&mut self.seat, self.next as usize, 4);
+        let shared = &self.swap.table.shared;
+        shared.store::<Stop>(&mut self.seat, self.next as usize, 4);
+        self.swap.given.notify_one();
     }
 
     /// Tells that the render end took just what this end gave, gave back just what came back here, outcomes included, and saw a stop only
@@ -147,14 +170,11 @@ impl ApiEnd {
         ensures all_back { frames_of self.seat.me.0.back ≡ self.seat.me.0.given }
         ensures stop { 1 ≤ end.seat.me.0.stops → self.seat.me.0.is_stopped ≡ true }
     {
-        let ApiEnd {
-            table,
-            mut seat,
-            ..
-        } = self;
+        let ApiEnd { swap, mut seat, .. } = self;
         let RenderEnd { seat: other, .. } = end;
-        table.shared.join_seat::<Part>(&mut seat, other);
-        table.shared.load::<Learn>(&mut seat, 0);
+        let shared = &swap.table.shared;
+        shared.join_seat::<Part>(&mut seat, other);
+        shared.load::<Learn>(&mut seat, 0);
     }
 }
 
@@ -177,13 +197,14 @@ impl FrameLink for ApiEnd {
         ensures view { self.new.seat.me.0 ≡ gave frame self.old.seat.me.0 }
         ensures same { (self.new.seat.table_id ≡ self.old.seat.table_id) × (self.new.latency ≡ self.old.latency) }
     {
-        let shared = &self.table.shared;
+        let shared = &self.swap.table.shared;
         let place = self.next as usize;
         match shared.exchange(&mut self.seat, place, Some(Content::Given(frame))) {
             None => {}
             Some(_) => unreachable!(),
         }
         shared.store::<Give>(&mut self.seat, place, 1);
+        self.swap.given.notify_one();
         self.next = (self.next + 1) % self.latency;
     }
 
@@ -207,7 +228,12 @@ impl FrameLink for ApiEnd {
             if let Some(rendered) = ApiEnd::try_take_back(self) {
                 return rendered;
             }
-            backoff.snooze();
+            if !backoff.is_completed() {
+                backoff.snooze();
+            } else {
+                self.sleep(rt);
+                backoff.reset();
+            }
         }
         unreachable!()
     }
@@ -222,7 +248,7 @@ impl RenderEnd {
         ensures none { IfErr result (λ _. self.new.seat.me.0 ≡ missed self.old.seat.me.0) }
         ensures same { self.new.seat.table_id ≡ self.old.seat.table_id }
     {
-        let shared = &self.table.shared;
+        let shared = &self.swap.table.shared;
         let place = self.place as usize;
         let found = shared.compare_exchange::<Take>(&mut self.seat, place, 1, 2);
         if found == 1 {
@@ -250,9 +276,24 @@ impl RenderEnd {
             if let Ok(taken) = self.try_take() {
                 return taken;
             }
-            backoff.snooze();
+            if !backoff.is_completed() {
+                backoff.snooze();
+            } else {
+                self.sleep(rt);
+                backoff.reset();
+            }
         }
         unreachable!()
+    }
+
+    // Sleeps until a frame is given or the stop, unless the next word says one of them. Each step comes before its notification: where
+    // it comes before `peek`, `peek` finds it; where it comes later, the notification comes behind `prepare_wait`, and so ends the wait.
+    fn sleep<R: Wait>(&self, rt: &R) {
+        let key = self.swap.given.prepare_wait();
+        let word = self.swap.table.shared.peek(self.place as usize);
+        if word != 1 && word != 4 {
+            key.wait(rt);
+        }
     }
 
     /// Gives the frame back that was taken last, unchanged, with the outcome of its render.
@@ -261,13 +302,14 @@ impl RenderEnd {
         ensures view { self.new.seat.me.0 ≡ gave_back back self.old.seat.me.0 }
         ensures same { self.new.seat.table_id ≡ self.old.seat.table_id }
     {
-        let shared = &self.table.shared;
+        let shared = &self.swap.table.shared;
         let place = self.place as usize;
         match shared.exchange(&mut self.seat, place, Some(Content::Back(back))) {
             None => {}
             Some(_) => unreachable!(),
         }
         shared.store::<Return>(&mut self.seat, place, 3);
+        self.swap.returned.notify_one();
         self.place = (self.place + 1) % self.latency;
     }
 }

@@ -9,8 +9,8 @@ use frame_record::{Frame, FrameLink, Outcome, RenderedFrame};
 use std::snapshot::Snapshot;
 use std::sync::Wait;
 use std::test::Fail;
-use std::thread;
 use std::thread::{Promise, Threads};
+use std::{hint, thread};
 use view_table::ViewTable;
 
 // What came back: the frame's number, its payload's first byte, and the outcome of its render.
@@ -43,15 +43,25 @@ fn frame(rt: &HostRuntime, number: u8) -> Result<Frame, Fail> {
     ))
 }
 
-// Gives each frame back until the stop, the one of number 3 as shown, and the others as skipped.
+// Lets some time pass, in which another thread may try, yield, come near to its sleep, or sleep.
+fn pause(turns: u32) {
+    for _ in 0..turns {
+        hint::spin_loop();
+    }
+}
+
+// Gives each frame back until the stop, the one of number 3 as shown, and the others as skipped, each later than the one before.
 fn serve<R: Wait>(rt: &R, mut end: RenderEnd) -> RenderEnd
     requires { ((render_knows end).taken ≡ []) × ((render_knows end).returned ≡ []) }
     ensures { (render_table result ≡ render_table end) × ((render_knows result).taken ≡ frames_of (render_knows result).returned) }
 {
+    let mut turns = 0u32;
     for _ in rt.forever() {
         let Some(frame) = end.take(rt) else {
             break;
         };
+        pause(turns);
+        turns = turns.wrapping_add(1);
         let outcome = if frame.number == 3 {
             Outcome::Shown
         } else {
@@ -197,5 +207,71 @@ fn two_frames_out_of_three(rt: HostRuntime) -> Result<(), Fail> {
     assert!(rt; seen(&fifth) == (7, Some(7), Outcome::Skipped));
     api.stop();
     assert!(rt; end.take(&rt).is_none());
+    Ok(())
+}
+
+// With no frame out, gives one frame a thousand times, each time later than before, and answers how often it came back as shown.
+fn late_turns<R: Threads + Wait + Sync>(rt: &R, api: &mut ApiEnd, first: Frame) -> u32
+    requires out { length (api_knows api.old).given ≡ length (api_knows api.old).back }
+    requires latency { 1 ≤ api.old.latency }
+    ensures table { (api_table api.new ≡ api_table api.old) × (api.new.latency ≡ api.old.latency) }
+    ensures out { length (api_knows api.new).given ≡ length (api_knows api.new).back }
+{
+    let mut frame = first;
+    let mut shown = 0u32;
+    for turn in 0..1000u32 {
+        pause(turn);
+        api.give(rt, frame);
+        let back = api.take_back(rt);
+        if back.outcome == Outcome::Shown {
+            shown = shown.wrapping_add(1);
+        }
+        frame = back.frame;
+    }
+    shown
+}
+
+// The same by way of a render thread, which waits for each frame and for the stop.
+fn late_by_a_thread<R: Threads + Wait + Sync>(
+    rt: &R,
+    mut api: ApiEnd,
+    end: RenderEnd,
+    first: Frame,
+) -> Option<u32>
+    requires api { ((api_knows api).given ≡ []) × ((api_knows api).back ≡ []) × (1 ≤ api.latency) × (render_table end ≡ api_table api) }
+    requires end { ((render_knows end).taken ≡ []) × ((render_knows end).returned ≡ []) }
+{
+    thread::scope(
+        thread::scope_env(),
+        rt,
+        |scope|
+            requires api { ((api_knows api).given ≡ []) × ((api_knows api).back ≡ []) × (1 ≤ api.latency) × (render_table end ≡ api_table api) }
+            requires end { ((render_knows end).taken ≡ []) × ((render_knows end).returned ≡ []) }
+        {
+            let promise = Served(Snapshot::of(&end));
+            let job = move || -> RenderEnd
+                requires { ((render_knows end).taken ≡ []) × ((render_knows end).returned ≡ []) }
+                ensures { (render_table result ≡ render_table end) × ((render_knows result).taken ≡ frames_of (render_knows result).returned) }
+            { serve(rt, end) };
+            match scope.spawn_with(promise, job) {
+                Ok(handle) => {
+                    let shown = late_turns(rt, &mut api, first);
+                    pause(1000);
+                    api.stop();
+                    let end = handle.join(rt);
+                    api.close(end);
+                    Some(shown)
+                }
+                Err(_) => None,
+            }
+        },
+    )
+}
+
+#[test]
+fn who_waits_for_a_frame_wakes(rt: HostRuntime) -> Result<(), Fail> {
+    let (api, end) = swap_pair(rt.alloc(), 2)?;
+    let shown = late_by_a_thread(&rt, api, end, frame(&rt, 3)?).ok_or("no thread")?;
+    assert_eq!(rt; shown, 1000);
     Ok(())
 }

@@ -6,8 +6,8 @@ use Rattle.frame_record.specs.declared.frame.RenderedFrame.{RenderedFrame}
 use Rattle.frame_record.specs.Links.{frames_of, out_of}
 use Rattle.std.proofs.lemmas.List.{drop_all}
 use Rattle.gfx_context.specs.declared.report.BackNote.{BackNote}
-use Rattle.gfx_context.specs.Gathered.{with_gathered}
-use Rattle.gfx_context.specs.Kept.{IsContext}
+use Rattle.context_core.specs.Gathered.{with_gathered}
+use Rattle.gfx_context.specs.Kept.{AreOut}
 use Rattle.gfx_context.specs.States.{ContextView}
 use Rattle.gfx_context.specs.Ended.{Collects, notes_of, TakesNext, Closes}
 
@@ -69,13 +69,13 @@ module _ {L : Type 0} where
     notes_are = (λ j. Some (s.0.note j) ∷ Some (t.0.note j) ∷ Some (u.0.note j) ∷ []);
   }
 
-  all_back : (admits : ℕ → ℕ → List Item → ℕ → Type 0) (views : ℕ) (v : ContextView L) → IsContext admits views v → v.out ≡ 0 → v.given ≡ frames_of v.back
+  all_back : (admits : ℕ → ℕ → List Item → ℕ → Type 0) (views : ℕ) (v : ContextView L) → AreOut admits views v.seat.places v.seat.frame v.out v.given v.back → v.out ≡ 0 → v.given ≡ frames_of v.back
   all_back admits views v k z =
-      let outs : out_of v.given v.back ≡ [] = drop_all (length v.back) v.given (let m = k.frames.counted in omega (arith, m, z)) in
-      k.frames.prefix ∙ ap (λ l. frames_of v.back ++ l) outs ∙ append-nil (frames_of v.back)
+      let outs : out_of v.given v.back ≡ [] = drop_all (length v.back) v.given (let m = k.counted in omega (arith, m, z)) in
+      k.prefix ∙ ap (λ l. frames_of v.back ++ l) outs ∙ append-nil (frames_of v.back)
 
   module _ (admits : ℕ → ℕ → List Item → ℕ → Type 0) (views : ℕ) (old a b c d v : ContextView L) (m n o : Option BackNote) (collects : Collects admits views old a) (most : a.out ≤ 3) (s : TakesNext m a b) (t : TakesNext n b c) (u : TakesNext o c d)
-      (k : IsContext admits views v) (is : v ≡ d) where
+      (k : AreOut admits views v.seat.places v.seat.frame v.out v.given v.back) (is : v ≡ d) where
     come : HaveCome a d (m ∷ n ∷ o ∷ [])
     come = three m n o a b c d most s t u
 

@@ -1,20 +1,23 @@
 -- The end of a frame, from its parts.
-use Rattle.std.proofs.Common.{◌≡◌, ℕ, suc, ◌+◌, ◌-◌, ◌<◌, ◌==◌, nat_le, Bool, true, false, ◌||◌, List, [], map, Option, Some, None, MatchOption, if◌then◌else◌, refl, sym, ap, ◌∙◌, subst, arith, eq-eqb, ne_eqb}
-use Rattle.std.proofs.lemmas.Bool.{false_from_ne_true, leb-true}
+use Rattle.std.proofs.Common.{◌≡◌, ℕ, suc, ◌+◌, ◌-◌, ◌==◌, nat_le, Bool, true, false, ◌||◌, List, [], ◌∷◌, ◌++◌, map, Option, Some, None, MatchOption, if◌then◌else◌, refl, sym, ap, ◌∙◌, subst, arith, eq-eqb, ne_eqb}
+use Rattle.std.proofs.lemmas.Option.{none-some}
 use Rattle.gfx_model.specs.Frames.{collected}
 use Rattle.gfx_model.specs.Resources as model
 use Rattle.gfx_model.specs.FrameCalls.{greatest_frame, end_frame, frame_refusal, backs_at_end, is_given, given, ended}
-use Rattle.resource_book.specs.Written.{BookView}
 use Rattle.resource_book.specs.Works.{with_nothing_written}
 use Rattle.frame_record.specs.declared.frame.RenderedFrame.{RenderedFrame}
 use Rattle.frame_record.specs.Seen.{entry_seen, recordings_seen}
-use Rattle.resource_book.specs.Desks.{payloads_seen}
 use Rattle.gfx_context.specs.declared.report.BackNote.{BackNote}
 use Rattle.gfx_context.specs.declared.report.FrameReport.{FrameReport}
-use Rattle.gfx_context.specs.declared.ending.Prepared.{Prepared}
-use Rattle.gfx_context.specs.Gathered.{dropped_in}
-use Rattle.gfx_context.specs.States.{ContextView, state_of}
-use Rattle.gfx_context.specs.Ended.{is_shown, MakesWay, IsPrepared, GivesWork, FinishesWhere, GivesWhere, Ends, started}
+use Rattle.context_core.specs.declared.ending.Prepared.{Prepared}
+use Rattle.context_core.specs.Ended.{IsPrepared, started}
+use Rattle.context_core.specs.Ended as cores
+use Rattle.context_core.specs.States.{CoreView}
+use Rattle.frame_record.specs.declared.frame.Frame.{Frame}
+use Rattle.resource_book.specs.declared.frames.Work.{Work}
+use Rattle.context_core.specs.Gathered.{dropped_in}
+use Rattle.gfx_context.specs.States.{ContextView, context_of, state_of}
+use Rattle.gfx_context.specs.Ended.{is_shown, MakesWay, FinishesWhere, with_written, GivesWhere, Ends}
 
 -- what is known of the report before a frame is given or not
 pub record IsReport {L : Type 0} (report : FrameReport) (old : ContextView L) : Type 0 where
@@ -51,37 +54,39 @@ module _ {L : Type 0} (old : ContextView L) (out : ℕ) (back : List RenderedFra
   accepts f = ap (λ (b : Bool). if b then Some model.frames_spent else None) f
 
   module _ (report : FrameReport) (r : IsReport report old) (spent : nat_le greatest_frame old.book.resources.frame ≡ false) (way : MakesWay report.back old back) (less : IsLess report.back out old.out) where
-    pub ends_given : (p : Prepared) (new : ContextView L) → IsPrepared old.book old.gathered p → report.given ≡ true → GivesWork p.work (made_way old out back link) new → Ends report old new
+    pub ends_given : (p : Prepared) (new : ContextView L) → IsPrepared old.book old.gathered p → report.given ≡ true → FinishesWhere true p.work (made_way old out back link) new → Ends report old new
     ends_given p new prep told w =
         let shown : is_shown report.back ≡ true = sym r.given ∙ told in
         let is = given_where report.back way true shown in
         let b = backs report.back way less in
-        let count : out + 1 ≡ old.out + 1 - backs_at_end (state_of old) = omega arith in
-        let same = w.same in
+        let more = w.1 in
+        let count : new.out ≡ old.out + 1 - backs_at_end (state_of old) = omega arith in
+        let g = w.0 in
+        let f = g.is_of in
         record {
           accepted = accepts spent;
           number = r.number;
           journal = r.journal;
           dropped = r.dropped;
-          back = subst (MakesWay report.back old) (sym (ap (λ (c : ContextView L). c.back) same)) way;
+          back = subst (MakesWay report.back old) (sym w.2) way;
           given = told ∙ sym is;
-          state = ap state_of same ∙ (λ j. record (given (state_of old)) { out = count j }) ∙ ap (λ (b : Bool). if b then given (state_of old) else ended (state_of old)) (sym is);
+          state = ap state_of g.same ∙ (λ j. record (given (state_of old)) { out = count j }) ∙ ap (λ (b : Bool). if b then given (state_of old) else ended (state_of old)) (sym is);
           gives = subst (λ (b : Bool). GivesWhere b old new) (sym told) (record {
-            frame = w.frame;
-            given = w.given;
+            frame = g.frame;
+            given = g.given;
             is_of = record {
-              number = w.number;
-              views = w.views ∙ prep.work.views;
-              pre = w.pre ∙ prep.work.pre;
-              post = w.post ∙ prep.work.post;
-              payloads = ap (λ x. payloads_seen x.items) w.payloads ∙ prep.work.payloads;
-              recordings = w.recordings;
-              journal = w.journal;
-              numbers = w.numbers;
-              counted = w.counted;
+              number = f.number;
+              views = f.views;
+              pre = f.pre ∙ prep.work.pre;
+              post = f.post ∙ prep.work.post;
+              payloads = f.payloads ∙ prep.work.payloads;
+              recordings = f.recordings;
+              journal = f.journal;
+              numbers = f.numbers;
+              counted = f.counted;
             };
-            seat = w.seat;
-            same = same ∙ (λ j. record old { book = started old.book; seat = new.seat; begun = 0; gathered = []; out = sym (ap (λ (c : ContextView L). c.out) same) j; given = new.given; back = sym (ap (λ (c : ContextView L). c.back) same) j; link = new.link });
+            seat = g.seat;
+            same = g.same;
           });
         }
 
@@ -103,21 +108,62 @@ module _ {L : Type 0} (old : ContextView L) (out : ℕ) (back : List RenderedFra
         }
 
 -- the parts of the end of a frame: the work is taken, way is made, and the frame is given or not
-module _ {L : Type 0} (v : ContextView L) (b : BookView) (two three : ContextView L) (p : Prepared) (report : FrameReport) (r : IsReport report v) (spent : nat_le greatest_frame v.book.resources.frame ≡ false)
-    (book : b ≡ with_nothing_written v.book) (prep : IsPrepared v.book v.gathered p) (way : MakesWay report.back (record v { book = b }) two.back) (less : IsLess report.back two.out v.out)
-    (same : two ≡ record v { book = b; out = two.out; back = two.back; link = two.link }) where
+module _ {L : Type 0} (v one two three : ContextView L) (p : Prepared) (report : FrameReport) (r : IsReport report v) (spent : nat_le greatest_frame v.book.resources.frame ≡ false)
+    (after : one ≡ record v { book = with_nothing_written v.book }) (prep : IsPrepared v.book v.gathered p) (way : MakesWay report.back one two.back) (less : IsLess report.back two.out one.out)
+    (same : two ≡ record one { out = two.out; back = two.back; link = two.link }) where
   two_is : two ≡ made_way v two.out two.back two.link
-  two_is = same ∙ (λ j. record v { book = book j; out = two.out; back = two.back; link = two.link })
+  two_is = same ∙ (λ j. record (after j) { out = two.out; back = two.back; link = two.link })
 
   way_is : MakesWay report.back v two.back
-  way_is = subst (λ (x : BookView). MakesWay report.back (record v { book = x }) two.back) book way
+  way_is = subst (λ (x : ContextView L). MakesWay report.back x two.back) after way
+
+  less_is : IsLess report.back two.out v.out
+  less_is = subst (λ (x : ContextView L). IsLess report.back two.out x.out) after less
 
   ends_by : (given : Bool) → report.given ≡ given → FinishesWhere given p.work two three → Ends report v three
-  ends_by true e f = ends_given v two.out two.back two.link report r spent way_is less p three prep e (subst (λ (t : ContextView L). GivesWork p.work t three) two_is f)
-  ends_by false e f = subst (Ends report v) (sym (f ∙ ap (λ (t : ContextView L). record t { is_ended = true }) two_is)) (ends_not_given v two.out two.back two.link report r spent way_is less e)
+  ends_by true e f = ends_given v two.out two.back two.link report r spent way_is less_is p three prep e (subst (λ (t : ContextView L). FinishesWhere true p.work t three) two_is f)
+  ends_by false e f = subst (Ends report v) (sym (f ∙ ap (λ (t : ContextView L). record t { is_ended = true }) two_is)) (ends_not_given v two.out two.back two.link report r spent way_is less_is e)
 
   pub ends_told : FinishesWhere report.given p.work two three → (old : ContextView L) → v ≡ old → Ends report old three
   ends_told f old e = subst (λ (o : ContextView L). Ends report o three) e (ends_by report.given refl f)
 
-pub not_spent : (number frame : ℕ) → number ≡ frame → number < 1073741823 → nat_le greatest_frame frame ≡ false
-not_spent number frame e lt = false_from_ne_true (nat_le greatest_frame frame) (λ t. absurd (let le = leb-true greatest_frame frame t in omega (arith, le, lt, e)))
+refused_by : (b : Bool) → (if b then Some model.frames_spent else None) ≡ None → b ≡ false
+refused_by true e = absurd (none-some model.frames_spent (sym e))
+refused_by false e = refl
+
+-- an end that is not refused
+pub not_spent : {L : Type 0} (v : ContextView L) → frame_refusal (state_of v) end_frame ≡ None → nat_le greatest_frame v.book.resources.frame ≡ false
+not_spent v e = refused_by (nat_le greatest_frame v.book.resources.frame) e
+
+-- ---- whether the core made a frame
+
+pub made_none : (given : Bool) (work : Work) (o : Option Frame) (a b : CoreView) → o ≡ None → cores.Finishes given work o a b → (given ≡ false) × (b ≡ cores.ended_core a)
+made_none given work o a b is f = subst (λ (x : Option Frame). cores.Finishes given work x a b) is f
+
+pub made_some : (given : Bool) (work : Work) (o : Option Frame) (frame : Frame) (a b : CoreView) → o ≡ Some frame → cores.Finishes given work o a b → (given ≡ true) × cores.Gives work frame a b
+made_some given work o frame a b is f = subst (λ (x : Option Frame). cores.Finishes given work x a b) is f
+
+module _ {L : Type 0} (given : Bool) (work : Work) (a b : CoreView) (old : ContextView L) where
+  -- the context is ended
+  pub finishes_none : (gone : List Frame) (back : List RenderedFrame) (link : L) → (given ≡ false) × (b ≡ cores.ended_core a) → context_of a.state gone back link ≡ old → FinishesWhere given work old (context_of b.state gone back link)
+  finishes_none gone back link f e = subst (λ (x : Bool). FinishesWhere x work old (context_of b.state gone back link)) (sym f.0)
+      (ap (λ (c : CoreView). context_of c.state gone back link) f.1 ∙ ap (λ (o : ContextView L). record o { is_ended = true }) e)
+
+  -- the frame that the core made is given
+  pub finishes_some : (frame : Frame) (gone now : List Frame) (back new : List RenderedFrame) (link later : L) → (given ≡ true) × cores.Gives work frame a b → now ≡ gone ++ frame ∷ [] → new ≡ back → context_of a.state gone back link ≡ old
+      → FinishesWhere given work old (context_of b.state now new later)
+  finishes_some frame gone now back new link later f is same e = subst (λ (x : Bool). FinishesWhere x work old (context_of b.state now new later)) (sym f.0)
+      (subst (λ (o : ContextView L). FinishesWhere true work o (context_of b.state now new later)) e (
+        record {
+          frame = frame;
+          given = is;
+          is_of = f.1.is_of;
+          seat = f.1.seat;
+          same = ap (λ (c : CoreView). context_of c.state now new later) f.1.same ∙ out;
+        },
+        ap (λ (c : CoreView). c.state.out) f.1.same,
+        same,
+      )) where
+        out : context_of (record a.state { book = started a.state.book; seat = b.state.seat; begun = 0; gathered = []; out = a.state.out + 1 }) now new later
+            ≡ record (with_written work (context_of a.state gone back link)) { book = started a.state.book; seat = b.state.seat; begun = 0; gathered = []; out = b.state.out; given = now; back = new; link = later }
+        out = λ j. context_of (record a.state { book = started a.state.book; seat = b.state.seat; begun = 0; gathered = []; out = sym (ap (λ (c : CoreView). c.state.out) f.1.same) j }) now new later

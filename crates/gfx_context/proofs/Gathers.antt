@@ -1,90 +1,26 @@
--- A bundle more is gathered.
-use Rattle.std.proofs.Common.{◌≡◌, ℕ, ◌+◌, ◌<◌, ◌≤◌, List, [], ◌∷◌, ◌++◌, length, refl, ap, ◌∙◌, sym, arith, subst, length-append, append-nil, slice_index_or, take}
-use Rattle.std.proofs.lemmas.List.Concat.{flat_map-append}
-use Rattle.std.proofs.lemmas.List.{take_more}
-use Rattle.std.proofs.lemmas.List.Sums.{sum_by-append, sum_by-cons}
-use Rattle.schedule_model.proofs.Lists.{all-map, all-snoc}
-use Rattle.gfx_model.specs.Words.{Handle}
+-- The bundles of a frame are collected.
+use Rattle.std.proofs.Common.{◌≡◌, ℕ, List, [], ◌∷◌, ◌++◌, length, refl, ap, ◌∙◌, sym, arith, subst, append_assoc}
+use Rattle.schedule_model.proofs.Lists.{all-snoc}
 use Rattle.gfx_model.specs.World.{Item}
 use Rattle.schedule_model.specs.Held.{count_of}
-use Rattle.hold_table.specs.Views.{SeatView, without, more, joined_with, HasNamed}
-use Rattle.hold_table.proofs.Keeps.{count_without, length_without}
-use Rattle.hold_table.specs.declared.table.EncSeat.{EncSeat}
-use Rattle.hold_table.specs.Seats.{enc_view}
+use Rattle.hold_table.specs.Views.{SeatView, joined_with}
 use Rattle.draw_encoder.specs.declared.items.Recording.{Recording}
-use Rattle.draw_encoder.specs.Seen.{numbers_of, uniforms_seen}
-use Rattle.draw_encoder.specs.Names.{FitsItem}
-use Rattle.draw_encoder.specs.Bundles.{items_of, BelongTogether}
-use Rattle.draw_encoder.proofs.NameLaws.{item_fits, uniforms_fit}
-use Rattle.frame_record.specs.Kept.{numbers_in}
-use Rattle.gfx_context.specs.Places.{IsUsable}
-use Rattle.gfx_context.specs.States.{ContextView}
+use Rattle.draw_encoder.specs.Bundles.{items_of}
+use Rattle.frame_record.specs.declared.frame.Frame.{Frame}
+use Rattle.frame_record.specs.declared.frame.RenderedFrame.{RenderedFrame}
+use Rattle.context_core.specs.Gathered.{AreCollected, AreGathered, AreOfFrame, with_gathered}
+use Rattle.context_core.specs.Ended as cores
+use Rattle.context_core.specs.States.{CoreView}
 use Rattle.gfx_context.specs.Ended.{Collects}
-use Rattle.gfx_context.specs.Gathered.{encoders_in, IsCollected, AreCollected, AreGathered, AreOfFrame, with_gathered, dropped_in}
-
-pub numbers_snoc : (rs : List Recording) (r : Recording) → numbers_in (rs ++ r ∷ []) ≡ numbers_in rs ++ numbers_of r.items
-numbers_snoc rs r = flat_map-append (λ x. numbers_of x.items) rs (r ∷ []) ∙ ap (λ l. numbers_in rs ++ l) (append-nil (numbers_of r.items))
-
-pub encoders_snoc : (e : ℕ) (rs : List Recording) (r : Recording) → count_of e (encoders_in (rs ++ r ∷ [])) ≡ count_of e (encoders_in rs) + count_of e (r.encoder ∷ [])
-encoders_snoc e [] r = omega arith
-encoders_snoc e (x ∷ xs) r = let h = encoders_snoc e xs r in omega arith
-
--- ---- the bundle that was joined
-
-pub collected_now : (admits : ℕ → ℕ → List Item → ℕ → Type 0) (views : ℕ) (v : SeatView) (r : Recording) (seat : EncSeat) → BelongTogether views r seat → (enc_view seat).frame ≡ v.frame
-    → ((h : Handle) → HasNamed (enc_view seat) h → IsUsable v.frame v.places h) → admits r.encoder r.frame (items_of r) r.dropped → IsCollected admits views v.frame v.places r
-collected_now admits views v r seat b e there a =
-    let frame : r.frame ≡ v.frame = b.frame ∙ e in
-    record {
-      admitted = subst (λ f. admits r.encoder f (items_of r) r.dropped) frame a;
-      frame_is = frame;
-      few = b.few;
-      ascends = b.ascends;
-      within = b.within;
-      items = all-map (FitsItem (HasNamed (enc_view seat)) views) (FitsItem (IsUsable v.frame v.places) views) (item_fits (HasNamed (enc_view seat)) (IsUsable v.frame v.places) there views) (items_of r) b.items;
-      uniforms = uniforms_fit (HasNamed (enc_view seat)) (IsUsable v.frame v.places) there (uniforms_seen r.uniforms) b.uniforms;
-    }
-
-more_most : (ns : List ℕ) (n : ℕ) → more ns n ≤ n + 1
-more_most [] n = omega arith
-more_most (x ∷ xs) n = omega arith
-
-module _ (admits : ℕ → ℕ → List Item → ℕ → Type 0) (views : ℕ) (v new : SeatView) (r : Recording) (seat : EncSeat) (is : new ≡ joined_with v (enc_view seat)) (b : BelongTogether views r seat) (frame : (enc_view seat).frame ≡ v.frame)
-    (off : count_of (enc_view seat).encoder v.off ≡ 1) (named : (h : Handle) → HasNamed (enc_view seat) h → IsUsable v.frame v.places h) (admitted : admits r.encoder r.frame (items_of r) r.dropped)
-    (apart : (n : ℕ) → count_of n new.numbers ≤ 1) (most : length new.numbers ≤ 65528) where
-  pub gathered_more : (begun : ℕ) (rs : List Recording) → AreGathered admits views v begun rs → AreGathered admits views new begun (rs ++ r ∷ [])
-  gathered_more begun rs g =
-      let w = enc_view seat in
-      let off_now : new.off ≡ without w.encoder v.off = ap (λ (x : SeatView). x.off) is in
-      let shorter = length_without w.encoder v.off (omega arith) in
-      record {
-        count = (let a = ap length off_now in let c = g.count in let d = length-append rs (r ∷ []) in omega arith);
-        once = (λ e.
-            let a = encoders_snoc e rs r in
-            let c = count_without e w.encoder v.off (omega arith) in
-            let d = ap (count_of e) off_now in
-            let f = ap (λ (x : ℕ). count_of e (x ∷ [])) b.encoder in
-            let h = g.once e in omega arith);
-        joined = (let a = ap (λ (x : SeatView). x.joined) is in let c = more_most w.numbers v.joined in let d = g.joined in let f = length-append rs (r ∷ []) in omega arith);
-        numbers = ap (λ (x : SeatView). x.numbers) is ∙ (λ j. g.numbers j ++ sym b.numbers j) ∙ sym (numbers_snoc rs r);
-        apart = apart;
-        most = most;
-        collected = subst (λ (x : SeatView). AreCollected admits views x.frame x.places (rs ++ r ∷ [])) (sym is)
-            (all-snoc (IsCollected admits views v.frame v.places) rs r g.collected (collected_now admits views v r seat b frame named admitted));
-      }
-
--- nothing more was gathered
-pub none_more : (rs : List Recording) → (more : List Recording) × (rs ≡ rs ++ more)
-none_more rs = ([], sym (append-nil rs))
-
--- ---- none is off
+use Rattle.gfx_context.specs.Kept.{AreAdmitted}
+use Rattle.gfx_context.specs.States.{ContextView, context_of}
 
 length_none : {A : Type 0} (xs : List A) → length xs ≡ 0 → xs ≡ []
 length_none [] e = refl
 length_none (x ∷ xs) e = absurd (omega (arith, e))
 
-pub none_off_when : (admits : ℕ → ℕ → List Item → ℕ → Type 0) (views : ℕ) (seat : SeatView) (begun : ℕ) (rs : List Recording) → AreGathered admits views seat begun rs → begun ≤ length rs → seat.off ≡ []
-none_off_when admits views seat begun rs g le = length_none seat.off (let c = g.count in omega arith)
+pub none_off_when : (seat : SeatView) → length seat.off ≡ 0 → seat.off ≡ []
+none_off_when seat e = length_none seat.off e
 
 pub of_frame : (admits : ℕ → ℕ → List Item → ℕ → Type 0) (views : ℕ) (seat old : SeatView) (begun : ℕ) (rs : List Recording) → AreGathered admits views seat begun rs → seat.off ≡ [] → seat ≡ with_gathered seat old
     → AreOfFrame admits views old.frame old.places begun rs
@@ -93,28 +29,39 @@ of_frame admits views seat old begun rs g none same = record {
   collected = subst (λ (x : SeatView). AreCollected admits views x.frame x.places rs) same g.collected;
 }
 
-module _ {L : Type 0} (admits : ℕ → ℕ → List Item → ℕ → Type 0) (views : ℕ) (v : ContextView L) (s : SeatView) (rs : List Recording) where
+-- one more is admitted
+pub one_more : (admits : ℕ → ℕ → List Item → ℕ → Type 0) (r : Recording) (seat : SeatView) (old new : CoreView) → cores.Gathers r seat old new → AreAdmitted admits old.state.gathered → admits r.encoder r.frame (items_of r) r.dropped
+    → AreAdmitted admits new.state.gathered
+one_more admits r seat old new g a is = subst (λ (rs : List Recording). AreAdmitted admits rs) (sym (ap (λ (c : CoreView). c.state.gathered) g.after)) (all-snoc (λ r. admits r.encoder r.frame (items_of r) r.dropped) old.state.gathered r a is)
+
+-- what was gathered so far, from a first state
+abbrev pub with_seat : CoreView → CoreView → CoreView
+with_seat first c = record first { state = record first.state { seat = c.state.seat; gathered = c.state.gathered } }
+
+module _ (r : Recording) (seat : SeatView) (first old new : CoreView) (g : cores.Gathers r seat old new) where
+  pub seat_still : old.state.seat ≡ with_gathered old.state.seat first.state.seat → new.state.seat ≡ with_gathered new.state.seat first.state.seat
+  seat_still e =
+      let is : new.state.seat ≡ joined_with old.state.seat seat = ap (λ (c : CoreView). c.state.seat) g.after in
+      is ∙ (λ j. joined_with (e j) seat) ∙ (λ j. with_gathered (sym is j) first.state.seat)
+
+  pub same_still : old ≡ with_seat first old → new ≡ with_seat first new
+  same_still e =
+      let seats : joined_with old.state.seat seat ≡ new.state.seat = sym (ap (λ (c : CoreView). c.state.seat) g.after) in
+      let lists : old.state.gathered ++ r ∷ [] ≡ new.state.gathered = sym (ap (λ (c : CoreView). c.state.gathered) g.after) in
+      g.after ∙ (λ j. record (e j) { state = record (e j).state { seat = seats j; gathered = lists j } })
+
+  pub more_kept : (more : List Recording) × (old.state.gathered ≡ first.state.gathered ++ more) → (more : List Recording) × (new.state.gathered ≡ first.state.gathered ++ more)
+  more_kept m = (m.0 ++ r ∷ [], ap (λ (c : CoreView). c.state.gathered) g.after ∙ ap (λ rs. rs ++ r ∷ []) m.1 ∙ append_assoc first.state.gathered m.0 (r ∷ []))
+
+module _ {L : Type 0} (admits : ℕ → ℕ → List Item → ℕ → Type 0) (views : ℕ) (given : List Frame) (back : List RenderedFrame) (link : L) (a b : CoreView) where
   -- the bundles of a frame are collected, and what was collected stays
-  pub collects_told : AreGathered admits views s v.begun rs → s.off ≡ [] → (more : List Recording) × (rs ≡ v.gathered ++ more) → s ≡ with_gathered s v.seat → (old : ContextView L) → v ≡ old
-      → Collects admits views old (record v { seat = s; gathered = rs })
-  collects_told g none kept same old e = subst (λ (o : ContextView L). Collects admits views o (record v { seat = s; gathered = rs })) e (record {
+  pub collects_told : b.state.seat.off ≡ [] → (more : List Recording) × (b.state.gathered ≡ a.state.gathered ++ more) → b.state.seat ≡ with_gathered b.state.seat a.state.seat → b ≡ with_seat a b
+      → AreOfFrame admits views a.state.seat.frame a.state.seat.places a.state.begun b.state.gathered → (old : ContextView L) → context_of a.state given back link ≡ old → Collects admits views old (context_of b.state given back link)
+  collects_told none kept seat same of old e = subst (λ (o : ContextView L). Collects admits views o (context_of b.state given back link)) e (record {
     none_off = none;
     more = kept.0;
     kept = kept.1;
-    recordings = of_frame admits views s v.seat v.begun rs g none same;
-    seat = same;
-    same = refl;
+    recordings = of;
+    seat = seat;
+    same = ap (λ (c : CoreView). context_of c.state given back link) same;
   })
-
--- a join leaves all else as it was
-pub same_still : (v new old : SeatView) (seat : EncSeat) → new ≡ joined_with v (enc_view seat) → v ≡ with_gathered v old → new ≡ with_gathered new old
-same_still v new old seat is e = is ∙ (λ j. joined_with (e j) (enc_view seat)) ∙ (λ j. with_gathered (sym is j) old)
-
--- ---- the numbers that encoders ended with
-
-pub dropped_more : (rs : List Recording) (i : ℕ) (r : Recording) → i < length rs → r ≡ slice_index_or rs i r → dropped_in (take (i + 1) rs) ≡ dropped_in (take i rs) + r.dropped
-dropped_more rs i r lt e =
-    let last = sum_by-cons (λ x. x.dropped) r [] in
-    ap dropped_in (take_more rs i r lt ∙ (λ j. take i rs ++ sym e j ∷ []))
-    ∙ sum_by-append (λ x. x.dropped) (take i rs) (r ∷ [])
-    ∙ ap (λ n. dropped_in (take i rs) + n) (omega (arith, last))

@@ -8,9 +8,10 @@ use Rattle.schedule_model.specs.Machine.{Place}
 use Rattle.frame_record.specs.declared.frame.Frame.{Frame}
 use Rattle.frame_record.specs.declared.frame.RenderedFrame.{RenderedFrame}
 use Rattle.frame_record.specs.Links.{frames_of, out_of, CameBack}
-use Rattle.gfx_context.specs.Gathered.{AreCollected}
-use Rattle.gfx_context.specs.Kept.{KeepsNames, AreOut, AreTargets}
-use Rattle.gfx_context.proofs.Stays.{rest_of}
+use Rattle.context_core.specs.Gathered.{AreCollected}
+use Rattle.context_core.specs.Kept.{AreTargets}
+use Rattle.gfx_context.specs.Kept.{KeepsNames, AreOut}
+use Rattle.gfx_context.proofs.OutStays.{rest_of}
 
 range_snoc : (a n : ℕ) → range_with_len a (suc n) ≡ range_with_len a n ++ (a + n) ∷ []
 range_snoc a zero = (let e : a ≡ a + 0 = omega arith in ap (λ (x : ℕ). x ∷ []) e)

@@ -2,28 +2,25 @@
 use Rattle.std.specs.Prelude.{ℕ, ◌≡◌, ◌<◌, ◌+◌, Bool, true, false, List, [], ◌∷◌, ◌++◌, map, length, Option, Some, None, Result, MatchResult, MatchOption}
 use Rattle.gfx_model.specs.World.{Item}
 use Rattle.gfx_model.specs.Frames.{collected}
-use Rattle.gfx_model.specs.Resources as model
 use Rattle.gfx_model.specs.FrameCalls.{end_frame, shut_down, frame_refusal, frame_effect, is_given}
 use Rattle.gfx_words.specs.declared.refusals.Refusal.{Refusal}
 use Rattle.gfx_words.specs.Seen.{refusal_seen}
-use Rattle.schedule_model.specs.Held.{count_of}
-use Rattle.hold_table.specs.Views.{SeatView, once_between, advanced}
-use Rattle.resource_book.specs.Desks.{payloads_seen}
-use Rattle.resource_book.specs.Written.{BookView}
-use Rattle.resource_book.specs.Works.{IsWork, with_nothing_written}
+use Rattle.hold_table.specs.Views.{SeatView, advanced}
+use Rattle.resource_book.specs.Works.{with_nothing_written}
 use Rattle.resource_book.specs.declared.frames.Work.{Work}
 use Rattle.draw_encoder.specs.declared.items.Recording.{Recording}
-use Rattle.gfx_context.specs.declared.ending.Prepared.{Prepared}
 use Rattle.frame_record.specs.declared.frame.Frame.{Frame}
 use Rattle.frame_record.specs.declared.frame.RenderedFrame.{RenderedFrame}
 use Rattle.frame_record.specs.declared.frame.Outcome.{Outcome}
 use Rattle.frame_record.specs.declared.frame.Outcome.TheVariants as outcomes
-use Rattle.frame_record.specs.Kept.{numbers_in}
 use Rattle.frame_record.specs.Links.{frames_of, CameBack}
 use Rattle.frame_record.specs.Seen.{entry_seen, recordings_seen}
 use Rattle.gfx_context.specs.declared.report.BackNote.{BackNote}
 use Rattle.gfx_context.specs.declared.report.FrameReport.{FrameReport}
-use Rattle.gfx_context.specs.Gathered.{AreOfFrame, dropped_in, with_gathered}
+pub use Rattle.context_core.specs.Ended.{started}
+use Rattle.context_core.specs.Ended.{with_work}
+use Rattle.context_core.specs.Ended as cores
+use Rattle.context_core.specs.Gathered.{AreOfFrame, dropped_in, with_gathered}
 use Rattle.gfx_context.specs.States.{ContextView, state_of}
 
 -- ---- the bundles of a frame
@@ -66,58 +63,9 @@ MakesWay note old back =
     ((old.out < old.book.resources.latency) × (back ≡ old.back))
     (λ n. (old.out ≡ old.book.resources.latency) × IsBack n old.given old.back back)
 
--- a frame is what was written, the views, what was recorded with its journal, and the frame's number; the numbers of its items are
--- those from the frame's first to below a next one, each once
-pub record IsFrameOf {L : Type 0} (old : ContextView L) (next : ℕ) (f : Frame) : Type 0 where
-  pub number : f.number ≡ old.book.resources.frame
-  pub views : f.views ≡ old.book.resources.views
-  pub pre : f.pre ≡ old.book.pre
-  pub post : f.post ≡ old.book.post
-  pub payloads : payloads_seen f.payloads.items ≡ old.book.payloads
-  pub recordings : f.recordings.items ≡ old.gathered
-  pub journal : map entry_seen f.journal.items ≡ collected (recordings_seen old.gathered)
-  pub numbers : (n : ℕ) → count_of n (numbers_in old.gathered) ≡ once_between old.seat.base next n
-  pub counted : old.seat.base + length (numbers_in old.gathered) ≡ next
-
--- what the end of a frame needs memory for: what was written, and the journal of what was gathered twice
-pub record IsPrepared (b : BookView) (gathered : List Recording) (p : Prepared) : Type 0 where
-  pub work : IsWork b p.work
-  pub journal : map entry_seen p.journal.items ≡ collected (recordings_seen gathered)
-  pub told : map entry_seen p.told.items ≡ collected (recordings_seen gathered)
-  pub room : p.room.items ≡ []
-
--- the frame is given with work that was taken before, and the next one starts
-pub record GivesWork {L : Type 0} (work : Work) (old new : ContextView L) : Type 0 where
-  pub frame : Frame
-  pub given : new.given ≡ old.given ++ frame ∷ []
-  pub number : frame.number ≡ old.book.resources.frame
-  pub views : frame.views ≡ work.views
-  pub pre : frame.pre ≡ work.pre
-  pub post : frame.post ≡ work.post
-  pub payloads : frame.payloads ≡ work.payloads
-  pub recordings : frame.recordings.items ≡ old.gathered
-  pub journal : map entry_seen frame.journal.items ≡ collected (recordings_seen old.gathered)
-  pub numbers : (n : ℕ) → count_of n (numbers_in old.gathered) ≡ once_between old.seat.base new.seat.base n
-  pub counted : old.seat.base + length (numbers_in old.gathered) ≡ new.seat.base
-  pub seat : new.seat ≡ record (advanced new.seat.base old.seat) { places = new.seat.places }
-  pub same : new ≡ record old {
-    book = record old.book { resources = model.start_frame (old.book.resources.frame + 1) old.book.resources };
-    seat = new.seat;
-    begun = 0;
-    gathered = [];
-    out = old.out + 1;
-    given = new.given;
-    link = new.link;
-  }
-
--- the frame is given, or the context is ended
-abbrev pub FinishesWhere : {L : Type 0} → Bool → Work → (old new : ContextView L) → Type 0
-FinishesWhere true work old new = GivesWork work old new
-FinishesWhere false work old new = new ≡ record old { is_ended = true }
-
--- the state of the calls at the start of the next frame
-abbrev pub started : BookView → BookView
-started b = record { resources = model.start_frame (b.resources.frame + 1) b.resources; pre = []; post = []; payloads = [] }
+-- a frame is what the context has of it, with the numbers to below a next one
+abbrev pub IsFrameOf : {L : Type 0} → ContextView L → ℕ → Frame → Type 0
+IsFrameOf old next f = cores.IsFrameOf old.book old.gathered old.seat.base next f
 
 -- the frame is given, and the next one starts with nothing written, begun or gathered
 pub record Gives {L : Type 0} (old new : ContextView L) : Type 0 where
@@ -126,6 +74,15 @@ pub record Gives {L : Type 0} (old new : ContextView L) : Type 0 where
   pub is_of : IsFrameOf old new.seat.base frame
   pub seat : new.seat ≡ record (advanced new.seat.base old.seat) { places = new.seat.places }
   pub same : new ≡ record old { book = started old.book; seat = new.seat; begun = 0; gathered = []; out = new.out; given = new.given; back = new.back; link = new.link }
+
+-- with work written in it
+abbrev pub with_written : {L : Type 0} → Work → ContextView L → ContextView L
+with_written work v = record v { book = with_work work v.book }
+
+-- the frame is given with work that was taken before, or the context is ended
+abbrev pub FinishesWhere : {L : Type 0} → Bool → Work → (old new : ContextView L) → Type 0
+FinishesWhere true work old new = Gives (with_written work old) new × (new.out ≡ old.out + 1) × (new.back ≡ old.back)
+FinishesWhere false work old new = new ≡ record old { is_ended = true }
 
 -- the frame is given, or what was written is given up and the context is ended
 abbrev pub GivesWhere : {L : Type 0} → Bool → (old new : ContextView L) → Type 0

@@ -1,35 +1,20 @@
 -- What every context keeps.
-use Rattle.std.specs.Prelude.{ℕ, suc, ◌≡◌, ◌<◌, ◌≤◌, ◌+◌, ◌-◌, ◌⊎◌, List, ◌++◌, map, length, Option, Some, None, IsTrue, ⊤}
+use Rattle.std.specs.Prelude.{ℕ, ◌≡◌, ◌≤◌, ◌+◌, ◌-◌, List, ◌++◌, map, length}
 use Rattle.std.specs.List.{AllByRecursion, range_with_len}
+use Rattle.atomic_table.specs.Seated.{TableId}
 use Rattle.gfx_model.specs.World.{Item}
-use Rattle.gfx_model.specs.Views.{View, view_count}
-use Rattle.gfx_model.specs.Words.{Handle, frame_buffer_kind, is_kind}
-use Rattle.gfx_model.specs.Resources.{Resources}
+use Rattle.gfx_model.specs.Views.{view_count}
 use Rattle.schedule_model.specs.Machine.{Place}
-use Rattle.hold_table.specs.Views.{SeatView}
+use Rattle.draw_encoder.specs.declared.items.Recording.{Recording}
+use Rattle.draw_encoder.specs.Bundles.{items_of}
 use Rattle.frame_record.specs.declared.frame.Frame.{Frame}
 use Rattle.frame_record.specs.declared.frame.RenderedFrame.{RenderedFrame}
 use Rattle.frame_record.specs.Links.{frames_of, out_of}
-use Rattle.gfx_context.specs.Places.{IsPlaced, IsUsable}
-use Rattle.gfx_context.specs.Gathered.{AreCollected, AreGathered}
-use Rattle.gfx_context.specs.States.{ContextView}
-
--- what the seat and the state of the calls say of one another
-pub record IsTied (r : Resources) (seat : SeatView) : Type 0 where
-  pub placed : IsPlaced seat.places r.things
-  pub many : length seat.places ≡ 3776
-  pub older : seat.greatest < r.next_serial
-  pub frame : r.frame ≡ seat.frame
-  pub most : seat.frame ≤ 1073741823
-
--- a target is the back buffer, or a frame buffer that can be named in the frame
-abbrev pub IsTarget : ℕ → List Place → Option Handle → Type 0
-IsTarget frame places None = ⊤
-IsTarget frame places (Some h) = IsTrue (is_kind h.kind frame_buffer_kind) × IsUsable frame places h
-
--- the targets of views
-abbrev pub AreTargets : ℕ → List Place → List View → Type 0
-AreTargets frame places vs = AllByRecursion (λ view. IsTarget frame places view.target) vs
+use Rattle.context_core.specs.Gathered.{AreCollected}
+pub use Rattle.context_core.specs.Kept.{IsTied, IsTarget, AreTargets, IsNext}
+use Rattle.context_core.specs.Kept.{IsCore}
+use Rattle.context_core.specs.States.{CoreView}
+use Rattle.gfx_context.specs.States.{ContextView, core_in}
 
 -- each thing that a frame names can be named in that frame still: those that its recordings name, and the targets of its views
 pub record KeepsNames (admits : ℕ → ℕ → List Item → ℕ → Type 0) (views : ℕ) (places : List Place) (f : Frame) : Type 0 where
@@ -44,18 +29,18 @@ pub record AreOut (admits : ℕ → ℕ → List Item → ℕ → Type 0) (views
   pub numbers : map (λ f. f.number) (out_of given back) ≡ range_with_len (frame - out) out
   pub names : AllByRecursion (KeepsNames admits views places) (out_of given back)
 
--- the next serial is one more than the greatest that was given, or none was given and it is the first
-abbrev pub IsNext : (next greatest first : ℕ) → Type 0
-IsNext next greatest first = (next ≡ suc greatest) ⊎ ((greatest ≡ 0) × (next ≡ first))
+-- what a context keeps: what its core does, and the frames that are out
+abbrev pub IsContext : {L : Type 0} → (admits : ℕ → ℕ → List Item → ℕ → Type 0) (views : ℕ) → ContextView L → Type 0
+IsContext admits views v = IsCore admits views (AreOut admits views v.seat.places v.seat.frame v.out v.given v.back) (core_in v)
 
--- what a context keeps
-pub record IsContext {L : Type 0} (admits : ℕ → ℕ → List Item → ℕ → Type 0) (views : ℕ) (v : ContextView L) : Type 0 where
-  pub tied : IsTied v.book.resources v.seat
-  pub newest : IsNext v.book.resources.next_serial v.seat.greatest v.first
-  pub targets : AreTargets v.seat.frame v.seat.places v.book.resources.views.settings
-  pub counted : view_count v.book.resources.views ≡ views
-  pub latency : (1 ≤ v.book.resources.latency) × (v.book.resources.latency ≤ 3)
-  pub few : v.out ≤ v.book.resources.latency
-  pub encoders : v.begun ≤ 8
-  pub gathered : AreGathered admits views v.seat v.begun v.gathered
-  pub frames : AreOut admits views v.seat.places v.seat.frame v.out v.given v.back
+-- each recording is one that its encoder may end with
+abbrev pub AreAdmitted : (admits : ℕ → ℕ → List Item → ℕ → Type 0) → List Recording → Type 0
+AreAdmitted admits rs = AllByRecursion (λ r. admits r.encoder r.frame (items_of r) r.dropped) rs
+
+-- what a context keeps beside what its core does
+pub record IsLinked (table : TableId) (admits : ℕ → ℕ → List Item → ℕ → Type 0) (views latency : ℕ) (c : CoreView) (given : List Frame) (back : List RenderedFrame) : Type 0 where
+  pub table_is : c.table ≡ table
+  pub views_are : view_count c.state.book.resources.views ≡ views
+  pub latency_is : latency ≡ c.state.book.resources.latency
+  pub admitted : AreAdmitted admits c.state.gathered
+  pub frames : AreOut admits views c.state.seat.places c.state.seat.frame c.state.out given back

@@ -4,4 +4,3 @@ pub mod States
 pub mod Kept
 pub mod Calls
 pub mod Ended
-pub mod Laws

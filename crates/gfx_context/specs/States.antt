@@ -7,6 +7,8 @@ use Rattle.draw_encoder.specs.declared.items.Recording.{Recording}
 use Rattle.resource_book.specs.Written.{BookView}
 use Rattle.frame_record.specs.declared.frame.Frame.{Frame}
 use Rattle.frame_record.specs.declared.frame.RenderedFrame.{RenderedFrame}
+use Rattle.context_core.specs.States.{CoreState, HasCore}
+use Rattle.context_core.specs.States as cores
 
 -- the state of the calls without contents and what they wrote in this frame, what the seat knows, how many encoders were begun in this frame, the recordings
 -- that were collected in it, how many frames are out, whether the context is ended, the serial of the first thing, the frames that were given and that came
@@ -23,9 +25,40 @@ pub record ContextView (L : Type 0) : Type 0 where
   pub back : List RenderedFrame
   pub link : L
 
+-- the state of its core
+abbrev pub core_in : {L : Type 0} → ContextView L → CoreState
+core_in v = record {
+  book = v.book;
+  seat = v.seat;
+  begun = v.begun;
+  gathered = v.gathered;
+  out = v.out;
+  is_ended = v.is_ended;
+  first = v.first;
+}
+
+-- a context of a core, of the frames that were given and that came back, and of a link
+abbrev pub context_of : {L : Type 0} → CoreState → List Frame → List RenderedFrame → L → ContextView L
+context_of s given back link = record {
+  book = s.book;
+  seat = s.seat;
+  begun = s.begun;
+  gathered = s.gathered;
+  out = s.out;
+  is_ended = s.is_ended;
+  first = s.first;
+  given = given;
+  back = back;
+  link = link;
+}
+
+-- a context has its core's state in it
+abbrev pub in_context : {L : Type 0} → HasCore (ContextView L)
+in_context = record { core = core_in; with_core = λ s v. context_of s v.given v.back v.link }
+
 -- the state of the definition, without contents
 abbrev pub state_of : {L : Type 0} → ContextView L → CallState
-state_of v = record { resources = v.book.resources; encoders = v.begun; out = v.out; is_ended = v.is_ended }
+state_of v = cores.state_of (core_in v)
 
 -- nothing is made or written
 abbrev pub no_book : BookView

@@ -1,7 +1,8 @@
 // How encoders begin.
 ghost use Rattle.std.specs.Prelude.{◌≡◌, false};
 
-use crate::context::{Context, MOST_ENCODERS};
+use crate::context::Context;
+use context_core::Lent;
 use draw_encoder::{Encoder, Naming, Room};
 use frame_record::FrameLink;
 use gfx_words::Refusal;
@@ -16,29 +17,17 @@ impl<'t, C: Naming, L: FrameLink + Drop> Context<'t, C, L> {
         requires running { self.old.is_ended ≡ false }
         ensures { IsBegin result (room_seen room) self.old self.new }
     {
-        if !room.is_within_limits() {
-            return Err(Refusal::BadSize);
-        }
-        if self.begun as usize >= MOST_ENCODERS {
-            return Err(Refusal::NoEncoder);
-        }
-        let seat = self.shared.table().split(&mut self.api, self.begun);
-        let number = self.book.frame();
-        match Encoder::start(
-            self.alloc,
-            self.shared,
+        self.core.tell_facts();
+        let Lent {
             seat,
-            self.begun,
             number,
-            room,
-            self.views,
-        ) {
-            Ok(encoder) => {
-                self.begun += 1;
-                Ok(encoder)
-            }
+            frame,
+            views,
+        } = self.core.lend(self.shared.table(), room)?;
+        match Encoder::start(self.alloc, self.shared, seat, number, frame, room, views) {
+            Ok(encoder) => Ok(encoder),
             Err(seat) => {
-                self.shared.table().join(&mut self.api, seat);
+                self.core.take_again(self.shared.table(), seat);
                 Err(Refusal::OutOfMemory)
             }
         }

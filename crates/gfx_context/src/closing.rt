@@ -15,7 +15,7 @@ impl<'t, C: Naming, L: FrameLink + Drop> Context<'t, C, L> {
         ensures takes { TakesNext result self.old self.new }
         ensures origin { L.origin self.new.link ≡ L.origin self.old.link }
     {
-        if self.out == 0 {
+        if self.core.out() == 0 {
             return None;
         }
         Some(self.take_one(rt))
@@ -34,10 +34,10 @@ impl<'t, C: Naming, L: FrameLink + Drop> Context<'t, C, L> {
         let first = context.take_next(rt);
         let second = context.take_next(rt);
         let third = context.take_next(rt);
-        let Context { link, api, .. } = context;
+        let Context { link, core, .. } = context;
         Closed {
             link,
-            seat: api,
+            seat: core.into_seat(),
             backs: [first, second, third],
         }
     }

@@ -5,7 +5,6 @@ ghost use Rattle.texture_store.specs.Seen.{own_source_seen};
 ghost use Rattle.std.specs.Prelude.{◌≡◌};
 
 use crate::context::Context;
-use crate::marks::{mark_dying, mark_live};
 use draw_encoder::Naming;
 use frame_record::FrameLink;
 use gfx_words::{Format, Handle, ProgramKind, Refusal, UniformKind};
@@ -19,10 +18,7 @@ impl<'t, C: Naming, L: FrameLink + Drop> Context<'t, C, L> {
     pub fn create_layout(&mut self, layout: VertexLayout) -> Result<Handle, Refusal>
         ensures { Creates result (model.create_layout layout) self.old self.new }
     {
-        self.book.tell_facts();
-        let handle = self.book.create_layout(layout)?;
-        mark_live(self.shared, &mut self.api, handle, true);
-        Ok(handle)
+        self.core.create_layout(self.shared.table(), layout)
     }
 
     /// Makes a vertex buffer of a layout. `BadSize` exactly where there are not 1 to 524,288 bytes; then `WrongKind`, `Stale`,
@@ -30,10 +26,8 @@ impl<'t, C: Naming, L: FrameLink + Drop> Context<'t, C, L> {
     pub fn create_vertex_buffer(&mut self, layout: Handle, bytes: &[u8]) -> Result<Handle, Refusal>
         ensures { Creates result (model.create_vertex_buffer layout bytes.now) self.old self.new }
     {
-        self.book.tell_facts();
-        let handle = self.book.create_vertex_buffer(layout, bytes)?;
-        mark_live(self.shared, &mut self.api, handle, true);
-        Ok(handle)
+        self.core
+            .create_vertex_buffer(self.shared.table(), layout, bytes)
     }
 
     /// Makes an index buffer. `BadSize` exactly where there are not 2 to 524,288 bytes, or an odd number; then `Full` (1,024) and
@@ -41,10 +35,7 @@ impl<'t, C: Naming, L: FrameLink + Drop> Context<'t, C, L> {
     pub fn create_index_buffer(&mut self, bytes: &[u8]) -> Result<Handle, Refusal>
         ensures { Creates result (model.create_index_buffer bytes.now) self.old self.new }
     {
-        self.book.tell_facts();
-        let handle = self.book.create_index_buffer(bytes)?;
-        mark_live(self.shared, &mut self.api, handle, true);
-        Ok(handle)
+        self.core.create_index_buffer(self.shared.table(), bytes)
     }
 
     /// Makes a texture. `BadSize` exactly where a side is not 1 to 2,048 or there are not four bytes a texel; then `Full`
@@ -60,12 +51,7 @@ impl<'t, C: Naming, L: FrameLink + Drop> Context<'t, C, L> {
     ) -> Result<Handle, Refusal>
         ensures { Creates result (model.create_texture width height (format_seen format) blit_dst (own_source_seen source)) self.old self.new }
     {
-        self.book.tell_facts();
-        let handle = self
-            .book
-            .create_texture(width, height, format, blit_dst, source)?;
-        mark_live(self.shared, &mut self.api, handle, true);
-        Ok(handle)
+        self.core.create_texture(self.shared.table(), width, height, format, blit_dst, source)
     }
 
     /// Makes a frame buffer. `WrongKind` exactly where the colour is no rgba8 texture, or a depth is given that is no d24s8
@@ -77,20 +63,15 @@ impl<'t, C: Naming, L: FrameLink + Drop> Context<'t, C, L> {
     ) -> Result<Handle, Refusal>
         ensures { Creates result (model.create_frame_buffer color depth) self.old self.new }
     {
-        self.book.tell_facts();
-        let handle = self.book.create_frame_buffer(color, depth)?;
-        mark_live(self.shared, &mut self.api, handle, true);
-        Ok(handle)
+        self.core
+            .create_frame_buffer(self.shared.table(), color, depth)
     }
 
     /// Makes a program. `Full` exactly where 256 programs live or wait; then `SerialsSpent`.
     pub fn create_program(&mut self, kind: ProgramKind) -> Result<Handle, Refusal>
         ensures { Creates result (model.create_program (program_seen kind)) self.old self.new }
     {
-        self.book.tell_facts();
-        let handle = self.book.create_program(kind)?;
-        mark_live(self.shared, &mut self.api, handle, true);
-        Ok(handle)
+        self.core.create_program(self.shared.table(), kind)
     }
 
     /// Makes a uniform, or refers to the live one of that name once more. `BadSize` exactly where the name has not 1 to 32 bytes;
@@ -98,12 +79,7 @@ impl<'t, C: Naming, L: FrameLink + Drop> Context<'t, C, L> {
     pub fn create_uniform(&mut self, name: &[u8], kind: UniformKind) -> Result<Handle, Refusal>
         ensures { Creates result (model.create_uniform name.now (uniform_seen kind)) self.old self.new }
     {
-        self.book.tell_facts();
-        let before = self.book.rows().len();
-        let handle = self.book.create_uniform(name, kind)?;
-        let is_new = self.book.rows().len() > before;
-        mark_live(self.shared, &mut self.api, handle, is_new);
-        Ok(handle)
+        self.core.create_uniform(self.shared.table(), name, kind)
     }
 
     /// Destroys a thing, or takes one reference of a uniform. `Stale` exactly where the handle's place does not have its serial
@@ -112,10 +88,6 @@ impl<'t, C: Naming, L: FrameLink + Drop> Context<'t, C, L> {
     pub fn destroy(&mut self, h: Handle) -> Result<(), Refusal>
         ensures { Destroys result h self.old self.new }
     {
-        self.book.tell_facts();
-        h.tell_facts();
-        let died = self.book.destroy(h)?;
-        mark_dying(self.shared, &mut self.api, h, died);
-        Ok(())
+        self.core.destroy(self.shared.table(), h)
     }
 }

@@ -1,73 +1,49 @@
 // The bundle of each encoder is collected once.
-ghost use Rattle.std.specs.Prelude.{◌≡◌, ℕ, List, suc, ◌<◌, ◌≤◌, ◌++◌, ◌∷◌, [], length, vec_len, vec_capacity};
-ghost use Rattle.hold_table.specs.Seats.{api_table, api_view, enc_view};
-ghost use Rattle.hold_table.specs.Views.{joined_with};
+ghost use Rattle.std.specs.Prelude.{◌≡◌, List, [], ◌++◌};
+ghost use Rattle.gfx_model.specs.Views.{view_count};
+ghost use Rattle.hold_table.specs.Seats.{enc_view};
 ghost use Rattle.draw_encoder.specs.declared.items.Recording.{Recording};
-ghost use Rattle.gfx_context.specs.Gathered.{AreGathered, dropped_in, with_gathered};
+ghost use Rattle.context_core.specs.Ended.{Gathers};
+ghost use Rattle.context_core.specs.Gathered.{AreOfFrame, with_gathered};
+ghost use Rattle.gfx_context.specs.Kept.{AreAdmitted};
 
 use crate::context::Context;
+use context_core::ContextCore;
 use draw_encoder::{Bundle, Naming, Recording, Shared};
 use frame_record::FrameLink;
-use hold_table::ApiSeat;
 use std::sync::Wait;
 
-/// Gathers a bundle that was collected: joins its seat and keeps its recording.
-fn gather<C: Naming>(
-    shared: &Shared<C>,
-    api: &mut ApiSeat,
-    gathered: &mut Vec<Recording>,
-    bundle: Bundle<C>,
-)
-    requires table { api_table api.old ≡ C.table }
-    requires room { vec_len gathered.old < vec_capacity gathered.old }
-    ensures table { api_table api.new ≡ C.table }
-    ensures room { vec_capacity gathered.new ≡ vec_capacity gathered.old }
-    ensures more { vec_len gathered.new ≡ suc (vec_len gathered.old) }
-    ensures seat { api_view api.new ≡ joined_with (api_view api.old) (enc_view bundle.1) }
-    ensures kept { gathered.new.items ≡ gathered.old.items ++ bundle.0 ∷ [] }
-    ensures gathered { (begun : ℕ) → AreGathered C.admits C.views (api_view api.old) begun gathered.old.items → AreGathered C.admits C.views (api_view api.new) begun gathered.new.items }
+/// Gathers a bundle that was collected.
+fn gather<C: Naming>(shared: &Shared<C>, core: &mut ContextCore, bundle: Bundle<C>)
+    requires table { core.old.table ≡ C.table }
+    requires views { view_count core.old.state.book.resources.views ≡ C.views }
+    requires admitted { AreAdmitted C.admits core.old.state.gathered }
+    ensures gathers { Gathers bundle.0 (enc_view bundle.1) core.old core.new }
+    ensures admitted { AreAdmitted C.admits core.new.state.gathered }
 {
     let (recording, seat) = bundle.part();
-    shared.table().join(api, seat);
-    gathered.push_reserved(recording);
+    core.gather(shared.table(), recording, seat);
 }
 
 /// Collects the bundle of each encoder that is off, and waits for those that have not ended.
-fn gather_all<C: Naming, R: Wait>(
-    rt: &R,
-    shared: &Shared<C>,
-    api: &mut ApiSeat,
-    gathered: &mut Vec<Recording>,
-    begun: u8,
-)
-    requires table { api_table api.old ≡ C.table }
-    requires room { (begun ≤ 8) × (8 ≤ vec_capacity gathered.old) }
-    requires gathered { AreGathered C.admits C.views (api_view api.old) begun gathered.old.items }
-    ensures table { api_table api.new ≡ C.table }
-    ensures room { 8 ≤ vec_capacity gathered.new }
-    ensures none_off { (api_view api.new).off ≡ [] }
-    ensures kept { (more : List Recording) × (gathered.new.items ≡ gathered.old.items ++ more) }
-    ensures same { api_view api.new ≡ with_gathered (api_view api.new) (api_view api.old) }
-    ensures gathered { AreGathered C.admits C.views (api_view api.new) begun gathered.new.items }
+fn gather_all<C: Naming, R: Wait>(rt: &R, shared: &Shared<C>, core: &mut ContextCore)
+    requires table { core.old.table ≡ C.table }
+    requires views { view_count core.old.state.book.resources.views ≡ C.views }
+    requires admitted { AreAdmitted C.admits core.old.state.gathered }
+    ensures none_off { core.new.state.seat.off ≡ [] }
+    ensures kept { (more : List Recording) × (core.new.state.gathered ≡ core.old.state.gathered ++ more) }
+    ensures seat { core.new.state.seat ≡ with_gathered core.new.state.seat core.old.state.seat }
+    ensures same { core.new ≡ record core.old { state = record core.old.state { seat = core.new.state.seat; gathered = core.new.state.gathered } } }
+    ensures admitted { AreAdmitted C.admits core.new.state.gathered }
+    ensures recordings { AreOfFrame C.admits C.views core.old.state.seat.frame core.old.state.seat.places core.old.state.begun core.new.state.gathered }
 {
-    let left = begun as usize - gathered.len();
+    let left = core.off();
     for i in 0..left {
         let _step = i;
         let bundle = shared.collect(rt);
-        gather(shared, api, gathered, bundle);
+        gather(shared, core, bundle);
     }
-}
-
-/// The sum of the numbers that the encoders ended with.
-pub(crate) fn total_dropped(recordings: &[Recording]) -> u64
-    requires { length recordings.now ≤ 8 }
-    ensures { result ≡ dropped_in recordings.now }
-{
-    let mut sum = 0;
-    for recording in recordings {
-        sum += recording.dropped as u64;
-    }
-    sum
+    core.tell_facts();
 }
 
 impl<'t, C: Naming, L: FrameLink + Drop> Context<'t, C, L> {
@@ -79,13 +55,7 @@ impl<'t, C: Naming, L: FrameLink + Drop> Context<'t, C, L> {
     pub fn collect<R: Wait>(&mut self, rt: &R)
         ensures { Collects C.admits C.views self.old self.new }
     {
-        gather_all(
-            rt,
-            self.shared,
-            &mut self.api,
-            &mut self.gathered,
-            self.begun,
-        );
+        gather_all(rt, self.shared, &mut self.core);
     }
 
     /// The recordings of this frame's encoders that were collected. Their journal can be collected.
@@ -93,6 +63,6 @@ impl<'t, C: Naming, L: FrameLink + Drop> Context<'t, C, L> {
         ensures same { result.now ≡ self.now.gathered }
         ensures collectable { IsCollectable result.now }
     {
-        self.gathered.as_slice()
+        self.core.gathered()
     }
 }

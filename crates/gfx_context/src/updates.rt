@@ -21,7 +21,7 @@ impl<'t, C: Naming, L: FrameLink + Drop> Context<'t, C, L> {
     ) -> Result<(), Refusal>
         ensures { Updates result (model.update_buffer buffer offset bytes.now) self.old self.new }
     {
-        self.book.update_buffer(buffer, offset, bytes)
+        self.core.update_buffer(buffer, offset, bytes)
     }
 
     /// Changes texels of a texture. `WrongKind`, `Stale`, then `BadRange` exactly where the rectangle passes a side, then
@@ -34,6 +34,6 @@ impl<'t, C: Naming, L: FrameLink + Drop> Context<'t, C, L> {
     ) -> Result<(), Refusal>
         ensures { Updates result (model.update_texture texture (rect_seen rect) bytes.now) self.old self.new }
     {
-        self.book.update_texture(texture, rect, bytes)
+        self.core.update_texture(texture, rect, bytes)
     }
 }

@@ -17,14 +17,14 @@ impl<'t, C: Naming, L: FrameLink + Drop> Context<'t, C, L> {
     pub fn set_view_rect(&mut self, view: u16, rect: Rect) -> Result<(), Refusal>
         ensures { Changes result (model.set_view_rect view (rect_seen rect)) self.old self.new }
     {
-        self.book.set_view_rect(view, rect)
+        self.core.set_view_rect(view, rect)
     }
 
     /// Sets the view's scissor.
     pub fn set_view_scissor(&mut self, view: u16, rect: Rect) -> Result<(), Refusal>
         ensures { Changes result (model.set_view_scissor view (rect_seen rect)) self.old self.new }
     {
-        self.book.set_view_scissor(view, rect)
+        self.core.set_view_scissor(view, rect)
     }
 
     /// Sets what entering the view clears. After `BadView`, `BadState` exactly where `flags` is over 7 or `depth` over 16,777,215.
@@ -38,21 +38,21 @@ impl<'t, C: Naming, L: FrameLink + Drop> Context<'t, C, L> {
     ) -> Result<(), Refusal>
         ensures { Changes result (model.set_view_clear view (record { flags = flags; color = color; depth = depth; stencil = stencil })) self.old self.new }
     {
-        self.book.set_view_clear(view, flags, color, depth, stencil)
+        self.core.set_view_clear(view, flags, color, depth, stencil)
     }
 
     /// Sets how the view orders its draws and touches.
     pub fn set_view_mode(&mut self, view: u16, mode: ViewMode) -> Result<(), Refusal>
         ensures { Changes result (model.set_view_mode view (mode_seen mode)) self.old self.new }
     {
-        self.book.set_view_mode(view, mode)
+        self.core.set_view_mode(view, mode)
     }
 
     /// Sets the view's transform.
     pub fn set_view_transform(&mut self, view: u16, t: Affine) -> Result<(), Refusal>
         ensures { Changes result (model.set_view_transform view (affine_seen t)) self.old self.new }
     {
-        self.book.set_view_transform(view, t)
+        self.core.set_view_transform(view, t)
     }
 
     /// Sets the view's target, or the back buffer. After `BadView`, `WrongKind` exactly where the handle is no frame buffer's;
@@ -60,8 +60,7 @@ impl<'t, C: Naming, L: FrameLink + Drop> Context<'t, C, L> {
     pub fn set_view_target(&mut self, view: u16, target: Option<Handle>) -> Result<(), Refusal>
         ensures { Changes result (model.set_view_target view target) self.old self.new }
     {
-        self.book.tell_facts();
-        self.book.set_view_target(view, target)
+        self.core.set_view_target(view, target)
     }
 
     /// Sets the views that come first. `BadView` exactly where an id is no view's; then `BadRange` exactly where the list is
@@ -69,13 +68,13 @@ impl<'t, C: Naming, L: FrameLink + Drop> Context<'t, C, L> {
     pub fn set_view_order(&mut self, ids: &[u16]) -> Result<(), Refusal>
         ensures { Changes result (model.set_view_order ids.now) self.old self.new }
     {
-        self.book.set_view_order(ids)
+        self.core.set_view_order(ids)
     }
 
     /// Sets the view as it is at first.
     pub fn reset_view(&mut self, view: u16) -> Result<(), Refusal>
         ensures { Changes result (model.reset_view view) self.old self.new }
     {
-        self.book.reset_view(view)
+        self.core.reset_view(view)
     }
 }

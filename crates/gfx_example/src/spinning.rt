@@ -8,7 +8,7 @@ use crate::turning::{Turned, turn_ring};
 use frame_record::Outcome;
 use io_edge::Sink;
 use render_core::laws::{kept_law, texts_law};
-use render_core::{InPlaceLink, Renderer};
+use render_core::{InPlaceLink, Renderer, SerialRasterizer};
 use std::alloc::Global;
 use std::sync::Wait;
 use std::thread::Threads;
@@ -117,7 +117,7 @@ fn render_in_place<P: Sink + Drop, R: Threads + Wait + Sync>(
     ensures shown { IfOk result (λ r. AreRenderedInTurn frames r.outcome r.is_whole (seen_by P.held P.tally P.faults P.sure renderer) (seen_by P.held P.tally P.faults P.sure r.renderer)) }
     ensures refused { IfErr result (λ r. r ≡ renderer) }
 {
-    let link = InPlaceLink::new(alloc, renderer, LATENCY)?;
+    let link = InPlaceLink::new(alloc, renderer, SerialRasterizer, LATENCY)?;
     let turned = turn_ring(rt, alloc, frames, link);
     let Turned {
         link,

@@ -6,7 +6,7 @@ ghost use Rattle.frame_swap.specs.Ends.{given_by, back_by, latency_of, render_kn
 use frame_record::{Frame, FrameLink, RenderedFrame};
 use frame_swap::{ApiEnd, RenderEnd, swap_pair};
 use io_edge::SureSink;
-use render_core::Renderer;
+use render_core::{Renderer, SerialRasterizer};
 use std::alloc::{AllocError, Global};
 use std::sync::Wait;
 use std::thread::Threads;
@@ -54,7 +54,7 @@ impl FrameLink for HereLink {
     fn give<R: Threads + Wait + Sync>(&mut self, rt: &R, frame: Frame) {
         self.api.give(rt, frame);
         if let Some(taken) = self.end.take(rt) {
-            let rendered = self.renderer.render(rt, taken);
+            let rendered = self.renderer.render(&mut SerialRasterizer, taken);
             self.end.give_back(rendered);
         }
     }

@@ -1,6 +1,5 @@
 // Bands of rows, and the draws of a list on each.
 ghost use Rattle.std.specs.Prelude.{◌≡◌, ◌≤◌, ◌*◌, length};
-ghost use Rattle.std.specs.Thread.{IsSync};
 ghost use Rattle.int_raster.specs.Bands.{deep, flat_drawn, deep_drawn};
 
 use crate::deep::draw_deep;
@@ -39,8 +38,9 @@ pub(crate) fn draw_deep_list(
     }
 }
 
-/// Makes the draws of a list on a band without depth, in several bands side by side.
-pub(crate) fn flat_bands<R: Threads + Sync>(
+/// Makes the draws of a list on a band without depth, in several bands side by side: the last by this thread, and each other
+/// by a thread that this one starts.
+pub(crate) fn flat_bands<R: Threads>(
     rt: &R,
     rows: &Rows,
     list: &DrawList<'_>,
@@ -54,25 +54,25 @@ pub(crate) fn flat_bands<R: Threads + Sync>(
         draw_flat_list(rows, list, colors);
         return;
     }
-    let less = bands / 2;
-    let more = bands - less;
-    let (upper, lower) = rows.cut(less, bands);
+    let more = bands - 1;
+    let (upper, lower) = rows.cut(1, bands);
     let (above, under) = colors.split_at_mut(upper.width as usize * upper.count as usize);
     join_mut(
         rt,
         &mut ||
-            requires { IsSync R.row × (length above.now ≡ upper.width * upper.count) }
+            requires { length above.now ≡ upper.width * upper.count }
             ensures { above.exit.now ≡ flat_drawn upper.width upper.top above.entry.now list.entry.now }
-        { flat_bands(rt, &upper, list, less, above) },
+        { draw_flat_list(&upper, list, above) },
         &mut ||
-            requires { IsSync R.row × (length under.now ≡ lower.width * lower.count) }
+            requires { length under.now ≡ lower.width * lower.count }
             ensures { under.exit.now ≡ flat_drawn lower.width lower.top under.entry.now list.entry.now }
         { flat_bands(rt, &lower, list, more, under) },
     );
 }
 
-/// Makes the draws of a list on a band with depth, in several bands side by side.
-pub(crate) fn deep_bands<R: Threads + Sync>(
+/// Makes the draws of a list on a band with depth, in several bands side by side: the last by this thread, and each other by
+/// a thread that this one starts.
+pub(crate) fn deep_bands<R: Threads>(
     rt: &R,
     rows: &Rows,
     list: &DrawList<'_>,
@@ -88,20 +88,19 @@ pub(crate) fn deep_bands<R: Threads + Sync>(
         draw_deep_list(rows, list, colors, depths);
         return;
     }
-    let less = bands / 2;
-    let more = bands - less;
-    let (upper, lower) = rows.cut(less, bands);
+    let more = bands - 1;
+    let (upper, lower) = rows.cut(1, bands);
     let middle = upper.width as usize * upper.count as usize;
     let (above, under) = colors.split_at_mut(middle);
     let (near, far) = depths.split_at_mut(middle);
     join_mut(
         rt,
         &mut ||
-            requires { IsSync R.row × (length above.now ≡ upper.width * upper.count) × (length near.now ≡ length above.now) }
+            requires { (length above.now ≡ upper.width * upper.count) × (length near.now ≡ length above.now) }
             ensures { deep above.exit.now near.exit.now ≡ deep_drawn upper.width upper.top (deep above.entry.now near.entry.now) list.entry.now }
-        { deep_bands(rt, &upper, list, less, above, near) },
+        { draw_deep_list(&upper, list, above, near) },
         &mut ||
-            requires { IsSync R.row × (length under.now ≡ lower.width * lower.count) × (length far.now ≡ length under.now) }
+            requires { (length under.now ≡ lower.width * lower.count) × (length far.now ≡ length under.now) }
             ensures { deep under.exit.now far.exit.now ≡ deep_drawn lower.width lower.top (deep under.entry.now far.entry.now) list.entry.now }
         { deep_bands(rt, &lower, list, more, under, far) },
     );

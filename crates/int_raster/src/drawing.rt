@@ -9,6 +9,9 @@ use crate::rows::Rows;
 use crate::surfaces::Surface;
 use std::thread::Threads;
 
+// Each band but the last is a thread and a step deeper on the stack.
+const MOST_BANDS: u32 = 64;
+
 /// Makes the draws of a list in their order. The sides of the surface's textures stay, and how many texels they have.
 pub fn draw_view(surface: &mut Surface, list: &DrawList<'_>)
     ensures drawn { surface_seen surface.new ≡ fold drawn_prepared (surface_seen surface.old) list.now }
@@ -28,9 +31,9 @@ pub fn draw_view(surface: &mut Surface, list: &DrawList<'_>)
     }
 }
 
-/// Makes the draws of a list in their order, in bands of whole rows side by side. More bands than rows count as one for
-/// each row.
-pub fn draw_bands<R: Threads + Sync>(rt: &R, surface: &mut Surface, list: &DrawList<'_>, bands: u32)
+/// Makes the draws of a list in their order, in bands of whole rows side by side, the last of them by this thread and each
+/// other by a thread of its own. More bands than rows count as one for each row, and more than 64 as 64.
+pub fn draw_bands<R: Threads>(rt: &R, surface: &mut Surface, list: &DrawList<'_>, bands: u32)
     requires { 1 ≤ bands }
     ensures drawn { surface_seen surface.new ≡ fold drawn_prepared (surface_seen surface.old) list.now }
     ensures color { sides_seen surface.new.color ≡ sides_seen surface.old.color }
@@ -42,7 +45,7 @@ pub fn draw_bands<R: Threads + Sync>(rt: &R, surface: &mut Surface, list: &DrawL
         top: 0,
         count: surface.color.height,
     };
-    let bands = bands.min(rows.count as u32);
+    let bands = bands.min(rows.count as u32).min(MOST_BANDS);
     let colors = surface.color.texels.as_mut_slice();
     match &mut surface.depth {
         None => flat_bands(rt, &rows, list, bands, colors),

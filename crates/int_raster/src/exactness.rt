@@ -218,7 +218,7 @@ fn same_surfaces<R: Abort>(rt: &R, left: &Surface, right: &Surface, round: u32) 
     }
 }
 
-fn one_round<R: Threads + Sync + Abort>(
+fn one_round<R: Threads + Abort>(
     rt: &R,
     alloc: Global,
     numbers: &mut Numbers,
@@ -255,7 +255,7 @@ fn some_blank(alloc: Global, is_deep: bool) -> Result<Surface, Fail> {
     Ok(Surface::new(deep.color, None))
 }
 
-fn painters_and_exact_means<R: Threads + Sync + Abort>(rt: &R, alloc: Global) -> Result<(), Fail> {
+fn painters_and_exact_means<R: Threads + Abort>(rt: &R, alloc: Global) -> Result<(), Fail> {
     let mut numbers = Numbers { last: 2024 };
     for round in 0..120u32 {
         one_round(rt, alloc, &mut numbers, round)?;

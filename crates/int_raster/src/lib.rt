@@ -4,6 +4,7 @@
 mod bands;
 mod colors;
 mod columns;
+mod covering;
 mod cuts;
 mod deep;
 mod deep_spans;
@@ -15,6 +16,7 @@ mod opaque;
 mod painters;
 mod painting;
 mod pieces;
+mod rasterizer;
 mod rows;
 mod samplers;
 mod sampling;
@@ -25,6 +27,7 @@ mod surfaces;
 pub use cuts::{draw_cut, view_rect};
 pub use drawing::{draw_bands, draw_view};
 pub use lists::{DrawList, DrawRoom, Paint, Prepared};
+pub use rasterizer::{BandRasterizer, Rasterizer, SerialRasterizer};
 pub use surfaces::Surface;
 
 #[cfg(test)]

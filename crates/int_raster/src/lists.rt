@@ -3,6 +3,7 @@ ghost use Rattle.std.specs.Prelude.{◌≡◌, ◌≤◌, ◌<◌, ◌==◌, ◌
 ghost use Rattle.int_raster.specs.Drawing.{PreparedDraw};
 ghost use Rattle.int_raster.specs.Listing.{AreWithin};
 
+use crate::covering::covered_by;
 use crate::listed::Listed;
 use fix_math::{Rect, Texels};
 use gfx_words::{StateWord, StencilWord};
@@ -39,6 +40,7 @@ pub struct Prepared<'x> {
 pub struct DrawList<'x> {
     draws: Vec<Listed<'x>>,
     triangles: Vec<Setup>,
+    pixels: u64,
     ghost within: { AreWithin draws.items (length triangles.items) },
 }
 
@@ -78,6 +80,7 @@ impl<'x> DrawList<'x> {
         DrawList {
             draws: Vec::new(alloc),
             triangles: Vec::new(alloc),
+            pixels: 0,
         }
     }
 
@@ -88,6 +91,7 @@ impl<'x> DrawList<'x> {
         DrawList {
             draws: Vec::new(alloc),
             triangles: room.triangles,
+            pixels: 0,
         }
     }
 
@@ -112,12 +116,18 @@ impl<'x> DrawList<'x> {
         self.draws.is_empty()
     }
 
+    /// About how many pixels the triangles cover within the cuts of their draws, each counted as often as it is covered.
+    pub(crate) fn pixels(&self) -> u64 {
+        self.pixels
+    }
+
     /// Takes all draws out. Their room stays for the next ones.
     pub fn clear(&mut self)
         ensures { self.new ≡ [] }
     {
         self.draws.clear();
         self.triangles.clear();
+        self.pixels = 0;
     }
 
     /// Puts a draw and its triangles at the end. After an error the list is as it was.
@@ -125,11 +135,13 @@ impl<'x> DrawList<'x> {
         ensures ok { OnOk result (self.new ≡ self.old ++ prepared_seen draw.entry (map setup_seen triangles.now) ∷ []) }
         ensures err { OnErr result (self.new ≡ self.old) }
     {
+        let cut = draw.cut;
+        let pixels = self.pixels.saturating_add(covered_by(triangles, &cut));
         let first = self.triangles.len();
         let after = first.saturating_add(triangles.len());
         self.triangles.extend_from_slice(triangles)?;
         let listed = Listed {
-            cut: draw.cut,
+            cut,
             state: draw.state,
             front: draw.front,
             back: draw.back,
@@ -138,6 +150,7 @@ impl<'x> DrawList<'x> {
             after,
         };
         if self.draws.push(listed).is_ok() {
+            self.pixels = pixels;
             return Ok(());
         }
         self.triangles.truncate(first);

@@ -1,7 +1,10 @@
 // Pictures that were worked out by hand, as lists of prepared draws, and the pixels of many triangles one by one.
 ghost use Rattle.std.specs.Prelude.{◌≤◌};
 
-use crate::{DrawList, Paint, Prepared, Surface, draw_bands, draw_view};
+use crate::{
+    BandRasterizer, DrawList, Paint, Prepared, Rasterizer, SerialRasterizer, Surface, draw_bands,
+    draw_view,
+};
 use fix_math::{Affine, Point, Rect, Texels};
 use gfx_words::{StateWord, StencilWord};
 use pixel_ops::{Pixel, Shaded, multiply, pixel_step};
@@ -98,7 +101,7 @@ const FOUR: Rect = Rect {
 const ADDS: u64 = 35790863;
 
 // The reds of a picture of four by four, drawn in one go and in bands.
-fn drawn_once<R: Threads + Sync + Abort>(
+fn drawn_once<R: Threads + Abort>(
     rt: &R,
     alloc: Global,
     corners: &[(i32, i32)],
@@ -127,6 +130,63 @@ fn drawn_once<R: Threads + Sync + Abort>(
         );
     }
     Ok(reds_in_one)
+}
+
+// So many pixels that what covers them all pays for three bands.
+const LARGE: Rect = Rect {
+    x: 0,
+    y: 0,
+    w: 640,
+    h: 640,
+};
+
+// The reds of a square that covers all and is drawn twice by a rasterizer.
+fn drawn_by<D: Rasterizer, R: Abort>(
+    rt: &R,
+    alloc: Global,
+    rasterizer: &mut D,
+    target: Rect,
+) -> Result<Vec<u8>, Fail>
+    requires wide { 1 ≤ target.w }
+    requires high { 1 ≤ target.h }
+    requires narrow { target.w ≤ 2048 }
+    requires low { target.h ≤ 2048 }
+{
+    let one = 65536;
+    let corners = [
+        (-one, one),
+        (one, one),
+        (one, -one),
+        (-one, one),
+        (one, -one),
+        (-one, -one),
+    ];
+    let mut surface = blank(alloc, target, [0, 0, 0, 0])?;
+    let mut list = DrawList::new(alloc);
+    let triangles = solid(alloc, &corners, target)?;
+    let draw = Prepared {
+        cut: target,
+        state: state(rt, ADDS),
+        front: stencil(rt, 0),
+        back: stencil(rt, 0),
+        paint: Paint::Solid([16, 16, 16, 255]),
+    };
+    list.push(draw, &triangles)?;
+    rasterizer.draw(&mut surface, &list);
+    rasterizer.draw(&mut surface, &list);
+    reds(alloc, &surface)
+}
+
+#[test]
+fn each_rasterizer_draws_a_square_twice(rt: HostRuntime) -> Result<(), Fail> {
+    let alloc = rt.alloc();
+    let small = drawn_by(&rt, alloc, &mut SerialRasterizer, FOUR)?;
+    assert_eq!(rt; small.as_slice(), [32; 16].as_slice());
+    let large = drawn_by(&rt, alloc, &mut BandRasterizer::new(&rt), LARGE)?;
+    let twice = Vec::from_elem(alloc, 32u8, 409_600)?;
+    assert_eq!(rt; large.len(), twice.len());
+    assert!(rt; large.as_slice() == twice.as_slice(), "another colour");
+    Ok(())
 }
 
 #[test]

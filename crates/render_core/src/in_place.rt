@@ -9,18 +9,21 @@ use crate::renderer::Renderer;
 use atomic_table::{Seat, Table};
 use frame_record::{Frame, FrameLink, RenderedFrame};
 use frame_swap::{Content, FrameTable, View, back_here, claim_all, give_here, return_here};
+use int_raster::Rasterizer;
 use io_edge::Sink;
 use std::alloc::Global;
 use std::snapshot::Snapshot;
 use std::sync::Wait;
 use std::thread::Threads;
 
-/// A link that renders in `give`, and keeps the rendered frames until they are taken back: at most as many as the latency.
+/// A link that renders in `give`, by a rasterizer of its own, and keeps the rendered frames until they are taken back: at most as
+/// many as the latency. By `render` and `take_oldest` it serves a caller that may neither start threads nor wait.
 #[derive(Drop)]
-pub struct InPlaceLink<P: Sink> {
+pub struct InPlaceLink<P: Sink, D> {
     table: FrameTable,
     seat: Seat<Option<Content>, View>,
     renderer: Renderer<P>,
+    rasterizer: D,
     opening: Snapshot<Renderer<P>>,
     latency: u8,
     next: u8,
@@ -40,13 +43,14 @@ pub struct InPlaceLink<P: Sink> {
     ghost frames_are: { ∥ AreRendered (seen_by P.held P.tally P.faults P.sure opening.value) seat.me.0.returned (seen_by P.held P.tally P.faults P.sure renderer) ∥₁ },
 }
 
-impl<P: Sink> InPlaceLink<P> {
+impl<P: Sink, D: Rasterizer + Drop> InPlaceLink<P, D> {
     /// A link over a renderer, at which up to `latency` frames may be out, at least 1. For want of memory the renderer comes back.
     pub fn new(
         alloc: Global,
         renderer: Renderer<P>,
+        rasterizer: D,
         latency: u8,
-    ) -> Result<InPlaceLink<P>, Renderer<P>>
+    ) -> Result<InPlaceLink<P, D>, Renderer<P>>
         requires { 1 ≤ latency }
         ensures comes_back { IfErr result (λ r. r ≡ renderer) }
         ensures new { IfOk result (λ l. (l.seat.me.0.given ≡ []) × (l.seat.me.0.back ≡ []) × (l.seat.me.0.returned ≡ []) × (l.latency ≡ latency) × (l.opening.value ≡ renderer)) }
@@ -68,6 +72,7 @@ impl<P: Sink> InPlaceLink<P> {
             table,
             seat,
             renderer,
+            rasterizer,
             opening,
             latency,
             next: 0,
@@ -83,8 +88,22 @@ impl<P: Sink> InPlaceLink<P> {
         self.renderer
     }
 
-    /// The oldest frame that is out comes back.
-    fn take_oldest(&mut self) -> RenderedFrame
+    /// Renders a frame, and keeps it with the outcome. Fewer frames than the latency are out.
+    pub fn render(&mut self, frame: Frame)
+        requires room { length self.old.seat.me.0.given < length self.old.seat.me.0.back + self.old.latency }
+        ensures lists { (self.new.seat.me.0.given ≡ self.old.seat.me.0.given ++ frame ∷ []) × (self.new.seat.me.0.back ≡ self.old.seat.me.0.back) }
+        ensures same { (self.new.opening ≡ self.old.opening) × (self.new.latency ≡ self.old.latency) }
+    {
+        let table = &self.table;
+        let place = self.next as usize;
+        let taken = give_here(table, &mut self.seat, place, frame);
+        let rendered = self.renderer.render(&mut self.rasterizer, taken);
+        return_here(table, &mut self.seat, place, rendered);
+        self.next = (self.next + 1) % self.latency;
+    }
+
+    /// The oldest frame that is out comes back with its outcome. A frame is out.
+    pub fn take_oldest(&mut self) -> RenderedFrame
         requires some_out { length self.old.seat.me.0.back < length self.old.seat.me.0.given }
         ensures given { (self.new.seat.me.0.given ≡ self.old.seat.me.0.given) × (self.new.seat.me.0.returned ≡ self.old.seat.me.0.returned) }
         ensures back { CameBack self.old.seat.me.0.given self.old.seat.me.0.back self.new.seat.me.0.back result }
@@ -98,7 +117,7 @@ impl<P: Sink> InPlaceLink<P> {
     }
 }
 
-impl<P: Sink> FrameLink for InPlaceLink<P> {
+impl<P: Sink, D: Rasterizer + Drop> FrameLink for InPlaceLink<P, D> {
     ghost use Rattle.render_core.specs.declared.renderer.Renderer.{Renderer};
 
     ghost given = { λ l. l.seat.me.0.given };
@@ -117,12 +136,7 @@ impl<P: Sink> FrameLink for InPlaceLink<P> {
         ensures lists { (self.new.seat.me.0.given ≡ self.old.seat.me.0.given ++ frame ∷ []) × (self.new.seat.me.0.back ≡ self.old.seat.me.0.back) }
         ensures same { (self.new.opening ≡ self.old.opening) × (self.new.latency ≡ self.old.latency) }
     {
-        let table = &self.table;
-        let place = self.next as usize;
-        let taken = give_here(table, &mut self.seat, place, frame);
-        let rendered = self.renderer.render(rt, taken);
-        return_here(table, &mut self.seat, place, rendered);
-        self.next = (self.next + 1) % self.latency;
+        self.render(frame);
     }
 
     fn try_take_back<R: Wait>(&mut self, rt: &R) -> Option<RenderedFrame>

@@ -12,6 +12,7 @@ mod running;
 mod views;
 
 pub use in_place::InPlaceLink;
+pub use int_raster::{BandRasterizer, Rasterizer, SerialRasterizer};
 pub use renderer::Renderer;
 
 #[cfg(test)]

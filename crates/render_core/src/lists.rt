@@ -62,7 +62,7 @@ fn items_of<'x>(
 ) -> Result<Vec<Recorded<'x>>, AllocError>
     ensures { IfOk result (λ items. map recorded_seen items.items ≡ items_in (recordings_of frame.now) (map (λ o. entry_seen o.entry) ordered.now)) }
 {
-    let mut items = Vec::new(alloc);
+    let mut items = Vec::with_capacity(alloc, ordered.len())?;
     for one in ordered {
         push_item(&mut items, frame.item(one.entry))?;
     }
@@ -77,7 +77,7 @@ fn copies_of(
 ) -> Result<Vec<BlitItem>, AllocError>
     ensures { IfOk result (λ copies. map blit_item (map blit_seen copies.items) ≡ filter is_blit (items_in (recordings_of frame.now) (map (λ p. entry_seen p.entry) blits.now))) }
 {
-    let mut copies = Vec::new(alloc);
+    let mut copies = Vec::with_capacity(alloc, blits.len())?;
     for one in blits {
         push_blit(&mut copies, frame.item(one.entry))?;
     }

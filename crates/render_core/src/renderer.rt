@@ -16,10 +16,10 @@ use crate::output::put_all;
 use crate::picture::PictureText;
 use crate::views::draw_views;
 use frame_record::{Frame, Outcome, RenderedFrame};
+use int_raster::Rasterizer;
 use io_edge::Sink;
 use render_stores::{RenderStores, execute_all};
 use std::alloc::{AllocError, Global};
-use std::thread::Threads;
 use store_laws::{frame_law, start_law};
 use view_drawing::DrawingRoom;
 
@@ -59,27 +59,38 @@ impl Canvas {
     }
 
     /// Executes a frame's first commands, draws its views, and executes its last commands.
-    fn step<R: Threads + Sync>(&mut self, rt: &R, frame: &Frame) -> Result<(), AllocError>
+    fn step<D: Rasterizer>(&mut self, rasterizer: &mut D, frame: &Frame) -> Result<(), AllocError>
         ensures { OnOk result (stores_seen self.new.stores ≡ frame_by_index (stores_seen self.old.stores) (frame_seen frame.now)) }
     {
         execute_all(self.alloc, &mut self.stores, &frame.payloads, &frame.pre)?;
-        draw_views(self.alloc, rt, &mut self.stores, frame, &mut self.room)?;
+        draw_views(
+            self.alloc,
+            rasterizer,
+            &mut self.stores,
+            frame,
+            &mut self.room,
+        )?;
         execute_all(self.alloc, &mut self.stores, &frame.payloads, &frame.post)?;
         Ok(())
     }
 
     /// Draws a frame, and writes the text of its picture.
-    fn draw<R: Threads + Sync>(&mut self, rt: &R, frame: &Frame) -> Result<(), AllocError>
+    fn draw<D: Rasterizer>(&mut self, rasterizer: &mut D, frame: &Frame) -> Result<(), AllocError>
         ensures stores { OnOk result (stores_seen self.new.stores ≡ frame_by_index (stores_seen self.old.stores) (frame_seen frame.now)) }
         ensures text { OnOk result (self.new.text.text.items ≡ picture_text (stores_seen self.new.stores).back.color) }
     {
-        self.step(rt, frame)?;
+        self.step(rasterizer, frame)?;
         self.text.write(&self.stores.back.color)?;
         Ok(())
     }
 
     /// Draws a frame, and puts its picture.
-    fn show<R: Threads + Sync, P: Sink>(&mut self, rt: &R, sink: &mut P, frame: &Frame) -> Outcome
+    fn show<D: Rasterizer, P: Sink>(
+        &mut self,
+        rasterizer: &mut D,
+        sink: &mut P,
+        frame: &Frame,
+    ) -> Outcome
         ensures stores { StoresAfter result (stores_seen self.old.stores) (frame_seen frame.now) (stores_seen self.new.stores) }
         ensures held { HeldAfter result (picture_text (stores_seen self.new.stores).back.color) (P.held sink.old) (P.held sink.new) }
         ensures tally { TallyAfter result (picture_text (stores_seen self.new.stores).back.color) (P.tally sink.old) (P.tally sink.new) }
@@ -88,7 +99,7 @@ impl Canvas {
         ensures sure { P.sure sink.new ≡ P.sure sink.old }
         ensures drawn { is_skipped result ≡ false }
     {
-        if self.draw(rt, frame).is_err() {
+        if self.draw(rasterizer, frame).is_err() {
             return Outcome::OutOfMemory;
         }
         match put_all(sink, self.text.as_slice()) {
@@ -128,7 +139,7 @@ impl<P: Sink> Renderer<P> {
     }
 
     /// Draws a frame and puts its picture, where every earlier one was shown.
-    fn outcome_of<R: Threads + Sync>(&mut self, rt: &R, frame: &Frame) -> Outcome
+    fn outcome_of<D: Rasterizer>(&mut self, rasterizer: &mut D, frame: &Frame) -> Outcome
         ensures skipped { is_skipped result ≡ has_ended self.old.outcomes }
         ensures stores { StoresAfter result (stores_seen self.old.canvas.stores) (frame_seen frame.now) (stores_seen self.new.canvas.stores) }
         ensures held { HeldAfter result (picture_text (stores_seen self.new.canvas.stores).back.color) (P.held self.old.sink) (P.held self.new.sink) }
@@ -141,16 +152,16 @@ impl<P: Sink> Renderer<P> {
         if self.outcomes.has_ended() {
             return Outcome::Skipped;
         }
-        self.canvas.show(rt, &mut self.sink, frame)
+        self.canvas.show(rasterizer, &mut self.sink, frame)
     }
 
-    /// Renders a frame: executes its first commands, draws its views, executes its last commands, and puts its picture's text. The frame
-    /// comes back as it was given, with the outcome.
+    /// Renders a frame: executes its first commands, draws its views by the rasterizer, executes its last commands, and puts its picture's
+    /// text. The frame comes back as it was given, with the outcome.
     ///
     /// A frame is skipped exactly where an earlier one of this renderer was not shown; then nothing changes. After a fault of the picture, for
     /// which the sink's count of faults rose in this call, a front of the text was put; for want of memory nothing was put. Commands and items
     /// that name what is not there, or that a store or the views cannot take, are passed over.
-    pub fn render<R: Threads + Sync>(&mut self, rt: &R, frame: Frame) -> RenderedFrame
+    pub fn render<D: Rasterizer>(&mut self, rasterizer: &mut D, frame: Frame) -> RenderedFrame
         ensures frame { result.frame ≡ frame }
         ensures rendered { IsRendered (seen_by P.held P.tally P.faults P.sure self.old) result (seen_by P.held P.tally P.faults P.sure self.new) }
         // From a world to the next.
@@ -162,7 +173,7 @@ impl<P: Sink> Renderer<P> {
             → IsShown result.outcome → P.held self.new.sink ≡ with_back (P.held self.old.sink) (picture_text (frame_step w content).back.color) }
     {
         frame_law();
-        let outcome = self.outcome_of(rt, &frame);
+        let outcome = self.outcome_of(rasterizer, &frame);
         self.outcomes.add(outcome);
         RenderedFrame { frame, outcome }
     }

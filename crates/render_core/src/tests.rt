@@ -13,6 +13,7 @@ use fix_math::{Affine, Rect};
 use frame_record::{Frame, FrameLink, Outcome, collect};
 use frame_swap::{ApiEnd, RenderEnd, swap_pair};
 use gfx_words::{Handle, Info, Kind, StateWord, StencilWord};
+use int_raster::{BandRasterizer, SerialRasterizer};
 use io_edge::{MemSink, NoGate};
 use std::alloc::{AllocError, Global};
 use std::snapshot::Snapshot;
@@ -127,7 +128,7 @@ fn a_rectangle_cleared(rt: HostRuntime) -> Result<(), Fail> {
     let alloc = rt.alloc();
     let sink = MemSink::new(alloc, 64, 5, Vec::new(alloc))?;
     let mut renderer = Renderer::new(alloc, 2, 1, sink).map_err(|_| "memory")?;
-    let rendered = renderer.render(&rt, cleared(alloc)?);
+    let rendered = renderer.render(&mut SerialRasterizer, cleared(alloc)?);
     assert_eq!(rt; rendered.outcome, Outcome::Shown);
     assert_eq!(rt; rendered.frame.number, 3);
     assert_eq!(rt; renderer.into_sink().bytes(), GREEN);
@@ -141,9 +142,9 @@ fn a_fault_and_what_follows(rt: HostRuntime) -> Result<(), Fail> {
     fails.push(1u32)?;
     let sink = MemSink::new(alloc, 64, 5, fails)?;
     let mut renderer = Renderer::new(alloc, 2, 1, sink).map_err(|_| "memory")?;
-    let first = renderer.render(&rt, cleared(alloc)?);
+    let first = renderer.render(&mut SerialRasterizer, cleared(alloc)?);
     assert_eq!(rt; first.outcome, Outcome::PictureFault);
-    let second = renderer.render(&rt, empty(alloc, 4)?);
+    let second = renderer.render(&mut SerialRasterizer, empty(alloc, 4)?);
     assert_eq!(rt; second.outcome, Outcome::Skipped);
     assert_eq!(rt; second.frame.number, 4);
     assert_eq!(rt; renderer.into_sink().bytes(), b"P6\n2 ".as_slice());
@@ -160,7 +161,9 @@ fn through<R: Threads + Wait + Sync>(
 {
     let sink = MemSink::new(alloc, 64, 64, Vec::new(alloc))?;
     let renderer = Renderer::new(alloc, 2, 1, sink).map_err(|_| "memory")?;
-    let mut link = InPlaceLink::new(alloc, renderer, latency).map_err(|_| "memory")?;
+    let mut link = InPlaceLink::new(alloc, renderer, SerialRasterizer, latency).map_err(
+        |_| "memory",
+    )?;
     link.give(rt, cleared(alloc)?);
     let back = link.take_back(rt);
     let sink = link.into_renderer().into_sink();
@@ -210,7 +213,7 @@ fn beside<R: Threads + Wait + Sync>(
             let job = move || -> (Renderer<MemSink>, RenderEnd)
                 requires { ((render_knows end).taken ≡ []) × ((render_knows end).returned ≡ []) }
                 ensures { (render_table result.1 ≡ render_table end) × ((render_knows result.1).taken ≡ frames_of (render_knows result.1).returned) }
-            { renderer.run(rt, end, &NoGate) };
+            { renderer.run(rt, BandRasterizer::new(rt), end, &NoGate) };
             match scope.spawn_with(promise, job) {
                 Ok(handle) => {
                     api.give(rt, first);
@@ -395,7 +398,7 @@ fn frames_of_no_context(rt: HostRuntime) -> Result<(), Fail> {
     let mut seed = 1;
     for _ in 0..1_000 {
         seed = next(seed);
-        let rendered = renderer.render(&rt, stray_frame(alloc, seed, words)?);
+        let rendered = renderer.render(&mut SerialRasterizer, stray_frame(alloc, seed, words)?);
         assert_eq!(rt; rendered.outcome, Outcome::Shown);
     }
     assert_eq!(rt; renderer.into_sink().bytes().len(), 35_000);

@@ -13,14 +13,14 @@ ghost use Rattle.render_core.specs.Seen.{frame_seen};
 use crate::lists::Lists;
 use draw_encoder::BlitItem;
 use frame_record::{Frame, end_of_blits, end_of_run};
+use int_raster::Rasterizer;
 use render_stores::RenderStores;
 use std::alloc::{AllocError, Global};
-use std::thread::Threads;
 use view_drawing::{DrawingRoom, Recorded, enter_view};
 
 /// Enters a view with its blits and items, where it has an item.
-fn enter_where<R: Threads + Sync>(
-    rt: &R,
+fn enter_where<D: Rasterizer>(
+    rasterizer: &mut D,
     stores: &mut RenderStores,
     frame: &Frame,
     view: u16,
@@ -37,7 +37,7 @@ fn enter_where<R: Threads + Sync>(
     match frame.views.get(view) {
         Some(settings) => {
             if is_entered {
-                enter_view(rt, stores, settings, blits, items, room)?;
+                enter_view(rasterizer, stores, settings, blits, items, room)?;
             }
             Ok(())
         }
@@ -83,8 +83,8 @@ fn next_part<'a, 'x>(
     }
 }
 
-fn enter_views<R: Threads + Sync>(
-    rt: &R,
+fn enter_views<D: Rasterizer>(
+    rasterizer: &mut D,
     stores: &mut RenderStores,
     frame: &Frame,
     lists: &Lists<'_>,
@@ -100,7 +100,7 @@ fn enter_views<R: Threads + Sync>(
         let view = frame.views.view_at(position);
         let part = next_part(frame, lists, view, position, drawn, copied);
         enter_where(
-            rt,
+            rasterizer,
             stores,
             frame,
             view,
@@ -116,9 +116,9 @@ fn enter_views<R: Threads + Sync>(
 }
 
 /// Draws each view that has an item, in the order of the views.
-pub(crate) fn draw_views<R: Threads + Sync>(
+pub(crate) fn draw_views<D: Rasterizer>(
     alloc: Global,
-    rt: &R,
+    rasterizer: &mut D,
     stores: &mut RenderStores,
     frame: &Frame,
     room: &mut DrawingRoom,
@@ -126,5 +126,5 @@ pub(crate) fn draw_views<R: Threads + Sync>(
     ensures { let f = frame_seen frame.now in OnOk result (stores_seen stores.new ≡ fold (enter_by_index f.views f.items f.ordered) (stores_seen stores.old) (entered_by_index f)) }
 {
     let lists = Lists::of_frame(alloc, frame)?;
-    enter_views(rt, stores, frame, &lists, room)
+    enter_views(rasterizer, stores, frame, &lists, room)
 }

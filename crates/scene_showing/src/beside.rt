@@ -13,7 +13,7 @@ ghost use Rattle.scene_showing.specs.Rendered.{AreShown};
 use crate::rendered::Rendered;
 use frame_swap::{ApiEnd, RenderEnd};
 use io_edge::{Gate, Sink};
-use render_core::Renderer;
+use render_core::{BandRasterizer, Renderer};
 use scene_playing::{Played, play_frames};
 use scene_text::Scene;
 use std::alloc::Global;
@@ -66,7 +66,7 @@ pub(crate) fn render_beside<P: Sink + Send + Drop, R: Threads + Wait + Sync, G: 
             let job = move || -> (Renderer<P>, RenderEnd)
                 requires { (render_knows end).taken ≡ frames_of (render_knows end).returned }
                 ensures { IsRun (seen_by P.held P.tally P.faults P.sure renderer) end (seen_by P.held P.tally P.faults P.sure result.0) result.1 }
-            { renderer.run(rt, end, gate) };
+            { renderer.run(rt, BandRasterizer::new(rt), end, gate) };
             match scope.spawn_with(promise, job) {
                 Ok(handle) => {
                     let played = play_frames(rt, gate, alloc, None, scene, api);

@@ -10,7 +10,7 @@ ghost use Rattle.scene_showing.specs.Rendered.{AreShown};
 
 use crate::rendered::Rendered;
 use io_edge::{Gate, Sink};
-use render_core::{InPlaceLink, Renderer};
+use render_core::{BandRasterizer, InPlaceLink, Renderer};
 use scene_playing::{Played, play_frames};
 use scene_text::{Journal, Scene};
 use std::alloc::Global;
@@ -33,7 +33,7 @@ pub(crate) fn render_in_place<P: Sink + Drop, R: Threads + Wait + Sync, G: Gate 
     ensures follows { IfOk result (λ r. Follows (order_seen order.entry) (journal_seen r.journal)) }
     ensures refused { IfErr result (λ r. r ≡ renderer) }
 {
-    let link = InPlaceLink::new(alloc, renderer, scene.latency)?;
+    let link = InPlaceLink::new(alloc, renderer, BandRasterizer::new(rt), scene.latency)?;
     let played = play_frames(rt, gate, alloc, order, scene, link);
     let Played {
         link,

@@ -321,16 +321,35 @@ fn the_first_scene_is_written(rt: HostRuntime) -> Result<(), Fail> {
     Ok(())
 }
 
+/// A text with the plain room behind its first three lines, 28 bytes, as a scene without a room is written.
+fn with_room(alloc: Global, text: &[u8]) -> Result<Vec<u8>, AllocError> {
+    let at = text.len().min(28);
+    let mut wanted = Vec::from_slice(alloc, &text[..at])?;
+    wanted.extend_from_slice(b"room 8191 262144 4096\n")?;
+    wanted.extend_from_slice(&text[at..])?;
+    Ok(wanted)
+}
+
 #[test]
 fn every_form_is_written_as_it_is_read(rt: HostRuntime) -> Result<(), Fail> {
     let alloc = rt.alloc();
     let text = changed(alloc, 6, CREATES)?;
     let scene = read_small(alloc, &text)?;
-    let first = write(alloc, &scene)?;
-    let again = read_small(alloc, &first)?;
-    let second = write(alloc, &again)?;
-    assert_eq!(rt; first.len(), text.len() + 22);
-    assert_eq!(rt; first.as_slice(), second.as_slice());
+    let written = write(alloc, &scene)?;
+    let wanted = with_room(alloc, &text)?;
+    assert_eq!(rt; written.as_slice(), wanted.as_slice());
+    Ok(())
+}
+
+static TWO_FRAMES: &[u8] =
+    b"scene 2\nsize 3 4\nencoders 2\nroom 10 20 30\nlatency 2\nframe\nview 511 clear 3 01020304 5 0\nencoder 0\ntouch 0\nencoder 1\ntouch 511\nbeside\nview 0 clear 1 ff0000ff 0 0\nframe\nencoder 1\ntouch 1\ndone\n";
+
+#[test]
+fn two_frames_are_written_as_they_are_read(rt: HostRuntime) -> Result<(), Fail> {
+    let alloc = rt.alloc();
+    let scene = read_small(alloc, TWO_FRAMES)?;
+    let written = write(alloc, &scene)?;
+    assert_eq!(rt; written.as_slice(), TWO_FRAMES);
     Ok(())
 }
 

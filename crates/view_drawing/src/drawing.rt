@@ -13,17 +13,16 @@ use crate::preparing::Stage;
 use crate::room::DrawingRoom;
 use buffer_store::BufferStore;
 use gfx_words::Handle;
-use int_raster::{DrawList, Surface, draw_bands};
+use int_raster::{DrawList, Rasterizer, Surface};
 use render_stores::RenderStores;
 use std::alloc::AllocError;
-use std::thread::Threads;
 use store_model::put_back_law;
 use view_table::View;
 
-/// Makes the draws of items on a surface of the stage's sides, in bands where their work is worth it, and gives their values.
+/// Makes the draws of items on a surface of the stage's sides, and gives their values.
 /// Where memory is wanting, nothing is drawn.
-fn draw_surface<R: Threads + Sync>(
-    rt: &R,
+fn draw_surface<D: Rasterizer>(
+    rasterizer: &mut D,
     surface: &mut Surface,
     stage: &Stage<'_>,
     buffers: &mut BufferStore,
@@ -39,8 +38,7 @@ fn draw_surface<R: Threads + Sync>(
 {
     let mut list = DrawList::with_room(room.alloc, room.take_list());
     do_items(stage, buffers, items, &mut list, room)?;
-    let bands = room.processors.bands(rt, room.pixels);
-    draw_bands(rt, surface, &list, bands);
+    rasterizer.draw(surface, &list);
     room.list = list.into_room();
     Ok(())
 }
@@ -55,8 +53,8 @@ fn give_all(buffers: &mut BufferStore, items: &[Recorded<'_>])
 }
 
 /// Makes the draws of a view on a frame buffer's textures, where they can be taken out.
-fn draw_target<R: Threads + Sync>(
-    rt: &R,
+fn draw_target<D: Rasterizer>(
+    rasterizer: &mut D,
     stores: &mut RenderStores,
     target: Handle,
     view: &View,
@@ -83,7 +81,14 @@ fn draw_target<R: Threads + Sync>(
                 width: surface.color.width,
                 height: surface.color.height,
             };
-            let done = draw_surface(rt, &mut surface, &stage, &mut stores.buffers, items, room);
+            let done = draw_surface(
+                rasterizer,
+                &mut surface,
+                &stage,
+                &mut stores.buffers,
+                items,
+                room,
+            );
             stores
                 .textures
                 .put_target(target.index(), surface.color, surface.depth);
@@ -93,8 +98,8 @@ fn draw_target<R: Threads + Sync>(
 }
 
 /// Makes the draws of a view on the back buffer.
-fn draw_back<R: Threads + Sync>(
-    rt: &R,
+fn draw_back<D: Rasterizer>(
+    rasterizer: &mut D,
     stores: &mut RenderStores,
     view: &View,
     items: &[Recorded<'_>],
@@ -112,7 +117,7 @@ fn draw_back<R: Threads + Sync>(
         height: stores.back.color.height,
     };
     let done = draw_surface(
-        rt,
+        rasterizer,
         &mut stores.back,
         &stage,
         &mut stores.buffers,
@@ -123,8 +128,8 @@ fn draw_back<R: Threads + Sync>(
 }
 
 /// Makes the draws and touches of a view on its target.
-pub(crate) fn draw_listed<R: Threads + Sync>(
-    rt: &R,
+pub(crate) fn draw_listed<D: Rasterizer>(
+    rasterizer: &mut D,
     stores: &mut RenderStores,
     view: &View,
     items: &[Recorded<'_>],
@@ -134,7 +139,7 @@ pub(crate) fn draw_listed<R: Threads + Sync>(
     ensures begun { OnErr result (HaveGiven (map recorded_seen items.now) (stores_seen stores.old) (stores_seen stores.new)) }
 {
     match view.target {
-        Some(target) => draw_target(rt, stores, target, view, items, room),
-        None => draw_back(rt, stores, view, items, room),
+        Some(target) => draw_target(rasterizer, stores, target, view, items, room),
+        None => draw_back(rasterizer, stores, view, items, room),
     }
 }

@@ -15,15 +15,15 @@ use crate::items::Recorded;
 use crate::room::DrawingRoom;
 use crate::targets::clear_target;
 use draw_encoder::BlitItem;
+use int_raster::Rasterizer;
 use render_stores::RenderStores;
 use std::alloc::AllocError;
-use std::thread::Threads;
 use store_laws::list_law;
 use view_table::View;
 
 /// Does draws and touches in order; their target is taken out once.
-fn draw_items<R: Threads + Sync>(
-    rt: &R,
+fn draw_items<D: Rasterizer>(
+    rasterizer: &mut D,
     stores: &mut RenderStores,
     view: &View,
     items: &[Recorded<'_>],
@@ -35,15 +35,15 @@ fn draw_items<R: Threads + Sync>(
 {
     stores.textures.tell_facts();
     list_law();
-    draw_listed(rt, stores, view, items, room)
+    draw_listed(rasterizer, stores, view, items, room)
 }
 
 /// Enters a view: clears its rectangle of its target, then copies its blits, then does its draws and touches, each in
-/// the order of its list. No item of the second list is a blit. Only want of memory refuses; then the clear is done, some
+/// the order of its list; the rasterizer makes the draws. No item of the second list is a blit. Only want of memory refuses; then the clear is done, some
 /// of the first blits, and the values of some of the first items, and nothing is drawn. The target is in its place in
 /// either case.
-pub fn enter_view<R: Threads + Sync>(
-    rt: &R,
+pub fn enter_view<D: Rasterizer>(
+    rasterizer: &mut D,
     stores: &mut RenderStores,
     view: &View,
     blits: &[BlitItem],
@@ -56,5 +56,5 @@ pub fn enter_view<R: Threads + Sync>(
 {
     clear_target(stores, view);
     blit_all(&mut stores.textures, blits)?;
-    draw_items(rt, stores, view, items, room)
+    draw_items(rasterizer, stores, view, items, room)
 }

@@ -1,7 +1,6 @@
 //! What entering a view does: its clear, its blits, and its draws and touches, each made on the stores of a renderer.
 #![tactic(auto)]
 
-mod bands;
 mod blits;
 mod clearing;
 mod drawing;

@@ -15,7 +15,6 @@ ghost use Rattle.draw_encoder.specs.Seen.{draw_seen, vertices_seen, indices_seen
 ghost use Rattle.view_drawing.specs.Shapes.{placed_by, kept_of, IsFrontOf};
 ghost use Rattle.view_drawing.specs.Prepared.{AddsTo};
 
-use crate::bands::covered_by;
 use crate::paints::paint_of;
 use crate::ranges::{indices_of, vertices_of};
 use crate::room::DrawingRoom;
@@ -102,9 +101,6 @@ fn add_painted<'x>(
     };
     shape_draw(room, buffers, recorded, draw, &placement)?;
     let cut = draw_cut(rect, stage.view.scissor, draw.scissor);
-    room.pixels = room
-        .pixels
-        .saturating_add(covered_by(&room.triangles, &cut));
     let prepared = Prepared {
         cut,
         state: draw.state,

@@ -10,11 +10,11 @@ use fix_math::{Affine, Rect};
 use gfx_words::{
     Format, Handle, Info, Kind, ProgramKind, StateWord, StencilWord, UniformKind, UniformValue,
 };
+use int_raster::{BandRasterizer, SerialRasterizer};
 use render_stores::RenderStores;
 use std::alloc::{AllocError, Global};
 use std::process::Abort;
 use std::test::Fail;
-use std::thread::Threads;
 use texture_store::TexelSource;
 use vertex_layout::{Attr, AttrType, LayoutBuilder};
 use view_table::{Clear, View};
@@ -106,8 +106,7 @@ fn draw<R: Abort>(rt: &R, word: u64, stencil: u32, program: u16) -> DrawItem
 }
 
 // Two draws of a view on a back buffer of some width, and its colours.
-fn enter_two<R: Threads + Sync>(
-    rt: &R,
+fn enter_two(
     alloc: Global,
     sides: (u16, u16),
     view: &View,
@@ -134,7 +133,14 @@ fn enter_two<R: Threads + Sync>(
         },
     ];
     let mut room = DrawingRoom::new(alloc);
-    enter_view(rt, &mut stores, view, &[], &items, &mut room)?;
+    enter_view(
+        &mut SerialRasterizer,
+        &mut stores,
+        view,
+        &[],
+        &items,
+        &mut room,
+    )?;
     Ok(stores)
 }
 
@@ -161,7 +167,14 @@ fn a_clear_stays_within_the_rectangle(rt: HostRuntime) -> Result<(), Fail> {
         item: &touch,
     }];
     let mut room = DrawingRoom::new(rt.alloc());
-    enter_view(&rt, &mut stores, &view, &[], &items, &mut room)?;
+    enter_view(
+        &mut SerialRasterizer,
+        &mut stores,
+        &view,
+        &[],
+        &items,
+        &mut room,
+    )?;
     assert_eq!(rt;
         stores.back.color.texels.as_slice(),
         [[0, 0, 0, 0], [0, 255, 0, 255]].as_slice()
@@ -178,7 +191,7 @@ fn a_value_stays_for_the_next_draw(rt: HostRuntime) -> Result<(), Fail> {
     second.scissor = pixel(1);
     second.values = 0;
     let view = View::plain();
-    let stores = enter_two(&rt, rt.alloc(), (3, 1), &view, first, second)?;
+    let stores = enter_two(rt.alloc(), (3, 1), &view, first, second)?;
     assert_eq!(rt;
         stores.back.color.texels.as_slice(),
         [GREY, GREY, [0; 4]].as_slice()
@@ -193,7 +206,7 @@ fn a_view_has_a_scissor_too(rt: HostRuntime) -> Result<(), Fail> {
     second.scissor = pixel(1);
     let mut view = View::plain();
     view.scissor = pixel(1);
-    let stores = enter_two(&rt, rt.alloc(), (3, 1), &view, first, second)?;
+    let stores = enter_two(rt.alloc(), (3, 1), &view, first, second)?;
     assert_eq!(rt;
         stores.back.color.texels.as_slice(),
         [[0; 4], GREY, [0; 4]].as_slice()
@@ -209,7 +222,7 @@ fn indices_past_the_end_draw_nothing(rt: HostRuntime) -> Result<(), Fail> {
     second.scissor = pixel(1);
     second.indices = IndexSet::Transient { at: 62, length: 6 };
     let view = View::plain();
-    let stores = enter_two(&rt, rt.alloc(), (2, 1), &view, first, second)?;
+    let stores = enter_two(rt.alloc(), (2, 1), &view, first, second)?;
     assert_eq!(rt;
         stores.back.color.texels.as_slice(),
         [GREY, [0; 4]].as_slice()
@@ -234,7 +247,7 @@ fn every_second_triangle_of_a_strip_is_turned(rt: HostRuntime) -> Result<(), Fai
         length: 16,
     };
     let view = View::plain();
-    let stores = enter_two(&rt, rt.alloc(), (2, 2), &view, first, second)?;
+    let stores = enter_two(rt.alloc(), (2, 2), &view, first, second)?;
     assert_eq!(rt; stores.back.color.texels.as_slice(), [GREY; 4].as_slice());
     Ok(())
 }
@@ -252,7 +265,7 @@ fn a_failed_stencil_test_stores_no_depth(rt: HostRuntime) -> Result<(), Fail> {
         depth: 16_777_215,
         stencil: 0,
     };
-    let stores = enter_two(&rt, rt.alloc(), (1, 1), &view, first, second)?;
+    let stores = enter_two(rt.alloc(), (1, 1), &view, first, second)?;
     assert_eq!(rt; stores.back.color.texels.as_slice(), [GREY].as_slice());
     Ok(())
 }
@@ -317,7 +330,15 @@ fn blits_and_a_sample_of_the_own_target(rt: HostRuntime) -> Result<(), Fail> {
         copy,
     }];
     let mut room = DrawingRoom::new(rt.alloc());
-    enter_view(&rt, &mut stores, &view, &blits, &items, &mut room)?;
+    let mut rasterizer = BandRasterizer::new(&rt);
+    enter_view(
+        &mut rasterizer,
+        &mut stores,
+        &view,
+        &blits,
+        &items,
+        &mut room,
+    )?;
     let row = [[16, 16, 16, 255], [16, 16, 16, 255], [32, 32, 32, 255]];
     let Some(copied) = stores.textures.texels_of(0) else {
         return Err("no texture".into());
@@ -352,7 +373,14 @@ fn a_count_far_past_the_end(rt: HostRuntime) -> Result<(), Fail> {
     }];
     let view = View::plain();
     let mut room = DrawingRoom::new(rt.alloc());
-    enter_view(&rt, &mut stores, &view, &[], &items, &mut room)?;
+    enter_view(
+        &mut SerialRasterizer,
+        &mut stores,
+        &view,
+        &[],
+        &items,
+        &mut room,
+    )?;
     assert_eq!(rt; stores.back.color.texels.as_slice(), [GREY].as_slice());
     Ok(())
 }

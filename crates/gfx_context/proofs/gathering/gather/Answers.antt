@@ -1,16 +1,21 @@
-use Rattle.std.proofs.Common.{sym, subst, ap, ◌∙◌, ◌++◌, ◌∷◌, []}
-use Rattle.hold_table.specs.Seats.{api_view}
-use Rattle.gfx_context.specs.Gathered.{AreGathered}
-use Rattle.gfx_context.proofs.Gathers.{gathered_more}
+use Rattle.std.proofs.Common.{ℕ, sym, subst}
+use Rattle.hold_table.specs.Seats.{enc_view}
+use Rattle.hold_table.specs.declared.table.EncSeat.{EncSeat}
+use Rattle.draw_encoder.specs.Bundles.{BelongTogether}
+use Rattle.draw_encoder.specs.declared.items.Recording.{Recording}
+use Rattle.context_core.specs.Ended.{Gathers}
+use Rattle.gfx_context.proofs.Gathers.{one_more}
 use Rattle.gfx_context.proofs.gathering.gather.Goals as goal
 
-pub returns-clause-gathered : goal.returns-clause-gathered
-returns-clause-gathered g c = λ begun a.
-    let was = c.part-recording.ensures in
-    let r = c.part-recording.result.0 in
-    subst (AreGathered g.C.Naming.admits g.C.Naming.views (api_view c.join.new.api) begun) (sym c.push_reserved.ensures.items)
-    (gathered_more g.C.Naming.admits g.C.Naming.views (api_view c.args.api.now) (api_view c.join.new.api) r c.part-recording.result.1 c.join.ensures.api was.together c.join.ensures.frame c.join.ensures.was_off c.join.ensures.named was.admitted
-    c.join.ensures.distinct c.join.ensures.most begun c.args.gathered.now.items a)
+pub gather-requires-clause-together : goal.gather-requires-clause-together
+gather-requires-clause-together g c =
+    let p = c.part-recording in
+    subst (λ (n : ℕ). BelongTogether n p.result.0 p.result.1) (sym c.requires.views) p.ensures.together
 
-pub returns-clause-kept : goal.returns-clause-kept
-returns-clause-kept g c = c.push_reserved.ensures.items ∙ ap (λ b. c.args.gathered.now.items ++ b.0 ∷ []) c.part-recording.ensures.same
+pub returns-clause-gathers : goal.returns-clause-gathers
+returns-clause-gathers g c = subst (λ (b : Recording × EncSeat). Gathers b.0 (enc_view b.1) c.args.core.now c.gather.new.self) c.part-recording.ensures.same c.gather.ensures
+
+pub returns-clause-admitted : goal.returns-clause-admitted
+returns-clause-admitted g c =
+    let p = c.part-recording in
+    one_more g.C.Naming.admits p.result.0 (enc_view p.result.1) c.args.core.now c.gather.new.self c.gather.ensures c.requires.admitted p.ensures.admitted

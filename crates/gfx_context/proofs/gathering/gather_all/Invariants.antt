@@ -1,15 +1,18 @@
-use Rattle.std.proofs.Common.{◌≡◌, ◌+◌, ◌++◌, List, vec_len, vec_capacity}
+use Rattle.std.proofs.Common.{◌≡◌, ◌+◌, ◌++◌, List, length}
+use Rattle.gfx_model.specs.Views.{view_count}
 use Rattle.draw_encoder.specs.declared.items.Recording.{Recording}
-use Rattle.hold_table.specs.Seats.{api_table, api_view}
-use Rattle.gfx_context.specs.Gathered.{AreGathered, with_gathered}
+use Rattle.context_core.specs.Gathered.{with_gathered}
+use Rattle.gfx_context.specs.Kept.{AreAdmitted}
+use Rattle.gfx_context.proofs.Gathers.{with_seat}
 use Rattle.gfx_context.proofs.gathering.gather_all.Given as goal
 
 abbrev pub invariant-loop-i : goal.invariant-loop-i
 invariant-loop-i g l = record {
-  table : api_table l.api ≡ g.C.Naming.table;
-  room : vec_capacity l.gathered ≡ vec_capacity l.initial.gathered;
-  long : vec_len l.gathered ≡ vec_len l.initial.gathered + l.i;
-  kept : (more : List Recording) × (l.gathered.items ≡ l.initial.gathered.items ++ more);
-  same : api_view l.api ≡ with_gathered (api_view l.api) (api_view l.initial.api);
-  gathered : AreGathered g.C.Naming.admits g.C.Naming.views (api_view l.api) l.begun l.gathered.items;
+  table : l.core.table ≡ g.C.Naming.table;
+  views : view_count l.core.state.book.resources.views ≡ g.C.Naming.views;
+  left : length l.core.state.seat.off + l.i ≡ length l.initial.core.state.seat.off;
+  kept : (more : List Recording) × (l.core.state.gathered ≡ l.initial.core.state.gathered ++ more);
+  seat : l.core.state.seat ≡ with_gathered l.core.state.seat l.initial.core.state.seat;
+  same : l.core ≡ with_seat l.initial.core l.core;
+  admitted : AreAdmitted g.C.Naming.admits l.core.state.gathered;
 }

@@ -37,4 +37,4 @@ returns c sets s ew eh =
     (ap (map (facing_shown d.front d.back)) c.in_ok-shape_draw.ensures
     ∙ (λ i. map (facing_shown d.front d.back) (kept_of (cull_of d.state) (triangles_of (primitive_of d.state) (map (option_and_then (place d.model view.transform (c.view_rect-rect.ensures i))) vs))))
     ∙ facings_kept view rect d vs)
-    ∙ draw_added s old new (record { cut = cut; state = d.state; paint = paint; facings = facings }) (rw c.deref-2.ensures.value at c.in_ok-push.ensures.ok)
+    ∙ draw_added s old new (record { cut = cut; state = d.state; paint = paint; facings = facings }) (rw c.deref.ensures.value at c.in_ok-push.ensures.ok)

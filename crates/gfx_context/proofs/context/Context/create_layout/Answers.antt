@@ -1,25 +1,10 @@
-use Rattle.std.proofs.Common.{rules}
 use Rattle.gfx_model.specs.Resources.{create_layout}
-use Rattle.hold_table.specs.Seats.{api_view}
-use Rattle.gfx_context.proofs.Created.{make_layout, place_was_free, serial_is_new, kept_after, makes_after}
+use Rattle.gfx_context.proofs.Linked.{linked_creates}
+use Rattle.gfx_context.proofs.Lifted.{creates_told}
 use Rattle.gfx_context.proofs.context.Context.create_layout.Goals as goal
 
-pub mark_live-requires-clause-place : goal.mark_live-requires-clause-place
-mark_live-requires-clause-place g c =
-    let h = c.in_ok-handle.ensures.answer in
-    λ _. place_was_free (make_layout c.self.inside.book.resources c.in_ok-handle.handle c.args.layout h.0 h.1) (api_view c.self.inside.api) c.tell_facts.ensures c.self.invariant.4.tied
-
-pub mark_live-requires-clause-serial : goal.mark_live-requires-clause-serial
-mark_live-requires-clause-serial g c =
-    let h = c.in_ok-handle.ensures.answer in
-    λ _. serial_is_new (make_layout c.self.inside.book.resources c.in_ok-handle.handle c.args.layout h.0 h.1) (api_view c.self.inside.api) c.self.invariant.4.tied
-
-pub invariant_of-self-2 : goal.invariant_of-self-2
-invariant_of-self-2 g c =
-    let h = c.in_ok-handle.ensures.answer in
-    (search rules, search rules, search rules, search rules, kept_after c.self.invariant.4 c.tell_facts.ensures (create_layout c.args.layout) (make_layout c.self.inside.book.resources c.in_ok-handle.handle c.args.layout h.0 h.1) c.create_layout.new.self (api_view c.mark_live.new.api) h.2 c.mark_live.ensures.api)
+pub invariant_of-self : goal.invariant_of-self
+invariant_of-self g c = linked_creates c.self.invariant c.create_layout.new.self (create_layout c.args.layout) c.create_layout.result c.create_layout.ensures.answer c.create_layout.ensures.stays
 
 pub returns : goal.returns
-returns g c =
-    let h = c.in_ok-handle.ensures.answer in
-    makes_after c.self.invariant.4 c.tell_facts.ensures (create_layout c.args.layout) (make_layout c.self.inside.book.resources c.in_ok-handle.handle c.args.layout h.0 h.1) c.create_layout.new.self (api_view c.mark_live.new.api) h.2 c.mark_live.ensures.api h.0 h.1 _ c.self.view_is
+returns g c = creates_told (g.L.FrameLink.given c.self.inside.link) (g.L.FrameLink.back c.self.inside.link) c.self.inside.link c.self.inside.core c.create_layout.new.self (create_layout c.args.layout) c.create_layout.result c.create_layout.ensures.answer _ c.self.view_is

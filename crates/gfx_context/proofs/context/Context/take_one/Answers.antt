@@ -1,20 +1,14 @@
-use Rattle.std.proofs.Common.{rules, ◌-◌, ◌<◌, sym, subst, refl, arith}
+use Rattle.std.proofs.Common.{◌<◌, sym, subst, refl}
 use Rattle.gfx_context.specs.States.{ContextView}
 use Rattle.gfx_context.specs.Ended.{IsBack, note_of}
-use Rattle.gfx_context.proofs.Ends.{kept_back}
+use Rattle.gfx_context.proofs.Linked.{linked_back}
 use Rattle.gfx_context.proofs.context.Context.take_one.Goals as goal
 
 pub invariant_of-self : goal.invariant_of-self
 invariant_of-self g c =
     let back = c.take_back-back.ensures in
-    let some : 0 < c.self.inside.out = subst (λ (o : ContextView g.row.L.Denot). 0 < o.out) (sym c.self.view_is) c.requires in (
-      search rules,
-      search rules,
-      search rules,
-      search rules,
-      kept_back g.C.Naming.admits g.C.Naming.views _ c.self.invariant.4 (c.self.inside.out - 1) (g.L.FrameLink.given c.take_back-back.new.self) (g.L.FrameLink.back c.take_back-back.new.self)
-          c.take_back-back.result (omega (arith, some)) back.given back.back c.take_back-back.new.self,
-    )
+    let some : 0 < c.self.inside.core.state.out = subst (λ (o : ContextView g.row.L.Denot). 0 < o.out) (sym c.self.view_is) c.requires in
+    linked_back c.self.invariant c.came_back.new.self (g.L.FrameLink.given c.take_back-back.new.self) (g.L.FrameLink.back c.take_back-back.new.self) c.take_back-back.result (g.L.FrameLink.latency c.take_back-back.new.self) back.latency some c.came_back.ensures back.given back.back
 
 pub returns-clause-back : goal.returns-clause-back
 returns-clause-back g c =

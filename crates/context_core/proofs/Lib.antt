@@ -1,0 +1,16 @@
+pub mod Stays
+pub mod Moves
+pub mod Tied
+pub mod Created
+pub mod Died
+pub mod Same
+pub mod Dropped
+pub mod Dead
+pub mod Gathers
+pub mod Ends
+pub mod Openings
+pub mod Uniforms
+pub mod Frames
+pub mod Targets
+pub mod ItemLaws
+pub mod Attached

@@ -1,0 +1,11 @@
+use Rattle.gfx_model.specs.Resources.{set_view_order}
+use Rattle.hold_table.specs.Seats.{api_table, api_view}
+use Rattle.context_core.proofs.Same.{kept_changes, changes_told, quiet_set_view_order}
+use Rattle.context_core.proofs.context.ContextCore.set_view_order.Goals as goal
+
+pub invariant_of-self : goal.invariant_of-self
+invariant_of-self c =
+    (c.self.invariant.0, c.self.invariant.1, kept_changes c.self.invariant.2 (set_view_order c.args.ids.now) (quiet_set_view_order (api_view c.self.inside.api) c.self.inside.book.resources c.args.ids.now) c.set_view_order.new.self c.set_view_order.result c.set_view_order.ensures)
+
+pub returns : goal.returns
+returns c = changes_told c.self.invariant.2 (set_view_order c.args.ids.now) (quiet_set_view_order (api_view c.self.inside.api) c.self.inside.book.resources c.args.ids.now) c.set_view_order.new.self (api_table c.self.inside.api) c.set_view_order.result c.set_view_order.ensures _ c.self.view_is

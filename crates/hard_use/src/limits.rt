@@ -1,0 +1,166 @@
+// Calls on things and views at their greatest numbers and one past them, by whoever answers them.
+ghost use Rattle.std.specs.Prelude.{◌≡◌, ◌≤◌, length};
+
+use gfx_context::TexSource;
+use gfx_words::{Format, Handle, ProgramKind, Refusal, UniformKind};
+use resource_book::ResourceCalls;
+use vertex_layout::VertexLayout;
+
+// How many creates of a kind were accepted, up to the first that was refused, and its refusal.
+pub type Made = (u32, Option<Refusal>);
+
+const LEAST: TexSource = TexSource::Fill([0; 4]);
+
+pub fn layouts<B: ResourceCalls>(calls: &mut B, layout: VertexLayout) -> Made {
+    for made in 0..65u32 {
+        if let Err(refusal) = calls.create_layout(layout) {
+            return (made, Some(refusal));
+        }
+    }
+    (65, None)
+}
+
+pub fn vertex_buffers<B: ResourceCalls>(calls: &mut B, layout: Handle) -> Made {
+    for made in 0..1025u32 {
+        if let Err(refusal) = calls.create_vertex_buffer(layout, &[0]) {
+            return (made, Some(refusal));
+        }
+    }
+    (1025, None)
+}
+
+pub fn index_buffers<B: ResourceCalls>(calls: &mut B) -> Made {
+    for made in 0..1025u32 {
+        if let Err(refusal) = calls.create_index_buffer(&[0, 0]) {
+            return (made, Some(refusal));
+        }
+    }
+    (1025, None)
+}
+
+pub fn textures<B: ResourceCalls>(calls: &mut B) -> Made {
+    for made in 0..1025u32 {
+        if let Err(refusal) = calls.create_texture(1, 1, Format::Rgba8, false, LEAST) {
+            return (made, Some(refusal));
+        }
+    }
+    (1025, None)
+}
+
+pub fn frame_buffers<B: ResourceCalls>(calls: &mut B, color: Handle) -> Made {
+    for made in 0..129u32 {
+        if let Err(refusal) = calls.create_frame_buffer(color, None) {
+            return (made, Some(refusal));
+        }
+    }
+    (129, None)
+}
+
+pub fn programs<B: ResourceCalls>(calls: &mut B) -> Made {
+    for made in 0..257u32 {
+        if let Err(refusal) = calls.create_program(ProgramKind::Solid) {
+            return (made, Some(refusal));
+        }
+    }
+    (257, None)
+}
+
+pub fn uniforms<B: ResourceCalls>(calls: &mut B) -> Made {
+    for made in 0..257u32 {
+        if let Err(refusal) = calls.create_uniform(&made.to_le_bytes(), UniformKind::Int) {
+            return (made, Some(refusal));
+        }
+    }
+    (257, None)
+}
+
+// All references of a uniform: how many creates and then destroys were accepted, and the refusals of one more of each.
+pub fn references<B: ResourceCalls>(calls: &mut B) -> Option<(Made, Made)> {
+    let uniform = calls.create_uniform(b"many", UniformKind::Vec4).ok()?;
+    let made = referred(calls);
+    Some((made, destroyed(calls, uniform)))
+}
+
+fn referred<B: ResourceCalls>(calls: &mut B) -> Made {
+    for made in 1..65_536u32 {
+        if let Err(refusal) = calls.create_uniform(b"many", UniformKind::Vec4) {
+            return (made, Some(refusal));
+        }
+    }
+    (65_536, None)
+}
+
+fn destroyed<B: ResourceCalls>(calls: &mut B, uniform: Handle) -> Made {
+    for gone in 0..65_536u32 {
+        if let Err(refusal) = calls.destroy(uniform) {
+            return (gone, Some(refusal));
+        }
+    }
+    (65_536, None)
+}
+
+// The answers to names of 32 and of 33 bytes.
+pub fn names<B: ResourceCalls>(calls: &mut B) -> [Option<Refusal>; 2] {
+    [
+        calls.create_uniform(&[97; 32], UniformKind::Int).err(),
+        calls.create_uniform(&[97; 33], UniformKind::Int).err(),
+    ]
+}
+
+// The answers to buffers of 524,288 bytes and of more, and to updates of as many that end with the buffer and one byte behind it.
+pub fn bytes<B: ResourceCalls>(
+    calls: &mut B,
+    layout: Handle,
+    most: &[u8],
+    more: &[u8],
+) -> Option<[Option<Refusal>; 4]> {
+    let vertices = calls.create_vertex_buffer(layout, most).ok()?;
+    calls.create_index_buffer(most).ok()?;
+    Some([
+        calls.create_vertex_buffer(layout, more).err(),
+        calls.create_index_buffer(more).err(),
+        calls.update_buffer(vertices, 0, most).err(),
+        calls.update_buffer(vertices, 1, most).err(),
+    ])
+}
+
+// Seven textures of 2,048 by 2,048 and one more, which is destroyed.
+fn most_texels<B: ResourceCalls>(calls: &mut B) -> Option<Refusal> {
+    for _ in 0..7u8 {
+        if let Err(refusal) = calls.create_texture(2048, 2048, Format::Rgba8, true, LEAST) {
+            return Some(refusal);
+        }
+    }
+    match calls.create_texture(2048, 2048, Format::D24S8, false, LEAST) {
+        Ok(last) => calls.destroy(last).err(),
+        Err(refusal) => Some(refusal),
+    }
+}
+
+// The refusal of textures with all texels, and those of one more texel and of sides that are too long and none.
+pub fn texels<B: ResourceCalls>(calls: &mut B) -> [Option<Refusal>; 4] {
+    [
+        most_texels(calls),
+        calls
+            .create_texture(1, 1, Format::Rgba8, false, LEAST)
+            .err(),
+        calls
+            .create_texture(2049, 1, Format::Rgba8, false, LEAST)
+            .err(),
+        calls
+            .create_texture(1, 0, Format::Rgba8, false, LEAST)
+            .err(),
+    ]
+}
+
+// The answers to what view 255 clears at the greatest numbers, to one flag, one of depth and one view more.
+pub fn clears<B: ResourceCalls>(calls: &mut B) -> [Option<Refusal>; 4] {
+    [
+        calls
+            .set_view_clear(255, 7, [255; 4], 16_777_215, 255)
+            .err(),
+        calls.set_view_clear(255, 8, [255; 4], 0, 0).err(),
+        calls.set_view_clear(255, 0, [255; 4], 16_777_216, 0).err(),
+        calls.set_view_clear(256, 0, [255; 4], 0, 0).err(),
+    ]
+}
