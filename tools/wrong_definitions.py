@@ -110,7 +110,7 @@ WRONG = [
     ("refused runs show the bytes of their note", S + "Run.antt", "refused ending line = record { ending = ending; pictures = [];", "refused ending line = record { ending = ending; pictures = line;"),
     ("make shows its pictures", S + "Run.antt", "record { ending = all_done; pictures = []; journal = drawn s;", "record { ending = all_done; pictures = pictures_text s (drawn s); journal = drawn s;"),
     ("make notes nothing", S + "Run.antt", "noted = make_note s (drawn s)", "noted = []"),
-    ("make notes a report", S + "Run.antt", "noted = make_note s (drawn s)", "noted = notes s (drawn s) false"),
+    ("make notes a report", S + "Run.antt", "noted = make_note s (drawn s)", "noted = notes s (drawn s) (nat_lt 1 0)"),
     ("made by any journal", S + "Run.antt", "IsMade count run = (j : Journal) × IsLawful (generated count) j ×", "IsMade count run = (j : Journal) × ⊤ ×"),
     ("made of one frame always", S + "Run.antt", "(run ≡ made count (λ s. j))", "(run ≡ made 1 (λ s. j))"),
     ("made with no journal", S + "Run.antt", "(run ≡ made count (λ s. j))", "(run ≡ made count (λ s. []))"),
