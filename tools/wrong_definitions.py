@@ -4,7 +4,8 @@
 usage: tools/wrong_definitions.py [NAME ..]     (from the repository's folder; by hand, not by the gate)
 
 Each entry of WRONG is a wrong definition: its name, a file, a text of that file and the text in its place. The script copies the crates of
-definitions, plants the change, runs `rt check` on scene_model (which checks gfx_model below it) and prints a line:
+definitions, plants the change, runs `rt check` on scene_model (which checks gfx_model below it), and on command_line_model above it where
+nothing below refuses, and prints a line:
 
     refused      NAME: the worked rows and laws that no longer hold
     ill-formed   NAME: the change does not elaborate, so it shows nothing; mend the entry
@@ -107,13 +108,25 @@ WRONG = [
     ("an input one byte longer", S + "Run.antt", "longest_input = 16777216", "longest_input = 16777217"),
     ("an input one byte shorter", S + "Run.antt", "longest_input = 16777216", "longest_input = 16777215"),
     ("refused runs show the bytes of their note", S + "Run.antt", "refused ending line = record { ending = ending; pictures = [];", "refused ending line = record { ending = ending; pictures = line;"),
+    ("make shows its pictures", S + "Run.antt", "record { ending = all_done; pictures = []; journal = drawn s;", "record { ending = all_done; pictures = pictures_text s (drawn s); journal = drawn s;"),
+    ("make notes nothing", S + "Run.antt", "noted = make_note s (drawn s)", "noted = []"),
+    ("make notes a report", S + "Run.antt", "noted = make_note s (drawn s)", "noted = notes s (drawn s) (nat_lt 1 0)"),
+    ("made by any journal", S + "Run.antt", "IsMade count run = (j : Journal) × IsLawful (generated count) j ×", "IsMade count run = (j : Journal) × ⊤ ×"),
+    ("made of one frame always", S + "Run.antt", "(run ≡ made count (λ s. j))", "(run ≡ made 1 (λ s. j))"),
+    ("made with no journal", S + "Run.antt", "(run ≡ made count (λ s. j))", "(run ≡ made count (λ s. []))"),
+    ("make sums the samples alone", S + "Output.antt", "decimal (sum (pictures_text s j) % 2 ^ 32)", "decimal (sum (flat_map (λ t. flat_map (take 3) t.texels) (pictures s j)) % 2 ^ 32)"),
+    ("make notes the frames for the items", S + "Output.antt", "decimal (sum_by frame_items (plans s))", "decimal (length (plans s))"),
     ("replay shows a journal with a fault", S + "Run.antt", "shown_unless with_journal s j (Some place) = unlawful place", "shown_unless with_journal s j (Some place) = shown with_journal s j"),
 ]
 
 
-def refusals(folder):
+# the crates of definitions, lowest first, as crates.txt lists them; a change is checked in the last two
+CRATES = {"gfx_model": "", "scene_model": " gfx_model", "command_line_model": " gfx_model scene_model clap"}
+
+
+def refusals(folder, crate):
     """What no longer holds in proofs, and what does not elaborate in specs."""
-    run = subprocess.run(["rt", "check"], cwd=os.path.join(folder, "crates/scene_model"), capture_output=True, text=True)
+    run = subprocess.run(["rt", "check", "--jobs", "1"], cwd=os.path.join(folder, "crates", crate), capture_output=True, text=True)
     errors = re.findall(r"\./(proofs|specs)/(\w+)\.antt:\d+:\d+: error: `([^`]*)`", run.stdout + run.stderr)
     proofs = sorted({f"{file}.{name}" for part, file, name in errors if part == "proofs"})
     specs = sorted({f"{file}.{name}" for part, file, name in errors if part == "specs"})
@@ -128,10 +141,10 @@ def main():
     failed = False
     with tempfile.TemporaryDirectory() as folder:
         os.mkdir(os.path.join(folder, "crates"))
-        for crate in ("gfx_model", "scene_model"):
+        for crate in CRATES:
             shutil.copytree(os.path.join("crates", crate), os.path.join(folder, "crates", crate))
         with open(os.path.join(folder, "crates.txt"), "w") as listed:
-            listed.write("gfx_model:\nscene_model: gfx_model\n")
+            listed.writelines(f"{crate}:{below}\n" for crate, below in CRATES.items())
         for name, path, right, wrong in WRONG:
             if wanted and not any(word in name for word in wanted):
                 continue
@@ -144,7 +157,9 @@ def main():
                 continue
             with open(planted, "w") as source:
                 source.write(text.replace(right, wrong))
-            proofs, specs = refusals(folder)
+            proofs, specs = refusals(folder, "scene_model")
+            if not proofs and not specs:
+                proofs, specs = refusals(folder, "command_line_model")
             with open(planted, "w") as source:
                 source.write(text)
             if proofs:

@@ -12,11 +12,11 @@ use Rattle.scene_model.specs.Run.{Run, Ending, all_done, words_refused, scene_re
 use Rattle.command_line_model.specs.Taken.{make, taken}
 use Rattle.command_line_model.specs.Answer.{of_command, answer}
 
-abbrev run : Ending → List ℕ → Journal → List ℕ → Run
+abbrev pub run : Ending → List ℕ → Journal → List ℕ → Run
 run ending pictures journal noted = record { ending = ending; pictures = pictures; journal = journal; noted = noted }
 
 -- one view of one pixel, cleared by a touch
-abbrev one_clear : List ℕ
+abbrev pub one_clear : List ℕ
 one_clear = codes "scene 1\nsize 1 1\nencoders 1\nframe\nview 0 clear 1 ff0000ff 0 0\nencoder 0\ntouch 0\ndone\n"
 
 abbrev one_entry : List Entry

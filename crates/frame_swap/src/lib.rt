@@ -19,4 +19,6 @@ pub use view::{
 };
 
 #[cfg(test)]
+mod field_tests;
+#[cfg(test)]
 mod tests;

@@ -70,14 +70,6 @@ whole_in n (t ∷ ts) = if nat_le (length (picture_text t)) n then suc (whole_in
 abbrev texts_in : List Texels → List ℕ
 texts_in ts = flat_map picture_text ts
 
-whole_least : (n : ℕ) (ts : List Texels) → whole_in n ts ≤ length ts
-whole_least n [] = omega arith
-whole_least n (t ∷ ts) = step (nat_le (length (picture_text t)) n) (whole_least (n - length (picture_text t)) ts)
-  where
-    step : (b : Bool) → whole_in (n - length (picture_text t)) ts ≤ length ts → (if b then suc (whole_in (n - length (picture_text t)) ts) else 0) ≤ suc (length ts)
-    step true le = omega (arith, le)
-    step false le = omega arith
-
 whole_is : (j : ℕ) (ts : List Texels) → j ≤ length ts → whole_in (length (texts_in (take j ts))) ts ≡ j
 whole_is zero [] le = refl
 whole_is zero (t ∷ ts) le = ap (λ b. if b then suc (whole_in (0 - length (picture_text t)) ts) else 0) (lt-leb (length (picture_text t)) 0 (some_text t))
@@ -93,14 +85,14 @@ whole_is (suc j) (t ∷ ts) le =
 
 module _ (old new : Option (List ℕ)) (ts : List Texels) where
   abbrev HasWhole : ℕ → Type 0
-  HasWhole j = (j ≤ length ts) × (new ≡ with_back old (texts_in (take j ts)))
+  HasWhole j = (j < length ts) × (new ≡ with_back old (texts_in (take j ts)))
 
 whole_by : (old new : Option (List ℕ)) (ts : List Texels) (j : ℕ) → HasWhole old new ts j → HasWhole old new ts (whole_in (more_held old new) ts)
-whole_by None new ts j h = (whole_least 0 ts, h.1)
+whole_by None new ts j h = (let none = whole_is 0 ts (omega arith) in omega (arith, none, h.0), h.1)
 whole_by (Some a) new ts j h =
     let text : List ℕ = texts_in (take j ts) in
     let P : Option (List ℕ) → Type 0 = λ x. HasWhole (Some a) x ts (whole_in (more_held (Some a) x) ts) in
-    let same : whole_in (more_held (Some a) (Some (a ++ text))) ts ≡ j = ap (λ n. whole_in n ts) (more_is a text) ∙ whole_is j ts h.0 in
+    let same : whole_in (more_held (Some a) (Some (a ++ text))) ts ≡ j = ap (λ n. whole_in n ts) (more_is a text) ∙ whole_is j ts (omega (arith, h.0)) in
     subst P (sym h.1) (subst (λ (m : ℕ). HasWhole (Some a) (Some (a ++ text)) ts m) (sym same) (h.0, refl))
 
 -- ---- ends

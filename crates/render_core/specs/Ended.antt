@@ -1,5 +1,5 @@
 -- What frames leave that were rendered one after another, by how they ended.
-use Rattle.std.specs.Prelude.{◌≡◌, ◌≤◌, ℕ, false, List, [], ◌∷◌, length, take, flat_map, fold, Option}
+use Rattle.std.specs.Prelude.{◌≡◌, ◌≤◌, ◌<◌, ℕ, false, List, [], ◌∷◌, length, take, flat_map, fold, Option}
 use Rattle.io_edge.specs.Edge.{with_back, counted, Rose}
 use Rattle.gfx_model.specs.Raster.{Texels}
 use Rattle.scene_model.specs.Output.{picture_text}
@@ -39,7 +39,7 @@ counted_with told [] = told
 counted_with told (b ∷ rest) = counted told (b ∷ rest)
 
 -- what rendered frames leave, by how they ended: where all were shown, the stores after them, and the texts of their pictures more, held and counted;
--- after a fault of the sink, whose count of faults rose, a front of these texts; for want of memory the whole texts of the first ones. No first end is a skip
+-- after a fault of the sink, whose count of faults rose, a front of these texts; for want of memory the whole texts of the first ones, and not of all. No first end is a skip
 abbrev pub EndsAs : Outcome → (old : Rendering) → List RenderedFrame → (new : Rendering) → Type 0
 EndsAs outcomes.Shown old rs new =
     (new.stores ≡ fold frame_by_index old.stores (frames_seen rs))
@@ -47,7 +47,7 @@ EndsAs outcomes.Shown old rs new =
     × (new.tally ≡ counted_with old.tally (texts_seen old.stores rs))
 EndsAs outcomes.PictureFault old rs new = HasFront old.held (texts_seen old.stores rs) new.held × Rose old.faults new.faults
 EndsAs outcomes.OutOfMemory old rs new =
-    (j : ℕ) × (j ≤ length rs) × (new.held ≡ with_back old.held (flat_map picture_text (take j (pictures_seen old.stores rs))))
+    (j : ℕ) × (j < length rs) × (new.held ≡ with_back old.held (flat_map picture_text (take j (pictures_seen old.stores rs))))
 EndsAs outcomes.Skipped old rs new = ⊥
 
 -- frames leave what their end says, where no frame before them had ended the run

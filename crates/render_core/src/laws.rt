@@ -10,7 +10,7 @@ pub fn shown_law()
 
 /// What frames that were rendered one after another leave, by the outcome of the first that was not shown: where all were shown, the stores
 /// after them, and the texts of their pictures held and counted more; after a fault of the sink a front of these texts, and its faults rose;
-/// for want of memory the whole texts of the first ones.
+/// for want of memory the whole texts of the first ones, and not of all.
 pub fn ended_law()
     ensures { EndedLaw }
 {}

@@ -1,8 +1,10 @@
 -- A row of commands of which the first ones are executed.
-use Rattle.std.proofs.Common.{◌≡◌, ℕ, zero, suc, List, [], ◌∷◌, ◌++◌, take, drop, refl, sym, ap, ◌∙◌}
+use Rattle.std.proofs.Common.{◌≡◌, ℕ, zero, suc, true, List, [], ◌∷◌, ◌++◌, take, drop, Some, Result, Ok, Err, OnErr, refl, sym, ap, ◌∙◌}
+use Rattle.std.specs.List.{slice_get}
 use Rattle.std.proofs.lemmas.List.Sums.{fold-append}
 use Rattle.gfx_model.specs.Commands.{Command}
 use Rattle.store_laws.specs.ByIndex.{Stores, after_command, all_commanded}
+use Rattle.render_stores.specs.Memory.{takes_memory, IsStopped}
 
 -- the stores after the first commands of a row, and the commands that are left
 abbrev pub HasBegun : List (List ℕ) → Stores → List Command → List Command → Stores → Type 0
@@ -36,3 +38,25 @@ begun_more payloads first row rest rest' now now' c b e did =
 
 pub begun_all : (payloads : List (List ℕ)) (first : Stores) (row rest : List Command) (now : Stores) → HasBegun payloads first row rest now → rest ≡ [] → now ≡ all_commanded payloads first row
 begun_all payloads first row rest now b e = b.2 ∙ ap (all_commanded payloads first) (all_of b.0 row (sym b.1 ∙ e))
+
+there_of : (n : ℕ) (xs : List Command) (x : Command) (rest : List Command) → drop n xs ≡ x ∷ rest → slice_get xs n ≡ Some x
+there_of zero [] x rest e = absurd (cc e)
+there_of zero (y ∷ ys) x rest e = let head : y ≡ x = cc e in ap Some head
+there_of (suc n) [] x rest e = absurd (cc e)
+there_of (suc n) (y ∷ ys) x rest e = there_of n ys x rest e
+
+-- what holds, holds where there is an error
+pub on_err_holds : {T E P : Type 0} (r : Result T E) → P → OnErr r P
+on_err_holds (Ok x) p = tt
+on_err_holds (Err e) p = p
+
+-- the next command takes memory, and it was not there
+pub begun_stopped : (payloads : List (List ℕ)) (first : Stores) (row rest rest' : List Command) (now now' : Stores) (c : Command) → HasBegun payloads first row rest now
+    → rest ≡ c ∷ rest' → takes_memory c ≡ true → now' ≡ now → IsStopped payloads row first now'
+begun_stopped payloads first row rest rest' now now' c b e takes kept = record {
+  before = b.0;
+  command = c;
+  there = there_of b.0 row c rest' (sym b.1 ∙ e);
+  takes = takes;
+  executed = kept ∙ b.2;
+}

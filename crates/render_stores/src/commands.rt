@@ -1,8 +1,9 @@
 // Executes the commands of a frame on the stores.
-ghost use Rattle.std.specs.Prelude.{ℕ, ◌≡◌, Some, OnOk, OnErr, option_map, take};
+ghost use Rattle.std.specs.Prelude.{◌≡◌, true, Some, OnOk, OnErr, option_map};
 ghost use Rattle.gfx_words.specs.Seen.{kind_seen, program_seen};
 ghost use Rattle.cmd_buffer.specs.Seen.{command_seen};
 ghost use Rattle.store_laws.specs.ByIndex.{after_command, all_commanded, program_made, destroyed_by};
+ghost use Rattle.render_stores.specs.Memory.{takes_memory, IsStopped};
 ghost use Rattle.render_stores.specs.Payloads.{payloads_seen};
 ghost use Rattle.render_stores.specs.Seen.{stores_seen};
 
@@ -60,7 +61,7 @@ fn destroy_where(stores: &mut RenderStores, kind: Option<Kind>, index: u16)
     }
 }
 
-/// Executes a command. Where memory is missing, it changes nothing.
+/// Executes a command. Where memory is missing, it changes nothing; that comes only of a command that takes it.
 fn execute(
     alloc: Global,
     stores: &mut RenderStores,
@@ -69,6 +70,7 @@ fn execute(
 ) -> Result<(), AllocError>
     ensures done { OnOk result (stores_seen stores.new ≡ after_command (payloads_seen payloads.now) (stores_seen stores.old) (command_seen command)) }
     ensures kept { OnErr result (stores_seen stores.new ≡ stores_seen stores.old) }
+    ensures needs { OnErr result (takes_memory (command_seen command) ≡ true) }
 {
     match command {
         Command::CreateLayout { index, layout } => make_layout(&mut stores.buffers, index, layout),
@@ -150,8 +152,8 @@ fn execute(
     Ok(())
 }
 
-/// Executes a row of commands in order. It takes memory for what payloads are copied to, and for the texels of a texture that a colour
-/// fills. Where memory is missing, the commands before the one that needed it are executed, and no other.
+/// Executes a row of commands in order. Creates of buffers, of textures and of uniforms take memory, for what payloads are copied to and
+/// for texels, and no other command does. Where memory is missing, the commands before the one that needed it are executed, and no other.
 pub fn execute_all(
     alloc: Global,
     stores: &mut RenderStores,
@@ -159,7 +161,7 @@ pub fn execute_all(
     row: &CmdBytes,
 ) -> Result<(), AllocError>
     ensures done { OnOk result (stores_seen stores.new ≡ all_commanded (payloads_seen payloads.now) (stores_seen stores.old) row.now) }
-    ensures begun { OnErr result ((n : ℕ) × (stores_seen stores.new ≡ all_commanded (payloads_seen payloads.now) (stores_seen stores.old) (take n row.now))) }
+    ensures begun { OnErr result (IsStopped (payloads_seen payloads.now) row.now (stores_seen stores.old) (stores_seen stores.new)) }
 {
     let mut reader = CmdReader::new(row);
     while let Some(command) = reader.next() {

@@ -16,7 +16,7 @@ use Rattle.scene_progress.specs.Notes.{noted_of}
 use Rattle.scene_progress.proofs.Journals.{picture_count, report_is}
 use Rattle.scene_progress.proofs.Reached.{plan_count}
 use Rattle.command_line_model.specs.Taken.{Mode, play, replay, make, Command}
-use Rattle.scene_showing.specs.Showing.{HasFirst, IsCounted, IsShowing}
+use Rattle.scene_showing.specs.Showing.{HasFewer, HasFirst, IsCounted, IsShowing}
 use Rattle.scene_showing.specs.declared.showing.End.{End}
 use Rattle.scene_showing.specs.declared.showing.End.TheVariants as ends
 use Rattle.scene_player.specs.declared.status.Status.{Status}
@@ -38,6 +38,10 @@ all-first s j old new lawful e =
     let few : length j ≤ length s.frames = omega (arith, lawful.1) in
     let all : take (length j) (journals.pictures s j) ≡ journals.pictures s j = take_all (length j) (journals.pictures s j) (omega (arith, picture_count s j few)) in
     (length j, omega arith, e ∙ ap (λ ps. with_back old (flat_map picture_text ps)) (sym all))
+
+-- the first, and not all, are the first
+fewer-first : (s : Scene) (j : Journal) (old new : Option (List ℕ)) → HasFewer s j old new → HasFirst s j old new
+fewer-first s j old new h = (h.0, h.2, h.3)
 
 -- ---- `play` and `replay`
 
@@ -97,7 +101,7 @@ module _ (c : Command) (bytes : List ℕ) (s : Scene) (by : Journal → Journal)
   shows-scene status.Done ends.Done old_tally new_tally h k same front n = (whole h.0 h.1 (same refl), n.1 ∙ ap (with_back noted.before) (text k.0 (same refl)))
   shows-scene status.NoteFault ends.Done old_tally new_tally h k same front n = (whole h.0 h.1 (same refl), subst (λ t. HasPutFront t noted) (text k.0 (same refl)) n.1, n.2)
   shows-scene status.OutOfMemory ends.Done old_tally new_tally h k same front n = inr (starved h.0.0 (all-first s j _ _ h.0 h.1) front n.1)
-  shows-scene status.OutOfMemory ends.OutOfMemory old_tally new_tally h k same front n = inr (starved h.0 h.1 front n.1)
+  shows-scene status.OutOfMemory ends.OutOfMemory old_tally new_tally h k same front n = inr (starved h.0 (fewer-first s j _ _ h.1) front n.1)
   shows-scene status.OutOfMemory ends.PictureFault old_tally new_tally h k same front n = absurd (n.0 refl)
   shows-scene status.PictureFault ends.PictureFault old_tally new_tally h k same front n = cut-off h front n.1
   shows-scene status.PictureFault ends.Done old_tally new_tally h k same front n = let bad = n.0 in cc

@@ -20,3 +20,5 @@ pub use status::Status;
 mod gated_tests;
 #[cfg(test)]
 mod tests;
+#[cfg(test)]
+mod worked_tests;

@@ -1,6 +1,6 @@
 -- Frames of a scene that ended one after another.
 use Rattle.std.proofs.Common.{◌≡◌, ℕ, zero, suc, ◌+◌, ◌<◌, ◌≤◌, Bool, true, false, List, [], ◌∷◌, ◌++◌, map, length, take, Option, Some, None, MatchOption, option_map, slice_index_or, refl, sym, ap, ◌∙◌, subst, arith}
-use Rattle.std.proofs.lemmas.Option.{slice_get-map, slice_get_read}
+use Rattle.std.proofs.lemmas.Option.{slice_get-map, slice_get_read, slice_get_within}
 use Rattle.std.proofs.lemmas.List.{length-append, map-append, take_all, take-append-le}
 use Rattle.std.specs.List.{slice_get}
 use Rattle.gfx_model.specs.Words.{Handle}
@@ -58,8 +58,8 @@ module _ (s : Scene) (frames : FramesMoreLaw) (lawful : LawfulMoreLaw) (notes_mo
 
   -- one frame more ended and was not given
   pub stopped : {L : Type 0} (k : ℕ) (f : SceneFrame) (e : List Entry) (note : ℕ × ℕ) (handles : List (Option Handle)) (old new : ContextView L) (j : Journal) (notes : List (ℕ × ℕ))
-      → AreGiven s k old.given j notes → FrameEnds s k f e note false handles old new → AreEnded s new.given (j ++ e ∷ []) (notes ++ note ∷ []) false
-  stopped k f e note handles old new j notes a ends =
+      → AreGiven s k old.given j notes → slice_get s.frames k ≡ Some f → FrameEnds s k f e note false handles old new → AreEnded s new.given (j ++ e ∷ []) (notes ++ note ∷ []) false
+  stopped k f e note handles old new j notes a there ends =
       let many : length (j ++ e ∷ []) ≡ k + 1 = length-append j (e ∷ []) ∙ ap (λ n. n + 1) a.many in
       let all : length new.given ≡ k = ap length ends.gives ∙ a.all in
       let front : take (length new.given) (j ++ e ∷ []) ≡ j = ap (λ n. take n (j ++ e ∷ [])) (all ∙ sym a.many) ∙ take-append-le (length j) j (e ∷ []) (omega arith) ∙ take_all (length j) j (omega arith) in
@@ -71,11 +71,12 @@ module _ (s : Scene) (frames : FramesMoreLaw) (lawful : LawfulMoreLaw) (notes_mo
         seen = ap (map frame_seen) ends.gives ∙ a.seen ∙ ap (scene_frames s) (sym front);
         gathered = subst (λ (fs : List Frame). HavePlans (plans s) (j ++ e ∷ []) fs) (sym ends.gives) (entries_more (plans s) j old.given e a.gathered);
         whole = λ z. absurd cc;
+        given_all = λ z. let one_more_there = slice_get_within s.frames k f there in absurd (omega (arith, z, all, one_more_there));
       }
 
 -- the frames ended so far, where no other does
-pub so_far : (s : Scene) (k : ℕ) (given : List Frame) (j : Journal) (notes : List (ℕ × ℕ)) (is_whole : Bool) → (is_whole ≡ true → k ≡ length s.frames) → AreGiven s k given j notes → AreEnded s given j notes is_whole
-so_far s k given j notes is_whole whole a =
+pub so_far : (s : Scene) (k : ℕ) (given : List Frame) (j : Journal) (notes : List (ℕ × ℕ)) (is_whole : Bool) → (is_whole ≡ true → k ≡ length s.frames) → (k ≡ length s.frames → is_whole ≡ true) → AreGiven s k given j notes → AreEnded s given j notes is_whole
+so_far s k given j notes is_whole whole given_all a =
     let same : length given ≡ length j = a.all ∙ sym a.many in
     record {
       lawful = a.lawful;
@@ -84,6 +85,7 @@ so_far s k given j notes is_whole whole a =
       seen = a.seen ∙ ap (scene_frames s) (sym (ap (λ n. take n j) same ∙ take_all (length j) j (omega arith)));
       gathered = a.gathered;
       whole = λ e. a.all ∙ whole e;
+      given_all = λ e. given_all (sym a.all ∙ e);
     }
 
 -- ---- outcomes
@@ -133,20 +135,20 @@ outcome_closed o notes back came all few told is e =
 
 -- ---- where no frame was played
 
-none_at_all : (s : Scene) → NoneLawfulLaw → NoFramesLaw → ArePlayed s [] [] [] [] outcomes.Shown false
-none_at_all s lawful frames = record {
-  ended = so_far s 0 [] [] [] false (λ z. absurd cc) (none_given s lawful frames);
+none_at_all : (s : Scene) → NoneLawfulLaw → NoFramesLaw → 1 ≤ length s.frames → ArePlayed s [] [] [] [] outcomes.Shown false
+none_at_all s lawful frames some = record {
+  ended = so_far s 0 [] [] [] false (λ z. absurd cc) (λ e. absurd (omega (arith, e, some))) (none_given s lawful frames);
   all_back = refl;
   outcome_is = refl;
 }
 
-pub none_played : (s : Scene) → NoneLawfulLaw → NoFramesLaw → (given : List Frame) (back : List RenderedFrame) (j : Journal) (notes : List (ℕ × ℕ)) → given ≡ [] → back ≡ [] → j ≡ [] → notes ≡ []
+pub none_played : (s : Scene) → NoneLawfulLaw → NoFramesLaw → 1 ≤ length s.frames → (given : List Frame) (back : List RenderedFrame) (j : Journal) (notes : List (ℕ × ℕ)) → given ≡ [] → back ≡ [] → j ≡ [] → notes ≡ []
     → ArePlayed s given back j notes outcomes.Shown false
-none_played s lawful frames given back j notes g b e n =
+none_played s lawful frames some given back j notes g b e n =
     subst (λ (x : List Frame). ArePlayed s x back j notes outcomes.Shown false) (sym g)
     (subst (λ (x : List RenderedFrame). ArePlayed s [] x j notes outcomes.Shown false) (sym b)
     (subst (λ (x : Journal). ArePlayed s [] [] x notes outcomes.Shown false) (sym e)
-    (subst (λ (x : List (ℕ × ℕ)). ArePlayed s [] [] [] x outcomes.Shown false) (sym n) (none_at_all s lawful frames))))
+    (subst (λ (x : List (ℕ × ℕ)). ArePlayed s [] [] [] x outcomes.Shown false) (sym n) (none_at_all s lawful frames some))))
 
 -- ---- all that were out came back
 
@@ -172,11 +174,11 @@ one_seen v old new x e = ap (map v) e ∙ map-append v old (x ∷ [])
 
 module _ {L : Type 0} (s : Scene) (frames : FramesMoreLaw) (lawful : LawfulMoreLaw) (notes_more : NotedMoreLaw) (n k : ℕ) (f : SceneFrame) (e : List Entry) (note : ℕ × ℕ) (handles : List (Option Handle)) (old new : ContextView L)
     (j all : Journal) (notes told : List (ℕ × ℕ)) (is : n ≡ k) (given : AreGiven s k old.given j notes) (lists : all ≡ j ++ e ∷ []) (noted : told ≡ notes ++ note ∷ []) where
-  pub stopped_now : (b : Bool) → b ≡ false → FrameEnds s n f e note b handles old new → AreEnded s new.given all told false
-  stopped_now b off ends =
+  pub stopped_now : (b : Bool) → b ≡ false → slice_get s.frames k ≡ Some f → FrameEnds s n f e note b handles old new → AreEnded s new.given all told false
+  stopped_now b off there ends =
       subst (λ (x : Journal). AreEnded s new.given x told false) (sym lists)
       (subst (λ (x : List (ℕ × ℕ)). AreEnded s new.given (j ++ e ∷ []) x false) (sym noted)
-      (stopped s frames lawful notes_more k f e note handles old new j notes given
+      (stopped s frames lawful notes_more k f e note handles old new j notes given there
       (subst (λ (m : ℕ). FrameEnds s m f e note false handles old new) is (subst (λ (t : Bool). FrameEnds s n f e note t handles old new) off ends))))
 
   pub more_now : (b : Bool) → b ≡ true → slice_get s.frames k ≡ Some f → FrameEnds s n f e note b handles old new → IsAt s (k + 1) handles new × AreGiven s (k + 1) new.given all told

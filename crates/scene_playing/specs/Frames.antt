@@ -19,7 +19,7 @@ abbrev pub note_seen : FrameNote → ℕ × ℕ
 note_seen n = (n.items, n.dropped)
 
 -- the frames that ended have a lawful journal and the definition's notes; those that were given are the first of them by index, each with what the plan of its place has of
--- each encoder, and at most the last that ended was not given
+-- each encoder, and at most the last that ended was not given; it is whole exactly where all were given
 pub record AreEnded (s : Scene) (given : List Frame) (journal : Journal) (notes : List (ℕ × ℕ)) (is_whole : Bool) : Type 0 where
   pub lawful : IsLawfulFront s journal
   pub noted : notes ≡ map noted_of (take (length journal) (plans s))
@@ -27,6 +27,7 @@ pub record AreEnded (s : Scene) (given : List Frame) (journal : Journal) (notes 
   pub seen : map frame_seen given ≡ scene_frames s (take (length given) journal)
   pub gathered : HavePlans (plans s) journal given
   pub whole : is_whole ≡ true → length given ≡ length s.frames
+  pub given_all : length given ≡ length s.frames → is_whole ≡ true
 
 -- the same when all that were given came back, with the outcome of the first that was not shown
 pub record ArePlayed (s : Scene) (given : List Frame) (back : List RenderedFrame) (journal : Journal) (notes : List (ℕ × ℕ)) (outcome : Outcome) (is_whole : Bool) : Type 0 where

@@ -165,6 +165,7 @@ fn finish<'t, C: Naming, L: FrameLink + Drop, R: Threads + Wait + Sync>(
 /// What is left where no frame was played.
 pub(crate) fn nothing<L: FrameLink + Drop>(alloc: Global, scene: &Scene, link: L) -> Played<L>
     requires none { (L.given link ≡ []) × (L.back link ≡ []) }
+    requires bounded { IsBounded (scene_seen scene.now) }
     ensures played { ArePlayed (scene_seen scene.now) (L.given result.link) (L.back result.link) (journal_seen result.journal) (map note_seen result.notes.items) result.outcome result.is_whole }
     ensures journal { journal_seen result.journal ≡ [] }
     ensures origin { L.origin result.link ≡ L.origin link }

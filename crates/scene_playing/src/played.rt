@@ -20,6 +20,6 @@ pub struct Played<L: Drop> {
     pub notes: Vec<FrameNote>,
     /// The outcome of the first frame that was not shown; `Shown` where each that was given was.
     pub outcome: Outcome,
-    /// Whether each frame of the scene was given. Where not, a frame was not shown, or memory was wanting.
+    /// Whether each frame of the scene was given, both ways. Where not, a frame was not shown, or memory was wanting.
     pub is_whole: bool,
 }

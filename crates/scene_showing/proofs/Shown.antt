@@ -1,8 +1,9 @@
 -- What the frames of a scene leave in a sink, that were played and rendered.
-use Rattle.std.proofs.Common.{◌≡◌, ℕ, ◌≤◌, Bool, true, false, List, map, length, take, refl, sym, ap, subst, ◌∙◌, arith}
+use Rattle.std.proofs.Common.{◌≡◌, ℕ, ◌≤◌, ◌<◌, Bool, true, false, List, map, length, take, inl, inr, refl, sym, ap, subst, ◌∙◌, arith}
 use Rattle.std.specs.List.{flat_map}
 use Rattle.std.specs.Coded.{Coded-set, coded_option, coded_ℕ, le_prop}
 use Rattle.std.proofs.Math.Logic.{∥∥₁_elim}
+use Rattle.std.proofs.lemmas.Bool.{cases_lt}
 use Rattle.std.proofs.lemmas.List.{take_all, take-take, length-map}
 use Rattle.io_edge.specs.Edge.{with_back}
 use Rattle.gfx_model.specs.Raster.{Texels}
@@ -65,19 +66,26 @@ first_texts : (s : Scene) (given : List Frame) (back : List RenderedFrame) (jour
 first_texts s given back journal old new j first le held =
     held ∙ ap (λ (ps : List Texels). with_back old.held (flat_map picture_text ps)) (ap (take j) first.pictures_are ∙ take-take j (length given) (pictures s journal) le)
 
+-- where not all were given, fewer were
+not_all : (k n : ℕ) {j : ℕ} → k ≤ j → j ≤ n → (k ≡ n → false ≡ true) → k < n
+not_all k n le many all = elim (cases_lt k n) [ inl lt ↦ lt | inr ge ↦ let e : k ≡ n = omega (arith, le, many, ge) in let bad = all e in cc ]
+
 leaves : Laws → (s : Scene) (given : List Frame) (back : List RenderedFrame) (journal : Journal) (notes : List (ℕ × ℕ)) (outcome : Outcome) (is_whole : Bool) (old new : Rendering)
     → AreEnded s given journal notes is_whole → Firsts s given back journal old → HasTexts outcome old back new → Leaves outcome is_whole s journal notes old new
 leaves laws s given back journal notes outcomes.Shown true old new e first has = leaves_all laws s given back journal notes old new e first has
 leaves laws s given back journal notes outcomes.Shown false old new e first has =
-    ((e.lawful, (length given, e.few.0, has.0 ∙ ap (λ (ps : List Texels). with_back old.held (flat_map picture_text ps)) first.pictures_are)), e.noted)
+    let many = laws.lawful_count s journal e.lawful in
+    let fewer : length given < length s.frames = not_all (length given) (length s.frames) e.few.0 many e.given_all in
+    ((e.lawful, (length given, fewer, e.few.0, has.0 ∙ ap (λ (ps : List Texels). with_back old.held (flat_map picture_text ps)) first.pictures_are)), e.noted)
 leaves laws s given back journal notes outcomes.PictureFault is_whole old new e first has =
     let front = subst (λ (ps : List Texels). HasFront old.held (flat_map picture_text ps) new.held) first.pictures_are has.0 in
     ((e.lawful, front_of_all old.held new.held (pictures s journal) (length given) front, has.1), e.noted)
 leaves laws s given back journal notes outcomes.OutOfMemory is_whole old new e first has =
     let few = e.few.0 in
     let same = first.same_count in
-    let le = has.1 in
-    ((e.lawful, (has.0, omega arith, first_texts s given back journal old new has.0 first (omega arith) has.2)), e.noted)
+    let lt = has.1 in
+    let many = laws.lawful_count s journal e.lawful in
+    ((e.lawful, (has.0, omega (arith, few, same, lt, many), omega (arith, few, same, lt), first_texts s given back journal old new has.0 first (omega (arith, same, lt)) has.2)), e.noted)
 leaves laws s given back journal notes outcomes.Skipped is_whole old new e first has = absurd has
 
 -- what is left, with the sink's faults, which are no fewer, and of what it is sure

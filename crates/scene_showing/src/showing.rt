@@ -52,7 +52,7 @@ pub struct Showing<P: Drop> {
 /// order. Where no thread can be started for the renderer, the frames are rendered in place.
 ///
 /// The scene is one that was read, or keeps the same bounds. The sink comes back. `PictureFault` only where its count of faults rose
-/// in this call: then a front of the texts was put. For want of memory the whole texts of the first frames were put.
+/// in this call: then a front of the texts was put. For want of memory the whole texts of the first frames were put, and not of all.
 pub fn show_scene<P: Sink + Send + Drop, R: Threads + Wait + Sync, G: Gate + Sync>(
     rt: &R,
     gate: &G,

@@ -9,3 +9,4 @@ mod Fronts
 mod Parts
 mod Places
 mod TargetLaws
+mod Needs

@@ -2,6 +2,7 @@
 ghost use Rattle.std.specs.Prelude.{◌≡◌, ℕ, map, fold, OnOk, OnErr};
 ghost use Rattle.draw_encoder.specs.Seen.{copy_seen, blit_seen};
 ghost use Rattle.view_drawing.specs.Entered.{blit_in, AreSomeBlits};
+ghost use Rattle.view_drawing.specs.Memory.{HasBlitWithin};
 
 use draw_encoder::{BlitCall, BlitItem};
 use std::alloc::AllocError;
@@ -12,6 +13,7 @@ use texture_store::{BlitBox, TextureStore};
 fn blit(textures: &mut TextureStore, copy: &BlitCall) -> Result<(), AllocError>
     ensures copied { OnOk result ((view : ℕ) → textures.new ≡ blit_in textures.old (copy_seen view copy.now)) }
     ensures kept { OnErr result (textures.new ≡ textures.old) }
+    ensures needs { OnErr result (copy.now.src.index ≡ copy.now.dst.index) }
 {
     let region = BlitBox {
         dst: copy.dst.index(),
@@ -31,6 +33,7 @@ fn blit(textures: &mut TextureStore, copy: &BlitCall) -> Result<(), AllocError>
 pub(crate) fn blit_all(textures: &mut TextureStore, blits: &[BlitItem]) -> Result<(), AllocError>
     ensures copied { OnOk result (textures.new ≡ fold blit_in textures.old (map blit_seen blits.now)) }
     ensures begun { OnErr result (AreSomeBlits (map blit_seen blits.now) textures.old textures.new) }
+    ensures needs { OnErr result (HasBlitWithin (map blit_seen blits.now)) }
 {
     for item in blits {
         blit(textures, &item.copy)?;

@@ -40,7 +40,7 @@ returns-then-not-add-clause-ended g c =
     let notes = one_seen note_seen c.loop-frame.told.notes.items c.add.new.self.notes.items c.in-Ok.ended.note c.add.ensures.notes.0 in
     stopped_now s c.frames_law.ensures.more c.lawful_law.ensures.more c.noted_law.ensures.more c.loop-frame.context.book.resources.frame k (frame_seen c.frame-item.result) (map entry_seen c.in-Ok.ended.journal.items) (note_seen c.in-Ok.ended.note)
     c.play_frame-played.new.handles c.loop-frame.context c.play_frame-played.new.context _ _ _ _ (number_at s k c.loop-frame.handles c.loop-frame.context was.at) was.given lists notes
-    c.in-Ok.ended.given (sym c.add.ensures.given ∙ c.if-not-add.true) c.in-Ok.ensures.ended
+    c.in-Ok.ended.given (sym c.add.ensures.given ∙ c.if-not-add.true) (frame_at c.as_slice-frame-items.result.now c.args.scene.now.frames k c.frame-item.result c.as_slice-frame-items.ensures c.loop-frame-test.true c.frame-item.is) c.in-Ok.ensures.ended
 
 pub loop-frame-preserved : goal.loop-frame-preserved
 loop-frame-preserved g c =
