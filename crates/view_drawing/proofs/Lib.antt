@@ -8,4 +8,5 @@ mod Folds
 mod Fronts
 mod Parts
 mod Places
+mod Stills
 mod TargetLaws

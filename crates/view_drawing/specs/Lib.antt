@@ -5,3 +5,4 @@ pub mod Ranges
 pub mod Recorded
 pub mod Sampled
 pub mod Shapes
+pub mod Still
