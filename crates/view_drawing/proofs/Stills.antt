@@ -1,5 +1,5 @@
 -- The transform that moves no point.
-use Rattle.std.proofs.Common.{◌≡◌, ℕ, ap, sym, ◌∙◌, FitsSigned, w32, arith}
+use Rattle.std.proofs.Common.{◌≡◌, ap, ◌∙◌, FitsSigned, w32, arith}
 use Rattle.std.specs.Prelude.{ℤ, pos, negsuc, ◌+ℤ◌, ◌*ℤ◌}
 use Rattle.std.specs.Int.{int_div_euclid}
 use Rattle.std.proofs.lemmas.Int.{ints}

@@ -1,5 +1,4 @@
 use Rattle.std.proofs.Common.{FitsSigned, w32}
-use Rattle.std.proofs.lemmas.Int.{to_z-of_z}
 use Rattle.view_drawing.proofs.Stills.{still_point}
 use Rattle.view_drawing.proofs.still.tell_still.Goals as goal
 
