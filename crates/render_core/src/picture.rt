@@ -1,5 +1,5 @@
 // The text of a picture, in the P6 format of Netpbm.
-ghost use Rattle.std.specs.Prelude.{◌≡◌, ◌+◌, ◌*◌, ◌++◌, length, take, flat_map, IfOk, OnOk};
+ghost use Rattle.std.specs.Prelude.{◌≡◌, ◌<◌, ◌+◌, ◌*◌, ◌++◌, length, take, flat_map, IfOk, OnOk};
 ghost use Rattle.scene_model.specs.Output.{picture_header, picture_text};
 ghost use Rattle.fix_math.specs.Seen.{texels_seen};
 
@@ -66,16 +66,37 @@ impl PictureText {
     }
 }
 
+/// Writes red, green and blue of as many pixels. A pixel's fourth byte is written behind them, for one store of four bytes
+/// is faster than two of fewer; what follows takes its place.
+fn write_most(room: &mut [u8], colors: &[[u8; 4]], count: usize)
+    requires room { length room.old ≡ 3 * length colors.now }
+    requires less { count < length colors.now }
+    ensures many { length room.new ≡ length room.old }
+    ensures written { take (3 * count) room.new ≡ flat_map (take 3) (take count colors.now) }
+{
+    for i in 0..count {
+        let [red, green, blue, alpha] = colors[i];
+        let at = 3 * i;
+        room[at] = red;
+        room[at + 1] = green;
+        room[at + 2] = blue;
+        room[at + 3] = alpha;
+    }
+}
+
 /// Writes red, green and blue of each pixel.
 fn write_colors(room: &mut [u8], colors: &[[u8; 4]])
     requires { length room.old ≡ 3 * length colors.now }
     ensures { room.new ≡ flat_map (take 3) colors.now }
 {
-    for i in 0..colors.len() {
-        let [red, green, blue, _] = colors[i];
-        let at = 3 * i;
-        room[at] = red;
-        room[at + 1] = green;
-        room[at + 2] = blue;
+    if colors.is_empty() {
+        return;
     }
+    let last = colors.len() - 1;
+    write_most(room, colors, last);
+    let [red, green, blue, _] = colors[last];
+    let end = 3 * last;
+    room[end] = red;
+    room[end + 1] = green;
+    room[end + 2] = blue;
 }

@@ -8,5 +8,6 @@ mod Folds
 mod Fronts
 mod Parts
 mod Places
+mod Stills
 mod TargetLaws
 mod Needs

@@ -6,3 +6,4 @@ pub mod Recorded
 pub mod Sampled
 pub mod Shapes
 pub mod Memory
+pub mod Still

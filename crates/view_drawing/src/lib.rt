@@ -11,6 +11,7 @@ mod preparing;
 mod ranges;
 mod room;
 mod shapes;
+mod still;
 mod targets;
 #[cfg(test)]
 mod tests;

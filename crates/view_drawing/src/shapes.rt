@@ -1,14 +1,18 @@
 // The triangles of a draw on its target.
-ghost use Rattle.std.specs.Prelude.{◌≡◌, ◌++◌, [], Some, None, false, map, option_map, OnOk};
+ghost use Rattle.std.specs.Prelude.{◌≡◌, ◌++◌, [], Some, None, false, map, option_map, IsTrue, OnOk};
 ghost use Rattle.std.specs.List.{cons_option};
 ghost use Rattle.gfx_model.specs.Vertex.{vertices_of, triangles_of as triangles_of_vertices, listed_triangles, strip_triangles as strip_triangles_of};
+ghost use Rattle.gfx_model.specs.Raster.{identity};
+ghost use Rattle.fix_math.specs.Seen.{affine_seen};
 ghost use Rattle.vertex_layout.specs.Seen.{vertex_seen};
 ghost use Rattle.tri_cover.specs.Seen.{screen_seen};
 ghost use Rattle.tri_cover.specs.Shown.{setup_seen};
 ghost use Rattle.view_drawing.specs.Ranges.{vertex_range_seen, index_range_seen};
 ghost use Rattle.view_drawing.specs.Shapes.{placed_by, kept, kept_of, turned, IsFrontOf};
+ghost use Rattle.view_drawing.specs.Still.{IsStill};
 
 use crate::ranges::{IndexRange, VertexRange, index_in, vertex_by, vertex_of};
+use crate::still::place_still;
 use fix_math::{Affine, Rect};
 use std::alloc::AllocError;
 use tri_cover::{ScreenVertex, Setup, place};
@@ -22,12 +26,35 @@ pub(crate) struct Placement {
     pub(crate) rect: Rect,
 }
 
+/// Whether a transform moves no point.
+fn is_identity(transform: &Affine) -> bool
+    ensures { IsTrue result → affine_seen transform.now ≡ identity }
+{
+    *transform == Affine::identity()
+}
+
+/// Whether neither transform moves a point. Then placing a vertex needs none of their sums.
+fn is_still(placement: &Placement) -> bool
+    ensures { IsTrue result → IsStill placement.now }
+{
+    if !is_identity(&placement.model) {
+        return false;
+    }
+    is_identity(&placement.view)
+}
+
 /// A vertex on the target, if it is there and within the guard range.
-fn placed_vertex(placement: &Placement, vertex: Option<Vertex>) -> Option<ScreenVertex>
+fn placed_vertex(placement: &Placement, still: bool, vertex: Option<Vertex>) -> Option<ScreenVertex>
+    requires { IsTrue still → IsStill placement.now }
     ensures { option_map screen_seen result ≡ placed_by placement.now (option_map vertex_seen vertex) }
 {
     match vertex {
-        Some(vertex) => place(&vertex, &placement.model, &placement.view, placement.rect),
+        Some(vertex) => {
+            if still {
+                return place_still(&vertex, placement.rect);
+            }
+            place(&vertex, &placement.model, &placement.view, placement.rect)
+        }
         None => None,
     }
 }
@@ -35,9 +62,11 @@ fn placed_vertex(placement: &Placement, vertex: Option<Vertex>) -> Option<Screen
 fn place_plain(
     placed: &mut Vec<Option<ScreenVertex>>,
     placement: &Placement,
+    still: bool,
     vertices: &VertexRange<'_>,
 ) -> Result<(), AllocError>
-    requires { placed.old.items ≡ [] }
+    requires empty { placed.old.items ≡ [] }
+    requires still { IsTrue still → IsStill placement.now }
     ensures { OnOk result (IsFrontOf (map (option_map screen_seen) placed.new.items) (map (placed_by placement.now) (vertices_of (vertex_range_seen vertices.now) None))) }
 {
     for number in 0..vertices.count {
@@ -45,7 +74,7 @@ fn place_plain(
         if vertex.is_none() {
             return Ok(());
         }
-        placed.push(placed_vertex(placement, vertex))?;
+        placed.push(placed_vertex(placement, still, vertex))?;
     }
     Ok(())
 }
@@ -53,10 +82,12 @@ fn place_plain(
 fn place_indexed(
     placed: &mut Vec<Option<ScreenVertex>>,
     placement: &Placement,
+    still: bool,
     vertices: &VertexRange<'_>,
     indices: &IndexRange<'_>,
 ) -> Result<(), AllocError>
-    requires { placed.old.items ≡ [] }
+    requires empty { placed.old.items ≡ [] }
+    requires still { IsTrue still → IsStill placement.now }
     ensures { OnOk result (IsFrontOf (map (option_map screen_seen) placed.new.items) (map (placed_by placement.now) (vertices_of (vertex_range_seen vertices.now) (Some (index_range_seen indices.now))))) }
 {
     for number in 0..indices.count {
@@ -64,7 +95,7 @@ fn place_indexed(
         if index.is_none() {
             return Ok(());
         }
-        placed.push(placed_vertex(placement, vertex_by(vertices, index)))?;
+        placed.push(placed_vertex(placement, still, vertex_by(vertices, index)))?;
     }
     Ok(())
 }
@@ -79,13 +110,14 @@ pub(crate) fn place_vertices(
     ensures { OnOk result (IsFrontOf (map (option_map screen_seen) placed.new.items) (map (placed_by placement.now) (vertices_of (vertex_range_seen vertices.now) (option_map index_range_seen indices.entry)))) }
 {
     placed.clear();
+    let still = is_still(placement);
     match indices {
         Some(indices) => {
-            place_indexed(placed, placement, vertices, &indices)?;
+            place_indexed(placed, placement, still, vertices, &indices)?;
             Ok(())
         }
         None => {
-            place_plain(placed, placement, vertices)?;
+            place_plain(placed, placement, still, vertices)?;
             Ok(())
         }
     }
