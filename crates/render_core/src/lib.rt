@@ -16,4 +16,6 @@ pub use int_raster::{BandRasterizer, Rasterizer, SerialRasterizer};
 pub use renderer::Renderer;
 
 #[cfg(test)]
+mod stray_tests;
+#[cfg(test)]
 mod tests;

@@ -51,6 +51,9 @@ fn recording(alloc: Global, item: Item) -> Result<Recording, AllocError>
     })
 }
 
+// Three vertices of two numbers of 1/65536 each, little endian: (-1, 1), (3, 1), (-1, -3).
+const TRIANGLE: &[u8] = b"\0\0\xff\xff\0\0\x01\0\0\0\x03\0\0\0\x01\0\0\0\xff\xff\0\0\xfd\xff";
+
 // A frame without items.
 fn empty(alloc: Global, number: u32) -> Result<Frame, AllocError> {
     Ok(Frame::new(
@@ -64,8 +67,17 @@ fn empty(alloc: Global, number: u32) -> Result<Frame, AllocError> {
     ))
 }
 
+// A triangle round the whole picture, a texel, and the name of the colour.
+fn payloads(alloc: Global) -> Result<Vec<Vec<u8>>, AllocError> {
+    let mut payloads = Vec::new(alloc);
+    payloads.push(TRIANGLE.to_vec(alloc)?)?;
+    payloads.push(vec![in alloc; 48u8; 4]?)?;
+    payloads.push(b"u_color".to_vec(alloc)?)?;
+    Ok(payloads)
+}
+
 // A frame of one item.
-fn framed(
+pub(crate) fn framed(
     alloc: Global,
     number: u32,
     views: ViewTable,
@@ -76,8 +88,7 @@ fn framed(
     let mut recordings = Vec::new(alloc);
     recordings.push(recording(alloc, item)?)?;
     let journal = collect(alloc, &recordings)?;
-    let mut payloads = Vec::new(alloc);
-    payloads.push(vec![in alloc; 9u8; 64]?)?;
+    let payloads = payloads(alloc)?;
     Ok(Frame::new(number, views, pre, post, payloads, recordings, journal))
 }
 
@@ -90,7 +101,7 @@ fn touch(view: u16) -> Item {
     })
 }
 
-fn row(alloc: Global, commands: &[Command]) -> Result<CmdBytes, AllocError> {
+pub(crate) fn row(alloc: Global, commands: &[Command]) -> Result<CmdBytes, AllocError> {
     let mut row = CmdBuffer::new(alloc);
     for command in commands {
         row.write(*command)?;
@@ -242,165 +253,5 @@ fn a_renderer_that_runs_until_the_stop(rt: HostRuntime) -> Result<(), Fail> {
     assert_eq!(rt; (first, second), (Outcome::Shown, Outcome::Shown));
     let twice = b"P6\n2 1\n255\n\0\0\0\0\xff\0P6\n2 1\n255\n\0\0\0\0\xff\0";
     assert_eq!(rt; sink.bytes(), twice.as_slice());
-    Ok(())
-}
-
-fn next(seed: u64) -> u64 {
-    seed.wrapping_mul(6_364_136_223_846_793_005)
-        .wrapping_add(1_442_695_040_888_963_407)
-}
-
-// A number below another one, from some of the bits.
-fn pick(seed: u64, shift: u32, below: u16) -> u16
-    requires some { 1 ≤ below }
-    requires bits { shift < 64 }
-    ensures { result < below }
-{
-    ((seed >> shift) % below as u64) as u16
-}
-
-// A command of no context: kinds, indices, payloads and places at random.
-fn stray_command(seed: u64) -> Command {
-    let kind = pick(seed, 60, 16);
-    let index = pick(seed, 50, 4);
-    let other = pick(seed, 40, 4);
-    let payload = pick(seed, 32, 2) as u32;
-    match kind {
-        0 => Command::CreateVertexBuffer {
-            index,
-            layout: other,
-            payload,
-        },
-        1 => Command::CreateIndexBuffer { index, payload },
-        2 | 3 | 4 => Command::CreateTexture {
-            index,
-            width: other,
-            height: 4,
-            format: other as u8,
-            blit_dst: 1,
-            source: payload as u8,
-            value: payload,
-        },
-        5 | 6 => Command::CreateFrameBuffer {
-            index,
-            color: other,
-            depth: payload as u16,
-        },
-        7 => Command::CreateProgram {
-            index,
-            kind: other as u8,
-        },
-        8 => Command::CreateUniform {
-            index,
-            serial: 1,
-            kind: other as u8,
-            payload,
-        },
-        9 => Command::UpdateBuffer {
-            kind: other as u8,
-            index,
-            offset: 62,
-            payload,
-        },
-        10 => Command::UpdateTexture {
-            index,
-            x: 0,
-            y: other,
-            w: 4,
-            h: 4,
-            payload,
-        },
-        _ => Command::Destroy {
-            kind: other as u8 + 2,
-            index,
-        },
-    }
-}
-
-// A blit between textures that may be missing, in a view that may be missing.
-fn stray_blit(seed: u64) -> Item {
-    let dst = pick(seed, 50, 4);
-    let src = pick(seed, 40, 4);
-    Item::Blit(BlitItem {
-        view: pick(seed, 30, 300),
-        number: 1,
-        copy: BlitCall {
-            dst: Handle::of(Kind::Texture, dst, 1, Info::Plain),
-            dx: dst,
-            dy: 0,
-            src: Handle::of(Kind::Texture, src, 1, Info::Plain),
-            sx: 0,
-            sy: src,
-            w: 3,
-            h: 2,
-        },
-    })
-}
-
-fn stray_draw(seed: u64, words: (StateWord, StencilWord)) -> Item {
-    let index = pick(seed, 50, 4);
-    let texture = Handle::of(Kind::Texture, index, 1, Info::Plain);
-    Item::Draw(DrawItem {
-        view: pick(seed, 30, 4),
-        number: 2,
-        program: Handle::of(Kind::Program, index, 1, Info::Plain),
-        depth: 5,
-        state: words.0,
-        front: words.1,
-        back: words.1,
-        scissor: Rect {
-            x: 1,
-            y: index,
-            w: 65_535,
-            h: 65_535,
-        },
-        model: Affine::identity(),
-        vertices: VertexSet::Buffer {
-            buffer: Handle::of(Kind::VertexBuffer, index, 1, Info::Plain),
-            first: 4_294_967_295,
-            count: 4_294_967_295,
-        },
-        indices: IndexSet::Transient { at: 9, length: 99 },
-        textures: [Some(texture), None],
-        values_at: 4,
-        values: 4_294_967_295,
-    })
-}
-
-fn stray_item(seed: u64, words: (StateWord, StencilWord)) -> Item {
-    if seed >> 63 == 0 {
-        stray_draw(seed, words)
-    } else {
-        stray_blit(seed)
-    }
-}
-
-fn stray_frame(alloc: Global, seed: u64, words: (StateWord, StencilWord)) -> Result<Frame, Fail> {
-    let mut views = ViewTable::new(alloc, 256)?;
-    let index = pick(seed, 20, 4);
-    let target = Handle::of(Kind::FrameBuffer, index, 1, Info::Plain);
-    views.set_target(1, Some(target)).map_err(|_| "target")?;
-    let pre = [stray_command(next(seed)), stray_command(next(next(seed)))];
-    let post = [stray_command(seed)];
-    let item = stray_item(seed, words);
-    Ok(framed(alloc, 0, views, row(alloc, &pre)?, row(alloc, &post)?, item)?)
-}
-
-#[test]
-fn frames_of_no_context(rt: HostRuntime) -> Result<(), Fail> {
-    let alloc = rt.alloc();
-    let words = (
-        StateWord::read(15).map_err(|_| "state")?,
-        StencilWord::read(0).map_err(|_| "stencil")?,
-    );
-    let sink = MemSink::new(alloc, 100_000, 100_000, Vec::new(alloc))?;
-    let mut renderer = Renderer::new(alloc, 4, 2, sink).map_err(|_| "memory")?;
-    let mut seed = 1;
-    for _ in 0..1_000 {
-        seed = next(seed);
-        let rendered = renderer.render(&mut SerialRasterizer, stray_frame(alloc, seed, words)?);
-        assert_eq!(rt; rendered.outcome, Outcome::Shown);
-    }
-    assert_eq!(rt; renderer.into_sink().bytes().len(), 35_000);
     Ok(())
 }
