@@ -1,10 +1,9 @@
 // A gate that holds threads at places that a seed draws.
 use io_edge::Gate;
 use std::sync::atomic::{AtomicU32, Ordering};
-use std::thread;
 
-// How often a held thread looks at most.
-const TURNS: u32 = 200;
+// How often a held thread looks at most: some tenths of a millisecond, in which a thread that sleeps can come.
+const TURNS: u32 = 200_000;
 
 // Holds a thread at one place of two, drawn by the seed, until some more places were passed by others, or for some turns. A place is an
 // item of an encoder, or a frame of the renderer.
@@ -34,7 +33,6 @@ impl SeededGate {
             if self.passed.load(Ordering::SeqCst) >= passed {
                 return;
             }
-            thread::yield_now();
         }
     }
 }
