@@ -45,7 +45,7 @@ impl Gate for SeededGate {
         let drawn = mixed(self.seed, who, item);
         let passed = self.passed.fetch_add(1, Ordering::SeqCst);
         if drawn % 2 == 1 {
-            self.hold(passed.wrapping_add(2 + drawn / 2 % 7));
+            self.hold(passed.wrapping_add(2).wrapping_add(drawn / 2 % 7));
         }
     }
 }
