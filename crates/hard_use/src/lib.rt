@@ -1,10 +1,12 @@
 //! Hard use of the crates below: full rooms and tables, streams that fail. It has no calls of its own, and tests alone: each limit at its
-//! greatest number and one past it, by the calls of a context and of its encoders, and the runs of the player whose reads, writes and
-//! notes fail, at each call by turns.
+//! greatest number and one past it, by the calls of a context and of its encoders, the runs of the player whose reads, writes and notes
+//! fail, at each call by turns, and runs whose threads are held at places that a seed draws.
 #![tactic(auto)]
 
 #[cfg(test)]
 mod fault_tests;
+#[cfg(test)]
+mod gates;
 #[cfg(test)]
 mod limit_tests;
 #[cfg(test)]
@@ -15,3 +17,5 @@ mod room_tests;
 mod row_tests;
 #[cfg(test)]
 mod runs;
+#[cfg(test)]
+mod schedule_tests;

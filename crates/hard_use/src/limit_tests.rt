@@ -68,74 +68,103 @@ fn each_kind_is_full(rt: HostRuntime) -> Result<(), Fail> {
     Ok(())
 }
 
-// What the calls at the limits of one thing answered.
-#[derive(Drop)]
-struct Answers {
-    references: (Made, Made),
-    names: [Option<Refusal>; 2],
-    bytes: [Option<Refusal>; 4],
-    texels: [Option<Refusal>; 4],
-    clears: [Option<Refusal>; 4],
+// What is tried of one thing.
+#[derive(Clone, Copy, Drop)]
+enum Limit {
+    Names,
+    Bytes,
+    Texels,
+    Clears,
 }
 
-fn of_one_thing<B: ResourceCalls>(alloc: Global, calls: &mut B) -> Option<Answers> {
+// What four calls at a limit answered.
+type Answers = [Option<Refusal>; 4];
+
+fn bytes<B: ResourceCalls>(alloc: Global, calls: &mut B) -> Option<Answers> {
     let first = calls.create_layout(layout()?).ok()?;
     let most = Vec::from_elem(alloc, 7u8, 524_288).ok()?;
     let more = Vec::from_elem(alloc, 7u8, 524_290).ok()?;
-    Some(Answers {
-        references: limits::references(calls)?,
-        names: limits::names(calls),
-        bytes: limits::bytes(calls, first, &most, &more)?,
-        texels: limits::texels(calls),
-        clears: limits::clears(calls),
-    })
+    limits::bytes(calls, first, &most, &more)
 }
 
-fn answers_of<C: Naming>(alloc: Global, table: HoldTable, seat: ApiSeat) -> Option<Answers>
+fn at_limit<B: ResourceCalls>(alloc: Global, calls: &mut B, limit: Limit) -> Option<Answers> {
+    match limit {
+        Limit::Names => Some(limits::names(calls)),
+        Limit::Bytes => bytes(alloc, calls),
+        Limit::Texels => Some(limits::texels(calls)),
+        Limit::Clears => Some(limits::clears(calls)),
+    }
+}
+
+fn answers_of<C: Naming>(
+    alloc: Global,
+    table: HoldTable,
+    seat: ApiSeat,
+    limit: Limit,
+) -> Option<Answers>
     requires table { (table_of table ≡ C.table) × (api_table seat ≡ C.table) × (api_view seat ≡ first_view 0) }
     requires views { C.views ≡ fewest_views }
 {
     let shared = Shared::<C>::new(alloc, table).ok()?;
     let link = KeepingLink::new(alloc, 1).ok()?;
     let mut context = Context::init(alloc, &shared, seat, link, START).ok()?;
-    of_one_thing(alloc, &mut context)
+    at_limit(alloc, &mut context, limit)
+}
+
+// The answers at a limit, by a context of their own.
+fn answers(alloc: Global, limit: Limit) -> Option<Answers> {
+    let (table, seat) = HoldTable::new(alloc, 0).ok()?;
+    answers_of::<Brand>(alloc, table, seat, limit)
 }
 
 #[test]
-fn limits_of_one_thing(rt: HostRuntime) -> Result<(), Fail> {
+fn names_have_at_most_32_bytes(rt: HostRuntime) -> Result<(), Fail> {
+    let told = answers(rt.alloc(), Limit::Names).ok_or("memory")?;
+    let long = Some(Refusal::BadSize);
+    assert_eq!(rt; told, [None, long, long, Some(Refusal::WrongKind)]);
+    Ok(())
+}
+
+#[test]
+fn buffers_have_at_most_524_288_bytes(rt: HostRuntime) -> Result<(), Fail> {
+    let told = answers(rt.alloc(), Limit::Bytes).ok_or("refused")?;
+    let long = Some(Refusal::BadSize);
+    assert_eq!(rt; told, [long, long, None, Some(Refusal::BadRange)]);
+    Ok(())
+}
+
+#[test]
+fn textures_have_at_most_33_554_432_texels(rt: HostRuntime) -> Result<(), Fail> {
+    let told = answers(rt.alloc(), Limit::Texels).ok_or("memory")?;
+    let wrong = Some(Refusal::BadSize);
+    assert_eq!(rt; told, [None, Some(Refusal::TexelsFull), wrong, wrong]);
+    Ok(())
+}
+
+#[test]
+fn clears_have_greatest_numbers(rt: HostRuntime) -> Result<(), Fail> {
+    let told = answers(rt.alloc(), Limit::Clears).ok_or("memory")?;
+    let wrong = Some(Refusal::BadState);
+    assert_eq!(rt; told, [None, wrong, wrong, Some(Refusal::BadView)]);
+    Ok(())
+}
+
+fn references_of<C: Naming>(alloc: Global, table: HoldTable, seat: ApiSeat) -> Option<(Made, Made)>
+    requires table { (table_of table ≡ C.table) × (api_table seat ≡ C.table) × (api_view seat ≡ first_view 0) }
+    requires views { C.views ≡ fewest_views }
+{
+    let shared = Shared::<C>::new(alloc, table).ok()?;
+    let link = KeepingLink::new(alloc, 1).ok()?;
+    let mut context = Context::init(alloc, &shared, seat, link, START).ok()?;
+    limits::references(&mut context)
+}
+
+#[test]
+fn a_uniform_has_65_535_references(rt: HostRuntime) -> Result<(), Fail> {
     let (table, seat) = HoldTable::new(rt.alloc(), 0)?;
-    let answers = answers_of::<Brand>(rt.alloc(), table, seat).ok_or("refused")?;
-    // serial 2 in place 3,520 dies in frame 0: its word is 4 * serial + 2
-    let (made, gone) = answers.references;
-    assert_eq!(rt; made, (65_535, Some(Refusal::Full)));
-    assert_eq!(rt; gone, (65_535, Some(Refusal::Stale { word: 10 })));
-    assert_eq!(rt; answers.names, [None, Some(Refusal::BadSize)]);
-    assert_eq!(rt;
-        answers.bytes,
-        [
-            Some(Refusal::BadSize),
-            Some(Refusal::BadSize),
-            None,
-            Some(Refusal::BadRange)
-        ]
-    );
-    assert_eq!(rt;
-        answers.texels,
-        [
-            None,
-            Some(Refusal::TexelsFull),
-            Some(Refusal::BadSize),
-            Some(Refusal::BadSize)
-        ]
-    );
-    assert_eq!(rt;
-        answers.clears,
-        [
-            None,
-            Some(Refusal::BadState),
-            Some(Refusal::BadState),
-            Some(Refusal::BadView)
-        ]
-    );
+    let told = references_of::<Brand>(rt.alloc(), table, seat).ok_or("refused")?;
+    assert_eq!(rt; told.0, (65_535, Some(Refusal::Full)));
+    // serial 1 in place 3,520 dies in frame 0: its word is 4 * serial + 2
+    assert_eq!(rt; told.1, (65_535, Some(Refusal::Stale { word: 6 })));
     Ok(())
 }

@@ -99,11 +99,13 @@ fn destroyed<B: ResourceCalls>(calls: &mut B, uniform: Handle) -> Made {
     (65_536, None)
 }
 
-// The answers to names of 32 and of 33 bytes.
-pub fn names<B: ResourceCalls>(calls: &mut B) -> [Option<Refusal>; 2] {
+// The answers to names of 32 and of 33 bytes and of none, and to the first one again for the other kind.
+pub fn names<B: ResourceCalls>(calls: &mut B) -> [Option<Refusal>; 4] {
     [
         calls.create_uniform(&[97; 32], UniformKind::Int).err(),
         calls.create_uniform(&[97; 33], UniformKind::Int).err(),
+        calls.create_uniform(&[], UniformKind::Int).err(),
+        calls.create_uniform(&[97; 32], UniformKind::Vec4).err(),
     ]
 }
 

@@ -1,7 +1,7 @@
 // Runs of the player in memory, with streams of which one call fails.
 ghost use Rattle.std.specs.Prelude.{◌≤◌, ◌<◌};
 
-use io_edge::{MemSink, MemSource, NoGate};
+use io_edge::{Gate, MemSink, MemSource, NoGate};
 use scene_player::{Status, play};
 use std::alloc::{AllocError, Global};
 use std::sync::Wait;
@@ -45,6 +45,28 @@ fn strings(alloc: Global, words: &[&str]) -> Result<Vec<String>, AllocError> {
     Ok(all)
 }
 
+// Runs the words on a text: the gate, the call of the source that fails, and both sinks.
+fn run_with<R: Threads + Wait + Sync, G: Gate + Sync>(
+    rt: &R,
+    alloc: Global,
+    gate: &G,
+    words: &[&str],
+    mut source: MemSource,
+    pictures: MemSink,
+    mut notes: MemSink,
+) -> Result<Left, AllocError> {
+    let words = strings(alloc, words)?;
+    let played = play(rt, alloc, &words, &mut source, pictures, &mut notes, gate);
+    let frames = played.journal.frames.as_slice().len();
+    let pictures = played.pictures.bytes().to_vec(alloc)?;
+    let notes = notes.bytes().to_vec(alloc)?;
+    Ok(Left {
+        ended: (played.status, frames, pictures.len(), notes.len()),
+        pictures,
+        notes,
+    })
+}
+
 // Runs the words on a text: the call of the source that fails, and both sinks.
 pub fn run<R: Threads + Wait + Sync>(
     rt: &R,
@@ -55,25 +77,22 @@ pub fn run<R: Threads + Wait + Sync>(
     pictures: Takes,
     notes: Takes,
 ) -> Result<Left, AllocError> {
-    let words = strings(alloc, words)?;
-    let mut source = MemSource::new(text, failing(alloc, read)?);
+    let source = MemSource::new(text, failing(alloc, read)?);
     let pictures = sink(alloc, pictures)?;
-    let mut notes = sink(alloc, notes)?;
-    let played = play(
-        rt,
-        alloc,
-        &words,
-        &mut source,
-        pictures,
-        &mut notes,
-        &NoGate,
-    );
-    let frames = played.journal.frames.as_slice().len();
-    let pictures = played.pictures.bytes().to_vec(alloc)?;
-    let notes = notes.bytes().to_vec(alloc)?;
-    Ok(Left {
-        ended: (played.status, frames, pictures.len(), notes.len()),
-        pictures,
-        notes,
-    })
+    let notes = sink(alloc, notes)?;
+    run_with(rt, alloc, &NoGate, words, source, pictures, notes)
+}
+
+// Runs the words on a text at a gate; nothing fails.
+pub fn run_at<R: Threads + Wait + Sync, G: Gate + Sync>(
+    rt: &R,
+    alloc: Global,
+    gate: &G,
+    words: &[&str],
+    text: Vec<u8>,
+) -> Result<Left, AllocError> {
+    let source = MemSource::new(text, Vec::new(alloc));
+    let pictures = sink(alloc, WELL)?;
+    let notes = sink(alloc, WELL)?;
+    run_with(rt, alloc, gate, words, source, pictures, notes)
 }

@@ -1,6 +1,6 @@
 use Rattle.std.proofs.Common.{inl, refl}
 use Rattle.gfx_model.specs.Views.{fewest_views}
-use Rattle.hard_use.proofs.limit_tests.limits_of_one_thing.Given as goal
+use Rattle.hard_use.proofs.limit_tests.answers.Given as goal
 
 -- the table that was just made; anything is admitted
 abbrev pub ghosts-answers_of : goal.ghosts-answers_of
