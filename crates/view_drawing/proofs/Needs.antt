@@ -12,14 +12,14 @@ use Rattle.view_drawing.specs.Recorded.{recorded_seen}
 equal : (a b : ℕ) → (a ≢ b → ⊥) → a ≡ b
 equal a b h =
     elim (cases_lt a b) [
-      inl lt ↦ absurd (h (λ e. omega (arith, lt, e)))
+      | inl lt ↦ absurd (h (λ e. omega (arith, lt, e)))
       | inr ge ↦ elim (cases_lt b a) [ inl lt ↦ absurd (h (λ e. omega (arith, lt, e))) | inr le ↦ omega (arith, ge, le) ]
     ]
 
 -- a copy that is refused is within one texture
 pub within_one : {T E : Type 0} (r : Result T E) (a b : ℕ) {x y : ℕ} → x ≡ a → y ≡ b → (x ≢ y → IsOk r) → OnErr r (a ≡ b)
-within_one (Ok t) a b is as h = tt
-within_one (Err e) a b is as h = sym is ∙ equal _ _ h ∙ as
+within_one (Ok t) a b is there h = tt
+within_one (Err e) a b is there h = sym is ∙ equal _ _ h ∙ there
 
 -- the item that was refused is a draw
 pub has_draw : (items : List Recorded) (n : ℕ) (x : Recorded) → n < length items → x ≡ slice_index_or items n x → IsDraw (recorded_seen x) → HasDraw (map recorded_seen items)
