@@ -1,6 +1,6 @@
 -- Where memory was wanting, something takes it.
 use Rattle.std.proofs.Common.{◌≡◌, ◌≢◌, ◌<◌, ℕ, List, map, length, Some, Result, Ok, Err, IsOk, OnErr, option_map, slice_index_or, refl, sym, ap, ◌∙◌, inl, inr, arith}
-use Rattle.std.proofs.lemmas.Bool.{cases_lt}
+use Rattle.std.proofs.lemmas.Bool.{cases_lt, false≢true}
 use Rattle.std.proofs.lemmas.Option.{slice_get-map, slice_get_read}
 use Rattle.draw_encoder.specs.declared.items.BlitItem.{BlitItem}
 use Rattle.draw_encoder.specs.Seen.{blit_seen}
@@ -19,7 +19,7 @@ equal a b h =
 -- a copy that is refused is within one texture
 pub within_one : {T E : Type 0} (r : Result T E) (a b : ℕ) {x y : ℕ} → x ≡ a → y ≡ b → (x ≢ y → IsOk r) → OnErr r (a ≡ b)
 within_one (Ok t) a b is there h = tt
-within_one (Err e) a b is there h = sym is ∙ equal _ _ h ∙ there
+within_one (Err e) a b is there h = sym is ∙ equal _ _ (λ n. absurd (false≢true (h n))) ∙ there
 
 -- the item that was refused is a draw
 pub has_draw : (items : List Recorded) (n : ℕ) (x : Recorded) → n < length items → x ≡ slice_index_or items n x → IsDraw (recorded_seen x) → HasDraw (map recorded_seen items)

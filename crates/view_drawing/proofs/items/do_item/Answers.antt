@@ -1,0 +1,10 @@
+use Rattle.std.proofs.Common.{ap}
+use Rattle.draw_encoder.specs.Seen.{item_seen, draw_seen}
+use Rattle.view_drawing.proofs.Folds.{on_err_holds}
+use Rattle.view_drawing.proofs.items.do_item.Goals as goal
+
+pub returns-in_err-add_draw-in-Draw-clause-needs : goal.returns-in_err-add_draw-in-Draw-clause-needs
+returns-in_err-add_draw-in-Draw-clause-needs c =
+    let bytes = c.args.recording.now.bytes in
+    let sets = c.args.recording.now.uniforms in
+    on_err_holds c.from_residual.result (draw_seen bytes sets c.in-Draw.draw, ap (item_seen bytes sets) c.in-Draw.is)
