@@ -1,5 +1,5 @@
 // The text of a picture, in the P6 format of Netpbm.
-ghost use Rattle.std.specs.Prelude.{◌≡◌, ◌<◌, ◌+◌, ◌*◌, ◌++◌, length, take, flat_map, IfOk, OnOk};
+ghost use Rattle.std.specs.Prelude.{◌≡◌, ◌≤◌, ◌+◌, ◌-◌, ◌*◌, ◌++◌, length, take, flat_map, IfOk, OnOk};
 ghost use Rattle.scene_model.specs.Output.{picture_header, picture_text};
 ghost use Rattle.fix_math.specs.Seen.{texels_seen};
 
@@ -70,7 +70,7 @@ impl PictureText {
 /// is faster than two of fewer; what follows takes its place.
 fn write_most(room: &mut [u8], colors: &[[u8; 4]], count: usize)
     requires room { length room.old ≡ 3 * length colors.now }
-    requires less { count < length colors.now }
+    requires less { count ≤ length colors.now - 1 }
     ensures many { length room.new ≡ length room.old }
     ensures written { take (3 * count) room.new ≡ flat_map (take 3) (take count colors.now) }
 {
@@ -89,14 +89,13 @@ fn write_colors(room: &mut [u8], colors: &[[u8; 4]])
     requires { length room.old ≡ 3 * length colors.now }
     ensures { room.new ≡ flat_map (take 3) colors.now }
 {
-    if colors.is_empty() {
-        return;
+    let most = colors.len().saturating_sub(1);
+    write_most(room, colors, most);
+    for i in most..colors.len() {
+        let [red, green, blue, _] = colors[i];
+        let end = 3 * i;
+        room[end] = red;
+        room[end + 1] = green;
+        room[end + 2] = blue;
     }
-    let last = colors.len() - 1;
-    write_most(room, colors, last);
-    let [red, green, blue, _] = colors[last];
-    let end = 3 * last;
-    room[end] = red;
-    room[end + 1] = green;
-    room[end + 2] = blue;
 }
