@@ -27,7 +27,7 @@ the_numbers : (rs : List Recording) → numbers_each rs ≡ the_four → numbers
 the_numbers rs e = all_numbers rs ∙ ap (flat_map (λ (ns : List ℕ). ns)) e
 
 each_ascends : AllByRecursion Ascends the_four
-each_ascends = ((lit< tt, tt), (lit< tt, tt), (lit< tt, tt), (lit< tt, tt), tt)
+each_ascends = ((lit< tt, tt), ((lit< tt, tt), ((lit< tt, tt), ((lit< tt, tt), tt))))
 
 pub few_numbers : (rs : List Recording) → numbers_each rs ≡ the_four → length (numbers_in rs) ≤ 65528
 few_numbers rs e = let eight : length (numbers_in rs) ≡ 8 = ap length (the_numbers rs e) in omega (arith, eight)
