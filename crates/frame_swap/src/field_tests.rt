@@ -250,6 +250,27 @@ impl Promise<RenderEnd> for Served {
     ghost kept_by = { λ p r. (render_table r ≡ render_table p.0.value) × ((render_knows r).taken ≡ frames_of (render_knows r).returned) };
 }
 
+// Takes the oldest frame back where as many are out as may be, and answers how many are out then.
+fn make_room<R: Threads + Wait + Sync>(
+    rt: &R,
+    api: &mut ApiEnd,
+    latency: u8,
+    out: u8,
+    came: &mut Vec<RenderedFrame>,
+) -> u8
+    requires out { (length (api_knows api.old).given ≡ length (api_knows api.old).back + out) × (out ≤ latency) }
+    requires latency { (1 ≤ latency) × (api.old.latency ≡ latency) }
+    ensures table { (api_table api.new ≡ api_table api.old) × (api.new.latency ≡ api.old.latency) }
+    ensures out { (length (api_knows api.new).given ≡ length (api_knows api.new).back + result) × (result + 1 ≤ latency) }
+{
+    if out < latency {
+        return out;
+    }
+    let back = api.take_back(rt);
+    came.push(back).ok();
+    out - 1
+}
+
 // Gives the frames, as many out at a time as may be, and takes all back.
 fn turns<R: Threads + Wait + Sync>(
     rt: &R,
@@ -266,15 +287,13 @@ fn turns<R: Threads + Wait + Sync>(
     let mut came = Vec::new(alloc);
     let mut out = 0u8;
     for frame in frames {
-        if out == latency {
-            came.push(api.take_back(rt)).ok();
-        } else {
-            out += 1;
-        }
+        let left = make_room(rt, api, latency, out, &mut came);
         api.give(rt, frame);
+        out = left + 1;
     }
     for _ in 0..out {
-        came.push(api.take_back(rt)).ok();
+        let back = api.take_back(rt);
+        came.push(back).ok();
     }
     came
 }
