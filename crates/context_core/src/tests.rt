@@ -1,5 +1,6 @@
-// What no clause says at once: a frame from its first call to its end, with no queue and no link.
-ghost use Rattle.std.specs.Prelude.{◌≡◌};
+// What no clause says at once: each kind of call by itself, with no queue and no link. Gathering is tried by the context above.
+ghost use Rattle.std.specs.Prelude.{◌≡◌, ◌<◌, false, [], IfSome};
+ghost use Rattle.hold_table.specs.Seats.{table_of};
 
 use super::*;
 use gfx_words::ProgramKind;
@@ -20,27 +21,63 @@ const ROOM: Room = Room {
     uniforms: 0,
 };
 
-// A program is made and destroyed in frame 7, whose one encoder ends with 5. The end of the frame while the encoder is off, what the
-// encoder ended with, the frame's number and number of recordings, how many frames are out, and the next frame.
-fn one_frame(alloc: Global) -> Option<(NotReady, u64, (u32, usize), u32, u32)> {
-    let (table, seat) = HoldTable::new(alloc, 7).ok()?;
-    let mut core = ContextCore::new(alloc, seat, START).ok()?;
-    let program = core.create_program(&table, ProgramKind::Solid).ok()?;
-    core.destroy(&table, program).ok()?;
-    let recorder = core.begin(&table, ROOM).ok()?;
-    let Err(NotReady::EncodersOff) = core.prepare() else {
+// A core of its own table in frame 7.
+fn opened(alloc: Global) -> Option<(HoldTable, ContextCore)>
+    ensures table { IfSome result (λ p. p.1.table ≡ table_of p.0) }
+    ensures running { IfSome result (λ p. p.1.state.is_ended ≡ false) }
+    ensures out { IfSome result (λ p. p.1.state.out < p.1.state.book.resources.latency) }
+{
+    let Ok((table, seat)) = HoldTable::new(alloc, 7) else {
         return None;
     };
-    let (recording, seat) = recorder.end(5);
-    core.gather(&table, recording, seat);
-    let dropped = core.dropped();
-    let prepared = core.prepare().ok()?;
+    let Ok(core) = ContextCore::new(alloc, seat, START) else {
+        return None;
+    };
+    Some((table, core))
+}
+
+// A program is made and destroyed: its index and its serial.
+fn made(alloc: Global) -> Option<(u16, u32)> {
+    let (table, mut core) = opened(alloc)?;
+    let program = core.create_program(&table, ProgramKind::Solid).ok()?;
+    core.destroy(&table, program).ok()?;
+    Some((program.index(), program.serial()))
+}
+
+#[test]
+fn a_program_is_made_and_destroyed(rt: HostRuntime) -> Result<(), Fail> {
+    assert_eq!(rt; made(rt.alloc()), Some((0, 1)));
+    Ok(())
+}
+
+// An encoder is begun, and the end of the frame is not prepared while it is off: how many are begun, and how many off.
+fn encoder_off(alloc: Global) -> Option<(bool, u32, u32)> {
+    let (table, mut core) = opened(alloc)?;
+    let recorder = core.begin(&table, ROOM).ok()?;
+    let is_off = match core.prepare() {
+        Err(NotReady::EncodersOff) => true,
+        _ => false,
+    };
+    drop(recorder);
+    Some((is_off, core.begun(), core.off()))
+}
+
+#[test]
+fn no_frame_ends_while_an_encoder_is_off(rt: HostRuntime) -> Result<(), Fail> {
+    assert_eq!(rt; encoder_off(rt.alloc()), Some((true, 1, 1)));
+    Ok(())
+}
+
+// A frame ends: its number and its recordings, how many frames are out, and the next frame.
+fn one_frame(alloc: Global) -> Option<(u32, usize, u32, u32)> {
+    let (table, mut core) = opened(alloc)?;
+    let Ok(prepared) = core.prepare() else {
+        return None;
+    };
     let frame = core.finish(&table, prepared, true).frame?;
-    let made = (frame.number, frame.recordings.len());
     Some((
-        NotReady::EncodersOff,
-        dropped,
-        made,
+        frame.number,
+        frame.recordings.len(),
         core.out(),
         core.frame_number(),
     ))
@@ -48,16 +85,16 @@ fn one_frame(alloc: Global) -> Option<(NotReady, u64, (u32, usize), u32, u32)> {
 
 #[test]
 fn a_frame_ends(rt: HostRuntime) -> Result<(), Fail> {
-    let told = one_frame(rt.alloc());
-    assert_eq!(rt; told, Some((NotReady::EncodersOff, 5, (7, 1), 1, 8)));
+    assert_eq!(rt; one_frame(rt.alloc()), Some((7, 0, 1, 8)));
     Ok(())
 }
 
 // A frame that is ended where the one before was not shown: whether there is a frame, and whether the core is ended.
 fn not_shown(alloc: Global) -> Option<(bool, bool)> {
-    let (table, seat) = HoldTable::new(alloc, 7).ok()?;
-    let mut core = ContextCore::new(alloc, seat, START).ok()?;
-    let prepared = core.prepare().ok()?;
+    let (table, mut core) = opened(alloc)?;
+    let Ok(prepared) = core.prepare() else {
+        return None;
+    };
     let end = core.finish(&table, prepared, false);
     Some((end.frame.is_some(), core.is_ended()))
 }
