@@ -10,9 +10,8 @@ use Rattle.atomic_table.specs.Table.{Act, step, rest, keeps, takes, gives, Valid
 use Rattle.atomic_table.proofs.Lists.{at_set, at_snoc}
 use Rattle.hold_table.specs.declared.table.HoldTable.{HoldTable}
 use Rattle.hold_table.specs.Seats.{table_of}
-use Rattle.gfx_c.specs.declared.letter.Letter.{Letter}
 use Rattle.gfx_c.specs.Mails.{MailView}
-use Rattle.gfx_c.specs.Mail.{Mine, first_view, IsOf, Phase, empty, busy, full, code, home, holders, Fits, total, Kept, IsMail, carrying, holding, resting, Enters, Claims, Grabs, Rests}
+use Rattle.gfx_c.specs.Mail.{Letter, Mine, first_view, IsOf, Phase, empty, busy, full, code, home, holders, Fits, total, Kept, IsMail, carrying, holding, resting, Enters, Claims, Grabs, Rests}
 
 abbrev Homes : Type 0
 Homes = List (maybe.Option (Option Letter))

@@ -82,3 +82,14 @@ gathers_more r seat first old new g m =
       seat = is ∙ (λ j. joined_with (g.seat j) seat) ∙ (λ j. with_gathered (sym is j) first.state.seat);
       same = m.after ∙ (λ j. record (g.same j) { state = record (g.same j).state { seat = sym is j; gathered = lists j } });
     }
+
+pub gathers_on : {a b c : CoreView} → Gathers a b → Gathers b c → Gathers a c
+gathers_on {a} {b} {c} g h = record {
+  more = g.more ++ h.more;
+  kept = h.kept ∙ ap (λ rs. rs ++ h.more) g.kept ∙ append_assoc a.state.gathered g.more h.more;
+  seat = h.seat ∙ ap (λ s. with_gathered c.state.seat s) g.seat;
+  same = h.same ∙ (λ j. record (g.same j) { state = record (g.same j).state { seat = c.state.seat; gathered = c.state.gathered } });
+}
+
+pub gathers_one : (r : Recording) (seat : SeatView) (a b : CoreView) → cores.Gathers r seat a b → Gathers a b
+gathers_one r seat a b m = gathers_more r seat a a b (gathers_none a) m

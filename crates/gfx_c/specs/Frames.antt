@@ -1,5 +1,5 @@
 -- How a frame ends.
-use Rattle.std.specs.Prelude.{◌≡◌, ℕ, ◌<◌, ◌⊎◌, true, false, length, Result, Ok, Err, MatchResult}
+use Rattle.std.specs.Prelude.{◌≡◌, ℕ, ◌<◌, ◌≤◌, ◌⊎◌, true, false, length, Result, Ok, Err, MatchResult}
 use Rattle.gfx_words.specs.declared.refusals.Refusal.TheVariants as refusals
 use Rattle.context_core.specs.Ended.{IsReady, IsNotReady, Gives}
 use Rattle.context_core.specs.Gathered.{dropped_in}
@@ -46,8 +46,11 @@ MakesFrame result old new =
 abbrev pub Shows : Frame → (old new : ContextView) → Type 0
 Shows f old new = (r : RenderedFrame) × (r.frame ≡ f) × IsRendered old.renderer r new.renderer × (new ≡ record old { renderer = new.renderer; is_shown = is_shown r.outcome })
 
--- the frame was made and shown
-pub record IsFramed (framed : Framed) (old new : ContextView) : Type 0 where
+-- the frame was made and shown, and its picture lies within the buffer
+pub record IsFramed (framed : Framed) (room : ℕ) (old new : ContextView) : Type 0 where
+  pub runs : is_over old ≡ false
+  pub big : old.most ≤ room
+  pub fits : framed.picture ≤ room
   pub mid : ContextView
   pub frame : Frame
   pub made : IsMade frame framed.dropped old mid
@@ -66,7 +69,7 @@ IsNotFramed f room old new =
 
 -- the end of a frame
 abbrev pub FramesHere : Result Framed Fault → (room : ℕ) → (old new : ContextView) → Type 0
-FramesHere result room old new = MatchResult result (λ framed. IsFramed framed old new) (λ f. IsNotFramed f room old new)
+FramesHere result room old new = MatchResult result (λ framed. IsFramed framed room old new) (λ f. IsNotFramed f room old new)
 
 -- what C is told of a frame, or what it was told before
 abbrev pub framed_after : Result Framed Fault → Framed → Framed

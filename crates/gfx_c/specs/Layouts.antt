@@ -9,21 +9,21 @@ use Rattle.gfx_c.specs.declared.status.Fault.TheVariants as faults
 
 -- the attribute of a number
 abbrev pub attribute_of_number : ℕ → Option Attribute
-attribute_of_number 0 = Some position_attribute
-attribute_of_number 1 = Some normal_attribute
-attribute_of_number 2 = Some tangent_attribute
-attribute_of_number 3 = Some color0_attribute
-attribute_of_number 4 = Some color1_attribute
-attribute_of_number 5 = Some texcoord0_attribute
-attribute_of_number 6 = Some texcoord1_attribute
-attribute_of_number _ = None
+attribute_of_number n =
+    if n == 0 then Some position_attribute
+    else (if n == 1 then Some normal_attribute
+    else (if n == 2 then Some tangent_attribute
+    else (if n == 3 then Some color0_attribute
+    else (if n == 4 then Some color1_attribute
+    else (if n == 5 then Some texcoord0_attribute
+    else (if n == 6 then Some texcoord1_attribute else None))))))
 
 -- the component type of a number
 abbrev pub component_of_number : ℕ → Option ComponentType
-component_of_number 0 = Some u8_type
-component_of_number 1 = Some i16_type
-component_of_number 2 = Some fixed_type
-component_of_number _ = None
+component_of_number n =
+    if n == 0 then Some u8_type
+    else (if n == 1 then Some i16_type
+    else (if n == 2 then Some fixed_type else None))
 
 -- an attribute of a component type, where there are both
 abbrev pub attribute_with : Option Attribute → Option ComponentType → ℕ → Option LayoutPart

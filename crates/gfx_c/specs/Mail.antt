@@ -7,9 +7,15 @@ use Rattle.atomic_table.specs.Table.{State, Me, Step}
 use Rattle.atomic_table.specs.Seated.{TableId}
 use Rattle.hold_table.specs.declared.table.HoldTable.{HoldTable}
 use Rattle.hold_table.specs.Seats.{table_of, enc_table}
-use Rattle.gfx_c.specs.declared.letter.Letter.{Letter}
+use Rattle.hold_table.specs.declared.table.EncSeat.{EncSeat}
+use Rattle.draw_encoder.specs.declared.items.Recording.{Recording}
 use Rattle.gfx_c.specs.Mails.{MailView}
 
+-- what waits in a box: a recording and its seat
+abbrev pub Letter : Type 0
+Letter = Recording × EncSeat
+
+-- what a seat knows and holds
 abbrev pub Mine : Type 0
 Mine = Me (Option Letter) MailView
 
@@ -17,7 +23,7 @@ abbrev pub first_view : HoldTable → MailView
 first_view key = record { holds = 0; of = table_of key }
 
 abbrev pub IsOf : TableId → Letter → Type 0
-IsOf table letter = enc_table letter.seat ≡ table
+IsOf table letter = enc_table letter.1 ≡ table
 
 pub data Phase : Type 0 where
   empty : Phase

@@ -1,16 +1,14 @@
 // How encoders begin and come back.
-ghost use Rattle.std.specs.Prelude.{◌≡◌, IfOk, MatchResult};
+ghost use Rattle.std.specs.Prelude.{◌≡◌, ◌<◌, IfOk};
 ghost use Rattle.gfx_words.specs.Seen.{room_seen};
-ghost use Rattle.gfx_c.specs.Calls.{BeginsHere, Collects};
+ghost use Rattle.gfx_c.specs.Calls.{BeginsHere, Collects, Gathers};
 
 use crate::context::Context;
 use crate::encoder::Encoder;
-use crate::letter::Letter;
 use crate::status::Fault;
 use crate::things::Things;
-use context_core::{ContextCore, Room};
+use context_core::Room;
 use gfx_words::Refusal;
-use hold_table::HoldTable;
 use std::alloc::AllocError;
 use std::sync::Arc;
 
@@ -59,16 +57,36 @@ impl Context {
         }
     }
 
+    // Gathers what the encoder of a number ended with, where it has come.
+    fn collect_one(&mut self, number: u8)
+        requires { number < 8 }
+        ensures gathers { Gathers self.old.core self.new.core }
+        ensures same { self.new ≡ record self.old { core = self.new.core } }
+    {
+        match self.shared.try_take(number) {
+            None => {}
+            Some(letter) => {
+                let (recording, seat) = letter.part();
+                self.core.gather(&self.shared.table, recording, seat);
+            }
+        }
+    }
+
+    // Gathers what encoders of this frame ended with and has come.
+    fn collect_all(&mut self)
+        ensures gathers { Gathers self.old.core self.new.core }
+        ensures same { self.new ≡ record self.old { core = self.new.core } }
+    {
+        for number in 0..8u8 {
+            self.collect_one(number);
+        }
+    }
+
     /// Collects what encoders of this frame ended with and has come, and answers how many have not come.
     pub(crate) fn collect(&mut self) -> u32
         ensures { Collects result self.old self.new }
     {
-        for number in 0..8u8 {
-            if let Some(letter) = self.shared.try_take(number) {
-                let Letter { recording, seat } = letter;
-                self.core.gather(&self.shared.table, recording, seat);
-            }
-        }
+        self.collect_all();
         self.core.off()
     }
 }

@@ -5,9 +5,10 @@ ghost use Rattle.gfx_c.specs.Exports.{OnContext, ShutsDown};
 ghost use Rattle.gfx_c.specs.Opening.{Opens, BeginsInto};
 
 use crate::context::Context;
+use crate::held::{put_context, put_encoder, take_context};
 use crate::objects::Object;
-use crate::slot::{Slot, is_null, put, take};
-use crate::status::{Fault, NO_OBJECT, status};
+use crate::slot::{Slot, is_null};
+use crate::status::{Fault, NO_OBJECT};
 use context_core::Room;
 use gfx_words::Refusal;
 use std::alloc::Global;
@@ -20,13 +21,12 @@ pub extern "C" fn gfx_init(alloc: Global, context: &mut Slot, width: u16, height
     if !is_null(context, alloc) {
         return Fault::Taken.number();
     }
-    let Ok(mut object) = Box::new(alloc, Object::Blank) else {
+    let Ok(object) = Box::new(alloc, Object::Blank) else {
         return Fault::Refused(Refusal::OutOfMemory).number();
     };
     match Context::new(alloc, width, height) {
         Ok(made) => {
-            *object = Object::Api(made);
-            put(context, object);
+            put_context(context, object, made);
             0
         }
         Err(fault) => fault.number(),
@@ -38,14 +38,10 @@ pub extern "C" fn gfx_init(alloc: Global, context: &mut Slot, width: u16, height
 pub extern "C" fn gfx_shutdown(alloc: Global, context: &mut Slot) -> u32
     ensures { ShutsDown context.old.value context.new.value result }
 {
-    let Some(object) = take(context, alloc) else {
-        return NO_OBJECT;
-    };
-    if let Object::Api(_) = &*object {
-        return 0;
+    match take_context(context, alloc) {
+        Some(_given_up) => 0,
+        None => NO_OBJECT,
     }
-    put(context, object);
-    NO_OBJECT
 }
 
 /// Begins this frame's next encoder, for a handle that is null.
@@ -63,10 +59,10 @@ pub extern "C" fn gfx_begin(
     if !is_null(encoder, alloc) {
         return Fault::Taken.number();
     }
-    let Ok(mut blank) = Box::new(alloc, Object::Blank) else {
+    let Ok(blank) = Box::new(alloc, Object::Blank) else {
         return Fault::Refused(Refusal::OutOfMemory).number();
     };
-    let Some(mut object) = take(context, alloc) else {
+    let Some((object, mut api)) = take_context(context, alloc) else {
         return NO_OBJECT;
     };
     let room = Room {
@@ -74,15 +70,11 @@ pub extern "C" fn gfx_begin(
         bytes,
         uniforms,
     };
-    let begun = match &mut *object {
-        Object::Api(api) => api.begin(room),
-        _ => Err(Fault::NoObject),
-    };
-    put(context, object);
+    let begun = api.begin(room);
+    put_context(context, object, api);
     match begun {
         Ok(recording) => {
-            *blank = Object::Recording(recording);
-            put(encoder, blank);
+            put_encoder(encoder, blank, recording);
             0
         }
         Err(fault) => fault.number(),
@@ -94,18 +86,12 @@ pub extern "C" fn gfx_begin(
 pub extern "C" fn gfx_collect(alloc: Global, context: &mut Slot, off: &mut u32) -> u32
     ensures { OnContext context.old.value context.new.value result (λ r c d. (r ≡ Ok tt) × Collects off.new c d) (off.new ≡ off.old) }
 {
-    let Some(mut object) = take(context, alloc) else {
+    let Some((object, mut api)) = take_context(context, alloc) else {
         return NO_OBJECT;
     };
-    let answer = match &mut *object {
-        Object::Api(api) => {
-            *off = api.collect();
-            Ok(())
-        }
-        _ => Err(Fault::NoObject),
-    };
-    put(context, object);
-    status(answer)
+    *off = api.collect();
+    put_context(context, object, api);
+    0
 }
 
 /// Tells the number of the frame that is recorded.
@@ -113,16 +99,10 @@ pub extern "C" fn gfx_collect(alloc: Global, context: &mut Slot, off: &mut u32) 
 pub extern "C" fn gfx_frame_number(alloc: Global, context: &mut Slot, number: &mut u32) -> u32
     ensures { OnContext context.old.value context.new.value result (λ r c d. (r ≡ Ok tt) × (d ≡ c) × (number.new ≡ c.core.state.book.resources.frame)) (number.new ≡ number.old) }
 {
-    let Some(mut object) = take(context, alloc) else {
+    let Some((object, api)) = take_context(context, alloc) else {
         return NO_OBJECT;
     };
-    let answer = match &mut *object {
-        Object::Api(api) => {
-            *number = api.core.frame_number();
-            Ok(())
-        }
-        _ => Err(Fault::NoObject),
-    };
-    put(context, object);
-    status(answer)
+    *number = api.frame_number();
+    put_context(context, object, api);
+    0
 }

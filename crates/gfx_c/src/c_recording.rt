@@ -1,89 +1,15 @@
 // The record calls of encoders for C.
-ghost use Rattle.std.specs.Prelude.{◌≡◌, ◌∷◌, []};
+ghost use Rattle.std.specs.Prelude.{◌∷◌, []};
 ghost use Rattle.gfx_model.specs.Recorder as calls;
-ghost use Rattle.gfx_model.specs.Words.{vec4_value, int_value};
-ghost use Rattle.gfx_c.specs.Calls.{Records, OnThing, OnMaybe};
+ghost use Rattle.gfx_model.specs.Words.{vec4_value};
+ghost use Rattle.gfx_c.specs.Calls.{Records, OnThing};
 ghost use Rattle.gfx_c.specs.Exports.{OnEncoder};
 
-use crate::objects::Object;
-use crate::recording::Copied;
-use crate::slot::{Slot, put, take};
-use crate::status::{Fault, NO_OBJECT, status};
-use crate::transform::Transform;
-use fix_math::{Affine, Rect};
+use crate::held::{put_encoder, take_encoder};
+use crate::slot::Slot;
+use crate::status::{NO_OBJECT, status};
 use gfx_words::UniformValue;
 use std::alloc::Global;
-
-/// Sets the state word of the next draws.
-#[unsafe(no_mangle)]
-pub extern "C" fn gfx_set_state(alloc: Global, encoder: &mut Slot, word: u64) -> u32
-    ensures { OnEncoder encoder.old.value encoder.new.value result (λ r c d. Records r (calls.set_state word) c d) }
-{
-    let Some(mut object) = take(encoder, alloc) else {
-        return NO_OBJECT;
-    };
-    let answer = match &mut *object {
-        Object::Recording(recording) => recording.set_state(word),
-        _ => Err(Fault::NoObject),
-    };
-    put(encoder, object);
-    status(answer)
-}
-
-/// Sets the stencil words for triangles that face to the front and to the back; 0 is no stencil.
-#[unsafe(no_mangle)]
-pub extern "C" fn gfx_set_stencil(alloc: Global, encoder: &mut Slot, front: u32, back: u32) -> u32
-    ensures { OnEncoder encoder.old.value encoder.new.value result (λ r c d. Records r (calls.set_stencil front back) c d) }
-{
-    let Some(mut object) = take(encoder, alloc) else {
-        return NO_OBJECT;
-    };
-    let answer = match &mut *object {
-        Object::Recording(recording) => recording.set_stencil(front, back),
-        _ => Err(Fault::NoObject),
-    };
-    put(encoder, object);
-    status(answer)
-}
-
-/// Sets the scissor in pixels; with both sides 0 there is none.
-#[unsafe(no_mangle)]
-pub extern "C" fn gfx_set_scissor(
-    alloc: Global,
-    encoder: &mut Slot,
-    x: u16,
-    y: u16,
-    w: u16,
-    h: u16,
-) -> u32
-    ensures { OnEncoder encoder.old.value encoder.new.value result (λ r c d. Records r (calls.set_scissor (record { x = x; y = y; w = w; h = h })) c d) }
-{
-    let Some(mut object) = take(encoder, alloc) else {
-        return NO_OBJECT;
-    };
-    let answer = match &mut *object {
-        Object::Recording(recording) => recording.set_scissor(Rect { x, y, w, h }),
-        _ => Err(Fault::NoObject),
-    };
-    put(encoder, object);
-    status(answer)
-}
-
-/// Sets the transform from the vertices to the view.
-#[unsafe(no_mangle)]
-pub extern "C" fn gfx_set_transform(alloc: Global, encoder: &mut Slot, transform: &Transform) -> u32
-    ensures { OnEncoder encoder.old.value encoder.new.value result (λ r c d. Records r (calls.set_transform transform.now.m) c d) }
-{
-    let Some(mut object) = take(encoder, alloc) else {
-        return NO_OBJECT;
-    };
-    let answer = match &mut *object {
-        Object::Recording(recording) => recording.set_transform(Affine { m: transform.m }),
-        _ => Err(Fault::NoObject),
-    };
-    put(encoder, object);
-    status(answer)
-}
 
 /// Takes vertices of a buffer.
 #[unsafe(no_mangle)]
@@ -96,36 +22,11 @@ pub extern "C" fn gfx_set_vertices(
 ) -> u32
     ensures { OnEncoder encoder.old.value encoder.new.value result (λ r c d. OnThing c.rows buffer r c d (λ h. Records r (calls.set_vertices h first count) c d)) }
 {
-    let Some(mut object) = take(encoder, alloc) else {
+    let Some((object, mut recording)) = take_encoder(encoder, alloc) else {
         return NO_OBJECT;
     };
-    let answer = match &mut *object {
-        Object::Recording(recording) => recording.set_vertices(buffer, first, count),
-        _ => Err(Fault::NoObject),
-    };
-    put(encoder, object);
-    status(answer)
-}
-
-/// Takes indices of a buffer.
-#[unsafe(no_mangle)]
-pub extern "C" fn gfx_set_indices(
-    alloc: Global,
-    encoder: &mut Slot,
-    buffer: u64,
-    first: u32,
-    count: u32,
-) -> u32
-    ensures { OnEncoder encoder.old.value encoder.new.value result (λ r c d. OnThing c.rows buffer r c d (λ h. Records r (calls.set_indices h first count) c d)) }
-{
-    let Some(mut object) = take(encoder, alloc) else {
-        return NO_OBJECT;
-    };
-    let answer = match &mut *object {
-        Object::Recording(recording) => recording.set_indices(buffer, first, count),
-        _ => Err(Fault::NoObject),
-    };
-    put(encoder, object);
+    let answer = recording.set_vertices(buffer, first, count);
+    put_encoder(encoder, object, recording);
     status(answer)
 }
 
@@ -139,46 +40,11 @@ pub extern "C" fn gfx_set_transient_vertices(
 ) -> u32
     ensures { OnEncoder encoder.old.value encoder.new.value result (λ r c d. OnThing c.rows layout r c d (λ h. Records r (calls.set_transient_vertices h bytes.now) c d)) }
 {
-    let Some(mut object) = take(encoder, alloc) else {
+    let Some((object, mut recording)) = take_encoder(encoder, alloc) else {
         return NO_OBJECT;
     };
-    let answer = match &mut *object {
-        Object::Recording(recording) => recording.set_transient_vertices(layout, bytes),
-        _ => Err(Fault::NoObject),
-    };
-    put(encoder, object);
-    status(answer)
-}
-
-/// Takes a copy of bytes as indices of two bytes each.
-#[unsafe(no_mangle)]
-pub extern "C" fn gfx_set_transient_indices(alloc: Global, encoder: &mut Slot, bytes: &[u8]) -> u32
-    ensures { OnEncoder encoder.old.value encoder.new.value result (λ r c d. Records r (calls.set_transient_indices bytes.now) c d) }
-{
-    let Some(mut object) = take(encoder, alloc) else {
-        return NO_OBJECT;
-    };
-    let answer = match &mut *object {
-        Object::Recording(recording) => recording.set_transient_indices(bytes),
-        _ => Err(Fault::NoObject),
-    };
-    put(encoder, object);
-    status(answer)
-}
-
-/// Puts a texture on stage 0 or 1, or takes it off by 0.
-#[unsafe(no_mangle)]
-pub extern "C" fn gfx_set_texture(alloc: Global, encoder: &mut Slot, stage: u8, texture: u64) -> u32
-    ensures { OnEncoder encoder.old.value encoder.new.value result (λ r c d. OnMaybe c.rows texture r c d (λ o. Records r (calls.set_texture stage o) c d)) }
-{
-    let Some(mut object) = take(encoder, alloc) else {
-        return NO_OBJECT;
-    };
-    let answer = match &mut *object {
-        Object::Recording(recording) => recording.set_texture(stage, texture),
-        _ => Err(Fault::NoObject),
-    };
-    put(encoder, object);
+    let answer = recording.set_transient_vertices(layout, bytes);
+    put_encoder(encoder, object, recording);
     status(answer)
 }
 
@@ -195,33 +61,11 @@ pub extern "C" fn gfx_set_vec4(
 ) -> u32
     ensures { OnEncoder encoder.old.value encoder.new.value result (λ r c d. OnThing c.rows uniform r c d (λ h. Records r (calls.set_uniform h (vec4_value (x ∷ y ∷ z ∷ w ∷ []))) c d)) }
 {
-    let Some(mut object) = take(encoder, alloc) else {
+    let Some((object, mut recording)) = take_encoder(encoder, alloc) else {
         return NO_OBJECT;
     };
-    let answer = match &mut *object {
-        Object::Recording(recording) => recording.set_uniform(
-            uniform,
-            UniformValue::Vec4([x, y, z, w]),
-        ),
-        _ => Err(Fault::NoObject),
-    };
-    put(encoder, object);
-    status(answer)
-}
-
-/// Sets a value of a uniform of one whole number.
-#[unsafe(no_mangle)]
-pub extern "C" fn gfx_set_int(alloc: Global, encoder: &mut Slot, uniform: u64, value: i32) -> u32
-    ensures { OnEncoder encoder.old.value encoder.new.value result (λ r c d. OnThing c.rows uniform r c d (λ h. Records r (calls.set_uniform h (int_value value)) c d)) }
-{
-    let Some(mut object) = take(encoder, alloc) else {
-        return NO_OBJECT;
-    };
-    let answer = match &mut *object {
-        Object::Recording(recording) => recording.set_uniform(uniform, UniformValue::Int(value)),
-        _ => Err(Fault::NoObject),
-    };
-    put(encoder, object);
+    let answer = recording.set_uniform(uniform, UniformValue::Vec4([x, y, z, w]));
+    put_encoder(encoder, object, recording);
     status(answer)
 }
 
@@ -237,14 +81,11 @@ pub extern "C" fn gfx_submit(
 ) -> u32
     ensures { OnEncoder encoder.old.value encoder.new.value result (λ r c d. OnThing c.rows program r c d (λ h. Records r (calls.submit view h depth discard) c d)) }
 {
-    let Some(mut object) = take(encoder, alloc) else {
+    let Some((object, mut recording)) = take_encoder(encoder, alloc) else {
         return NO_OBJECT;
     };
-    let answer = match &mut *object {
-        Object::Recording(recording) => recording.submit(view, program, depth, discard),
-        _ => Err(Fault::NoObject),
-    };
-    put(encoder, object);
+    let answer = recording.submit(view, program, depth, discard);
+    put_encoder(encoder, object, recording);
     status(answer)
 }
 
@@ -253,53 +94,10 @@ pub extern "C" fn gfx_submit(
 pub extern "C" fn gfx_touch(alloc: Global, encoder: &mut Slot, view: u16) -> u32
     ensures { OnEncoder encoder.old.value encoder.new.value result (λ r c d. Records r (calls.touch view) c d) }
 {
-    let Some(mut object) = take(encoder, alloc) else {
+    let Some((object, mut recording)) = take_encoder(encoder, alloc) else {
         return NO_OBJECT;
     };
-    let answer = match &mut *object {
-        Object::Recording(recording) => recording.touch(view),
-        _ => Err(Fault::NoObject),
-    };
-    put(encoder, object);
-    status(answer)
-}
-
-/// Puts down a copy of a region between textures.
-#[unsafe(no_mangle)]
-pub extern "C" fn gfx_blit(
-    alloc: Global,
-    encoder: &mut Slot,
-    view: u16,
-    dst: u64,
-    dx: u16,
-    dy: u16,
-    src: u64,
-    sx: u16,
-    sy: u16,
-    w: u16,
-    h: u16,
-) -> u32
-    ensures { OnEncoder encoder.old.value encoder.new.value result (λ r c d. OnThing c.rows dst r c d (λ to. OnThing c.rows src r c d (λ from. Records r (calls.blit (record { view = view; destination = to; dx = dx; dy = dy; source = from; sx = sx; sy = sy; w = w; h = h })) c d))) }
-{
-    let Some(mut object) = take(encoder, alloc) else {
-        return NO_OBJECT;
-    };
-    let answer = match &mut *object {
-        Object::Recording(recording) => recording.blit(
-            view,
-            dst,
-            src,
-            Copied {
-                dx,
-                dy,
-                sx,
-                sy,
-                w,
-                h,
-            },
-        ),
-        _ => Err(Fault::NoObject),
-    };
-    put(encoder, object);
+    let answer = recording.touch(view);
+    put_encoder(encoder, object, recording);
     status(answer)
 }

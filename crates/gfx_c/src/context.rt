@@ -59,7 +59,7 @@ impl Model for Context {
 fn is_side(side: u16) -> bool
     ensures { result ≡ true → (1 ≤ side) × (side ≤ 2048) }
 {
-    (1..=2048).contains(&side)
+    side >= 1 && side <= 2048
 }
 
 impl Context {
@@ -103,6 +103,13 @@ impl Context {
             most: 3 * usize::from(width) * usize::from(height) + MOST_HEADER,
             is_shown: true,
         })
+    }
+
+    /// The number of the frame that is recorded.
+    pub(crate) fn frame_number(&self) -> u32
+        ensures { result ≡ self.now.core.state.book.resources.frame }
+    {
+        self.core.frame_number()
     }
 
     /// Whether no encoder begins and no frame ends any more.

@@ -5,7 +5,7 @@ ghost use Rattle.gfx_c.specs.Frames.{MakesFrame, Shows, FramesHere};
 use crate::context::Context;
 use crate::picture::swap;
 use crate::status::Fault;
-use context_core::NotReady;
+use context_core::{FrameEnd, NotReady};
 use frame_record::{Frame, Outcome};
 use gfx_words::Refusal;
 use render_core::SerialRasterizer;
@@ -33,9 +33,9 @@ impl Context {
             Err(NotReady::OutOfMemory) => return Err(Fault::Refused(Refusal::OutOfMemory)),
         };
         self.core.tell_facts();
-        let end = self.core.finish(&self.shared.table, prepared, true);
+        let FrameEnd { frame, journal: _ } = self.core.finish(&self.shared.table, prepared, true);
         self.core.came_back();
-        match end.frame {
+        match frame {
             Some(frame) => Ok((frame, dropped)),
             None => unreachable!(),
         }

@@ -3,7 +3,8 @@ ghost use Rattle.std.specs.Prelude.{◌≡◌, option_map};
 ghost use Rattle.vertex_layout.specs.Kinds.{attribute_seen, component_seen};
 ghost use Rattle.gfx_c.specs.Layouts.{attribute_of_number, component_of_number, parts_of, AddsPart, IsLayoutOf};
 
-use crate::status::{Fault, told};
+use crate::status::Fault;
+use gfx_words::Refusal;
 use vertex_layout::{Attr, AttrType, LayoutBuilder, VertexLayout};
 
 /// The number of an attribute that stands for bytes that are passed over.
@@ -64,9 +65,13 @@ pub(crate) fn layout_of(parts: &[Part]) -> Result<VertexLayout, Fault>
 {
     let mut builder = LayoutBuilder::new();
     for part in parts {
-        if add(&mut builder, part).is_none() {
-            return Err(Fault::BadValue);
+        match add(&mut builder, part) {
+            Some(()) => {}
+            None => return Err(Fault::BadValue),
         }
     }
-    told(builder.end())
+    match builder.end() {
+        Ok(layout) => Ok(layout),
+        Err(_) => Err(Fault::Refused(Refusal::BadSize)),
+    }
 }

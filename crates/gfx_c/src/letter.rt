@@ -1,4 +1,5 @@
 // What lies in a letter box, what its seats know, and the kinds of step.
+ghost use Rattle.std.specs.Prelude.{◌≡◌};
 ghost use Rattle.draw_encoder.specs.Bundles.{BelongTogether};
 
 use atomic_table::{Play, TableRule};
@@ -6,21 +7,41 @@ use draw_encoder::Recording;
 use hold_table::{EncSeat, HoldTable};
 use std::marker::Model;
 
-/// What an encoder ended with, which waits to be collected. There are 512 views.
+/// What an encoder ended with, which waits to be collected: a recording and its seat, of a frame with 512 views. Contracts see the pair.
 #[derive(Drop)]
 pub struct Letter {
-    pub recording: Recording,
-    pub seat: EncSeat,
-    ghost together: { BelongTogether 512 recording seat },
+    recording: Recording,
+    seat: EncSeat,
+}
+
+impl Model for Letter {
+    ghost use Rattle.draw_encoder.specs.declared.items.Recording.{Recording};
+    ghost use Rattle.hold_table.specs.declared.table.EncSeat.{EncSeat};
+    ghost use Rattle.draw_encoder.specs.Bundles.{BelongTogether};
+
+    ghost Value = { Recording × EncSeat };
+
+    ghost view = { λ l. (l.recording, l.seat) };
+
+    ghost invariant = { λ l. BelongTogether 512 l.recording l.seat };
 }
 
 impl Letter {
     /// The recording and the seat of an encoder that ended.
     pub(crate) fn new(recording: Recording, seat: EncSeat) -> Letter
         requires { BelongTogether 512 recording seat }
-        ensures { result.seat ≡ seat }
+        ensures { result ≡ (recording, seat) }
     {
         Letter { recording, seat }
+    }
+
+    /// The recording and the seat, and what the letter knew of them.
+    pub(crate) fn part(self) -> (Recording, EncSeat)
+        ensures same { result ≡ self }
+        ensures together { BelongTogether 512 result.0 result.1 }
+    {
+        let Letter { recording, seat } = self;
+        (recording, seat)
     }
 }
 

@@ -16,6 +16,7 @@ mod context;
 mod creates;
 mod encoder;
 mod frame;
+mod held;
 mod layouts;
 mod letter;
 mod mail;
@@ -28,6 +29,5 @@ mod status;
 #[cfg(test)]
 mod tests;
 mod things;
-mod transform;
 mod updates;
 mod views;

@@ -50,7 +50,7 @@ impl LetterBox {
 
     /// Takes the letter out, where there is one. It is of the table.
     pub(crate) fn try_take(&self) -> Option<Letter>
-        ensures { IfSome result (λ l. enc_table l.seat ≡ table_of self.now.mail.shared.key) }
+        ensures { IfSome result (λ l. enc_table l.1 ≡ table_of self.now.mail.shared.key) }
     {
         let mail = &self.mail;
         let shared = &mail.shared;
@@ -108,7 +108,7 @@ impl Shared {
     /// Takes the letter out of the box of this number, where there is one. It is of the table.
     pub(crate) fn try_take(&self, number: u8) -> Option<Letter>
         requires { number < 8 }
-        ensures { IfSome result (λ l. enc_table l.seat ≡ table_of self.now.table) }
+        ensures { IfSome result (λ l. enc_table l.1 ≡ table_of self.now.table) }
     {
         self.boxes[number as usize].try_take()
     }

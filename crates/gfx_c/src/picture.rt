@@ -35,7 +35,10 @@ pub(crate) fn swap(desk: &Desk, picture: Option<Picture>) -> Option<Picture> {
         claim.done();
         return None;
     }
-    claim.put(picture, FREE)
+    match picture {
+        Some(picture) => claim.put(Some(picture), FREE),
+        None => claim.put(None, FREE),
+    }
 }
 
 /// A sink that leaves what is put on a desk. It tells no content, and want of memory is a fault.

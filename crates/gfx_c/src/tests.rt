@@ -1,11 +1,17 @@
 // The exports as C calls them.
-use crate::c_context::{gfx_begin, gfx_collect, gfx_init, gfx_shutdown};
-use crate::c_creates::gfx_create_program;
+use crate::c_context::{gfx_begin, gfx_collect, gfx_frame_number, gfx_init, gfx_shutdown};
+use crate::c_creates::{
+    gfx_create_layout, gfx_create_program, gfx_create_uniform, gfx_create_vertex_buffer,
+};
 use crate::c_encoder::{gfx_drop, gfx_end};
 use crate::c_frame::gfx_frame;
-use crate::c_recording::{gfx_submit, gfx_touch};
+use crate::c_recording::{
+    gfx_set_transient_vertices, gfx_set_vec4, gfx_set_vertices, gfx_submit, gfx_touch,
+};
 use crate::c_updates::gfx_destroy;
+use crate::c_views::gfx_set_view_clear;
 use crate::frame::Framed;
+use crate::layouts::Part;
 use crate::slot::Slot;
 use std::alloc::Global;
 use std::test::Fail;
@@ -65,5 +71,74 @@ fn one_frame(rt: HostRuntime) -> Result<(), Fail> {
     assert_eq!(rt; gfx_drop(alloc, &mut context), 100);
     assert_eq!(rt; gfx_shutdown(alloc, &mut context), 0);
     assert_eq!(rt; gfx_shutdown(alloc, &mut context), 100);
+    Ok(())
+}
+
+// Corners of a triangle, in units of 1/65536, lowest byte first: (0, 1), (1, -1), (-1, -1).
+const CORNERS: [u8; 24] = [
+    0, 0, 0, 0, 0, 0, 1, 0, 0, 0, 1, 0, 0, 0, 255, 255, 0, 0, 255, 255, 0, 0, 255, 255,
+];
+
+const CORNER: [Part; 1] = [Part {
+    attribute: 0,
+    component: 2,
+    count: 2,
+}];
+
+// A frame that clears to a colour, which no draw covers: one of vertices past the end of a buffer that dies in the frame, and one of a
+// single transient vertex.
+#[test]
+fn a_cleared_picture(rt: HostRuntime) -> Result<(), Fail> {
+    let alloc = rt.alloc();
+    let mut context = Slot::none(alloc);
+    let mut encoder = Slot::none(alloc);
+    let (mut layout, mut buffer, mut color, mut solid) = (0, 0, 0, 0);
+    let mut number = 7;
+    let mut framed = NOTHING;
+    let mut picture = vec![in alloc; 0u8; 29]?;
+    assert_eq!(rt; gfx_init(alloc, &mut context, 2, 2), 0);
+    assert_eq!(rt;
+        gfx_create_layout(alloc, &mut context, &CORNER, &mut layout),
+        0
+    );
+    assert_eq!(rt;
+        gfx_create_vertex_buffer(alloc, &mut context, layout, &CORNERS, &mut buffer),
+        0
+    );
+    assert_eq!(rt;
+        gfx_create_uniform(alloc, &mut context, b"u_color", 0, &mut color),
+        0
+    );
+    assert_eq!(rt; gfx_create_program(alloc, &mut context, 0, &mut solid), 0);
+    assert_eq!(rt;
+        gfx_set_view_clear(alloc, &mut context, 0, 1, 20, 33, 61, 255, 0, 0),
+        0
+    );
+    assert_eq!(rt; gfx_begin(alloc, &mut context, &mut encoder, 2, 24, 1), 0);
+    assert_eq!(rt;
+        gfx_set_vec4(alloc, &mut encoder, color, 65536, 0, 0, 65536),
+        0
+    );
+    assert_eq!(rt; gfx_set_vertices(alloc, &mut encoder, buffer, 3, 3), 0);
+    assert_eq!(rt; gfx_submit(alloc, &mut encoder, 0, solid, 0, 255), 0);
+    assert_eq!(rt;
+        gfx_set_transient_vertices(alloc, &mut encoder, layout, &CORNERS[..8]),
+        0
+    );
+    assert_eq!(rt; gfx_submit(alloc, &mut encoder, 0, solid, 0, 255), 0);
+    assert_eq!(rt; gfx_end(alloc, &mut encoder, 0), 0);
+    assert_eq!(rt; gfx_destroy(alloc, &mut context, buffer), 0);
+    assert_eq!(rt;
+        gfx_frame(alloc, &mut context, &mut picture, &mut framed),
+        0
+    );
+    assert_eq!(rt; framed.picture, 23);
+    assert_eq!(rt;
+        picture[..23],
+        b"P6\n2 2\n255\n\x14!=\x14!=\x14!=\x14!="[..]
+    );
+    assert_eq!(rt; gfx_frame_number(alloc, &mut context, &mut number), 0);
+    assert_eq!(rt; number, 1);
+    assert_eq!(rt; gfx_shutdown(alloc, &mut context), 0);
     Ok(())
 }

@@ -5,7 +5,7 @@ ghost use Rattle.gfx_c.specs.declared.status.Fault.TheVariants as faults;
 ghost use Rattle.gfx_c.specs.Things.{IsGiven, IsGivenOrNone};
 
 use crate::status::Fault;
-use gfx_words::{Handle, HandleName};
+use gfx_words::{Handle, HandleName, Info};
 use std::alloc::{AllocError, Global};
 
 // How many places there are: as many as the kinds have indices.
@@ -50,7 +50,7 @@ impl Things {
         ensures { IfSome result (λ h. IsGiven self.now.rows.items word h) }
     {
         let name = HandleName::from_word(word)?;
-        let place = name.kind.first_place() + name.index;
+        let place = Handle::of(name.kind, name.index, name.serial, Info::Plain).place();
         let h = self.rows[place as usize]?;
         if h.word() != word || h.place() != place {
             return None;
