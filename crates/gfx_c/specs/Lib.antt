@@ -4,6 +4,8 @@ pub mod Mails
 pub mod Statuses
 pub mod Things
 pub mod Layouts
+pub mod Modes
+pub mod Blits
 pub mod Views
 pub mod Rendered
 pub mod Calls

@@ -1,16 +1,26 @@
 // How things are made.
-ghost use Rattle.std.specs.Prelude.{◌≡◌, Err, MatchOption};
+ghost use Rattle.std.specs.Prelude.{◌≡◌, Err, IfOk, MatchOption};
 ghost use Rattle.gfx_model.specs.Resources as model;
-ghost use Rattle.gfx_model.specs.Words.{program_of_number, uniform_of_number};
+ghost use Rattle.gfx_model.specs.Words.{program_of_number, format_of_number, uniform_of_number};
 ghost use Rattle.gfx_c.specs.declared.status.Fault.TheVariants as faults;
-ghost use Rattle.gfx_c.specs.Calls.{CreatesHere, MakesLayout, OnThing, given};
+ghost use Rattle.gfx_c.specs.Calls.{CreatesHere, CreatesOrWants, MakesLayout, OnThing, OnMaybe, given};
 ghost use Rattle.gfx_c.specs.Statuses.{told_of};
 ghost use Rattle.gfx_c.specs.Layouts.{parts_of};
 
 use crate::context::Context;
 use crate::layouts::{Part, layout_of};
 use crate::status::Fault;
-use gfx_words::{Handle, ProgramKind, Refusal, UniformKind};
+use gfx_words::{Format, Handle, ProgramKind, Refusal, TexSource, UniformKind};
+use std::alloc::{AllocError, Global};
+
+// A copy of bytes.
+fn copied(alloc: Global, bytes: &[u8]) -> Result<Vec<u8>, AllocError>
+    ensures { IfOk result (λ v. v.items ≡ bytes.now) }
+{
+    let mut all = Vec::with_capacity(alloc, bytes.len())?;
+    all.extend_from_slice(bytes)?;
+    Ok(all)
+}
 
 impl Context {
     // Keeps the handle of a create.
@@ -50,6 +60,83 @@ impl Context {
             return Err(Fault::Unknown);
         };
         let answer = self.core.create_vertex_buffer(&self.shared.table, h, bytes);
+        self.keep(answer)
+    }
+
+    /// Makes an index buffer. `BadSize`, `Full`, `SerialsSpent`.
+    pub(crate) fn create_index_buffer(&mut self, bytes: &[u8]) -> Result<Handle, Fault>
+        ensures { CreatesHere result (model.create_index_buffer bytes.now) self.old self.new }
+    {
+        let answer = self.core.create_index_buffer(&self.shared.table, bytes);
+        self.keep(answer)
+    }
+
+    /// Makes a texture of texels of four bytes. `BadValue` where no format has the number; then want of memory may come; `BadSize`,
+    /// `Full`, `TexelsFull`, `SerialsSpent`.
+    pub(crate) fn create_texture(
+        &mut self,
+        width: u16,
+        height: u16,
+        format: u8,
+        blit_dst: bool,
+        bytes: &[u8],
+    ) -> Result<Handle, Fault>
+        ensures { MatchOption (format_of_number format) ((result ≡ Err faults.BadValue) × (self.new ≡ self.old)) (λ f. CreatesOrWants result (model.create_texture width height f blit_dst (model.bytes_source bytes.now)) self.old self.new) }
+    {
+        let Some(format) = Format::of_number(format) else {
+            return Err(Fault::BadValue);
+        };
+        let Ok(copy) = copied(self.alloc, bytes) else {
+            return Err(Fault::Refused(Refusal::OutOfMemory));
+        };
+        let source = TexSource::Bytes(copy);
+        let answer = self.core.create_texture(
+            &self.shared.table,
+            width,
+            height,
+            format,
+            blit_dst,
+            source,
+        );
+        self.keep(answer)
+    }
+
+    /// Makes a texture of one colour, or of one depth and stencil. `BadValue`; `BadSize`, `Full`, `TexelsFull`, `SerialsSpent`.
+    pub(crate) fn create_filled_texture(
+        &mut self,
+        width: u16,
+        height: u16,
+        format: u8,
+        blit_dst: bool,
+        texel: [u8; 4],
+    ) -> Result<Handle, Fault>
+        ensures { MatchOption (format_of_number format) ((result ≡ Err faults.BadValue) × (self.new ≡ self.old)) (λ f. CreatesHere result (model.create_texture width height f blit_dst (model.fill_source texel)) self.old self.new) }
+    {
+        let Some(format) = Format::of_number(format) else {
+            return Err(Fault::BadValue);
+        };
+        let source = TexSource::Fill(texel);
+        let answer = self.core.create_texture(
+            &self.shared.table,
+            width,
+            height,
+            format,
+            blit_dst,
+            source,
+        );
+        self.keep(answer)
+    }
+
+    /// Makes a frame buffer of a colour, and of a depth or none by 0. `Unknown` for the colour and then for the depth; `WrongKind`,
+    /// `Stale`, `Full`, `SerialsSpent`.
+    pub(crate) fn create_frame_buffer(&mut self, color: u64, depth: u64) -> Result<Handle, Fault>
+        ensures { OnThing self.old.rows color result self.old self.new (λ h. OnMaybe self.old.rows depth result self.old self.new (λ o. CreatesHere result (model.create_frame_buffer h o) self.old self.new)) }
+    {
+        let Some(h) = self.things.find(color) else {
+            return Err(Fault::Unknown);
+        };
+        let depth = self.things.find_maybe(depth)?;
+        let answer = self.core.create_frame_buffer(&self.shared.table, h, depth);
         self.keep(answer)
     }
 

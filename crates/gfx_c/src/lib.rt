@@ -29,5 +29,6 @@ mod status;
 #[cfg(test)]
 mod tests;
 mod things;
+mod transform;
 mod updates;
 mod views;
