@@ -80,6 +80,34 @@ enum Limit {
 // What four calls at a limit answered.
 type Answers = [Option<Refusal>; 4];
 
+const NAMES: Answers = [
+    None,
+    Some(Refusal::BadSize),
+    Some(Refusal::BadSize),
+    Some(Refusal::WrongKind),
+];
+
+const BYTES: Answers = [
+    Some(Refusal::BadSize),
+    Some(Refusal::BadSize),
+    None,
+    Some(Refusal::BadRange),
+];
+
+const TEXELS: Answers = [
+    None,
+    Some(Refusal::TexelsFull),
+    Some(Refusal::BadSize),
+    Some(Refusal::BadSize),
+];
+
+const CLEARS: Answers = [
+    None,
+    Some(Refusal::BadState),
+    Some(Refusal::BadState),
+    Some(Refusal::BadView),
+];
+
 fn bytes<B: ResourceCalls>(alloc: Global, calls: &mut B) -> Option<Answers> {
     let first = calls.create_layout(layout()?).ok()?;
     let most = Vec::from_elem(alloc, 7u8, 524_288).ok()?;
@@ -120,32 +148,28 @@ fn answers(alloc: Global, limit: Limit) -> Option<Answers> {
 #[test]
 fn names_have_at_most_32_bytes(rt: HostRuntime) -> Result<(), Fail> {
     let told = answers(rt.alloc(), Limit::Names).ok_or("memory")?;
-    let long = Some(Refusal::BadSize);
-    assert_eq!(rt; told, [None, long, long, Some(Refusal::WrongKind)]);
+    assert_eq!(rt; told, NAMES);
     Ok(())
 }
 
 #[test]
 fn buffers_have_at_most_524_288_bytes(rt: HostRuntime) -> Result<(), Fail> {
     let told = answers(rt.alloc(), Limit::Bytes).ok_or("refused")?;
-    let long = Some(Refusal::BadSize);
-    assert_eq!(rt; told, [long, long, None, Some(Refusal::BadRange)]);
+    assert_eq!(rt; told, BYTES);
     Ok(())
 }
 
 #[test]
 fn textures_have_at_most_33_554_432_texels(rt: HostRuntime) -> Result<(), Fail> {
     let told = answers(rt.alloc(), Limit::Texels).ok_or("memory")?;
-    let wrong = Some(Refusal::BadSize);
-    assert_eq!(rt; told, [None, Some(Refusal::TexelsFull), wrong, wrong]);
+    assert_eq!(rt; told, TEXELS);
     Ok(())
 }
 
 #[test]
 fn clears_have_greatest_numbers(rt: HostRuntime) -> Result<(), Fail> {
     let told = answers(rt.alloc(), Limit::Clears).ok_or("memory")?;
-    let wrong = Some(Refusal::BadState);
-    assert_eq!(rt; told, [None, wrong, wrong, Some(Refusal::BadView)]);
+    assert_eq!(rt; told, CLEARS);
     Ok(())
 }
 
