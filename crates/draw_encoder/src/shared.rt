@@ -16,7 +16,7 @@ use std::sync::Wait;
 pub struct Shared<C: Naming> {
     table: HoldTable,
     queue: ArrayQueue<Bundle<C>>,
-    news: EventCount,
+    bundle_came: EventCount,
     ghost named: { table_of table ≡ C.table },
 }
 
@@ -30,7 +30,7 @@ impl<C: Naming> Shared<C> {
             Ok(queue) => Ok(Shared {
                 table,
                 queue,
-                news: EventCount::new(),
+                bundle_came: EventCount::new(),
             }),
             Err(_) => Err(table),
         }
@@ -71,7 +71,7 @@ impl<C: Naming> Shared<C> {
     // Sleeps until a bundle is put into the queue, unless there is one. A push comes before its notification: where it comes before
     // `is_empty`, that finds it; where it comes later, the notification comes behind `prepare_wait`, and so ends the wait.
     fn sleep<R: Wait>(&self, rt: &R) {
-        let key = self.news.prepare_wait();
+        let key = self.bundle_came.prepare_wait();
         if self.queue.is_empty() {
             key.wait(rt);
         }
@@ -84,7 +84,7 @@ impl<C: Naming> Shared<C> {
         for _ in rt.forever() {
             match self.queue.push(rt, bundle) {
                 Ok(()) => {
-                    self.news.notify_one();
+                    self.bundle_came.notify_one();
                     return;
                 }
                 Err(back) => bundle = back,

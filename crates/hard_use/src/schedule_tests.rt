@@ -19,7 +19,7 @@ struct Scene {
     report: &'static [u8],
 }
 
-// Four encoders draw over each other with half alpha, so that each order has its own picture.
+// Four encoders draw over each other with half alpha, so that each order of the draws has its own picture.
 const OVER: Scene = Scene {
     head: b"scene 2\nsize 1 1\nencoders 4\nlatency 3\nframe\nlayout k position:fixed:2 color0:u8:4\nprogram c color\n",
     lines: b"encoder 0\nstate 106319887\ntvertices k 0000ffff0000010000ff0880000003000000010000ff08800000ffff0000fdff00ff0880\nsubmit 0 c 0 255\nstate 106319887\ntvertices k 0000ffff0000010020ef1780000003000000010020ef17800000ffff0000fdff20ef1780\nsubmit 0 c 0 255\nencoder 1\nstate 106319887\ntvertices k 0000ffff0000010040cf4480000003000000010040cf44800000ffff0000fdff40cf4480\nsubmit 0 c 0 255\nstate 106319887\ntvertices k 0000ffff0000010060bf5380000003000000010060bf53800000ffff0000fdff60bf5380\nsubmit 0 c 0 255\ntouch 0\nencoder 2\nstate 106319887\ntvertices k 0000ffff00000100809f80800000030000000100809f80800000ffff0000fdff809f8080\nsubmit 0 c 0 255\nstate 106319887\ntvertices k 0000ffff00000100a08f8f800000030000000100a08f8f800000ffff0000fdffa08f8f80\nsubmit 0 c 0 255\nencoder 3\nstate 106319887\ntvertices k 0000ffff00000100c06fbc800000030000000100c06fbc800000ffff0000fdffc06fbc80\nsubmit 0 c 0 255\nstate 106319887\ntvertices k 0000ffff00000100e05fcb800000030000000100e05fcb800000ffff0000fdffe05fcb80\nsubmit 0 c 0 255\ntouch 0\n",
