@@ -153,6 +153,24 @@ fn two(alloc: Global, encoder: u8, first: Item, second: Item) -> Result<Recordin
     Ok(recorded(alloc, encoder, items))
 }
 
+// A recording of three items.
+fn three(
+    alloc: Global,
+    encoder: u8,
+    first: Item,
+    second: Item,
+    third: Item,
+) -> Result<Recording, AllocError>
+    ensures numbers { IfOk result (λ r. numbers_of r.items ≡ number_of first ∷ number_of second ∷ number_of third ∷ []) }
+    ensures encoder { IfOk result (λ r. r.encoder ≡ encoder) }
+{
+    let mut items = Vec::new(alloc);
+    put(&mut items, first)?;
+    put(&mut items, second)?;
+    put(&mut items, third)?;
+    Ok(recorded(alloc, encoder, items))
+}
+
 // Four recordings.
 fn four(
     alloc: Global,
@@ -183,7 +201,7 @@ fn framed(alloc: Global, views: ViewTable, recordings: Vec<Recording>) -> Result
     Ok(Frame::new(0, views, pre, post, Vec::new(alloc), recordings, journal))
 }
 
-// The views of the test of the draw order: 5 and 1 first, and one of each mode.
+// The views of the test of the draw order: 5 and 1 first, and one of each mode but the default.
 fn some_views(alloc: Global) -> Result<ViewTable, Fail> {
     let mut views = ViewTable::new(alloc, 256)?;
     views.set_order(&[5, 1]).map_err(|_| "order")?;
@@ -215,11 +233,12 @@ fn items_by_view_depth_and_journal(rt: HostRuntime) -> Result<(), Fail> {
         draw(words, 1, 1, program, 2),
         draw(words, 3, 5, program, 9),
     )?;
-    let third = two(
+    let third = three(
         alloc,
         6,
         draw(words, 2, 7, program, 9),
         draw(words, 7, 7, program, 4),
+        draw(words, 8, 5, program, 5),
     )?;
     let fourth = two(
         alloc,
@@ -240,12 +259,13 @@ fn items_by_view_depth_and_journal(rt: HostRuntime) -> Result<(), Fail> {
             entry(4, 1),
             entry(0, 0),
             entry(0, 1),
-            entry(6, 1)
+            entry(6, 1),
+            entry(6, 2)
         ]
         .as_slice()
     );
-    assert!(rt; frame.item(entry(6, 1)).is_some());
-    assert!(rt; frame.item(entry(6, 2)).is_none());
+    assert!(rt; frame.item(entry(6, 2)).is_some());
+    assert!(rt; frame.item(entry(6, 3)).is_none());
     assert!(rt; frame.item(entry(3, 0)).is_none());
     let all = frame.ordered(alloc)?;
     assert_eq!(rt;
@@ -253,6 +273,7 @@ fn items_by_view_depth_and_journal(rt: HostRuntime) -> Result<(), Fail> {
         [
             entry(2, 1),
             entry(4, 1),
+            entry(6, 2),
             entry(2, 0),
             entry(4, 0),
             entry(6, 1),
@@ -261,9 +282,9 @@ fn items_by_view_depth_and_journal(rt: HostRuntime) -> Result<(), Fail> {
         .as_slice()
     );
     let end = end_of_run(&all, 0, 0);
-    assert_eq!(rt; (end, end_of_run(&all, 0, 1)), (2, 0));
+    assert_eq!(rt; (end, end_of_run(&all, 0, 1)), (3, 0));
     assert!(rt; end <= all.len());
-    assert_eq!(rt; end_of_run(&all, end, 1), 4);
+    assert_eq!(rt; end_of_run(&all, end, 1), 5);
     Ok(())
 }
 
@@ -301,6 +322,26 @@ fn equal_keys_by_number(rt: HostRuntime) -> Result<(), Fail> {
     assert_eq!(rt; frame.journal.as_slice(), by_number.as_slice());
     let all = frame.ordered(alloc)?;
     assert_eq!(rt; entries(&all, alloc)?.as_slice(), by_number.as_slice());
+    Ok(())
+}
+
+#[test]
+fn equal_draws_by_number(rt: HostRuntime) -> Result<(), Fail> {
+    let alloc = rt.alloc();
+    let words = plain_words().ok_or("words")?;
+    let program = Handle::of(Kind::Program, 3, 1, Info::Plain);
+    let views = ViewTable::new(alloc, 256)?;
+    let frame = interleaved(
+        alloc,
+        views,
+        draw(words, 2, 0, program, 7),
+        draw(words, 3, 0, program, 7),
+        draw(words, 4, 0, program, 6),
+        draw(words, 5, 0, program, 7),
+    )?;
+    let all = frame.ordered(alloc)?;
+    let nearest_first = [entry(1, 1), entry(3, 0), entry(1, 0), entry(3, 1)];
+    assert_eq!(rt; entries(&all, alloc)?.as_slice(), nearest_first.as_slice());
     Ok(())
 }
 

@@ -9,11 +9,11 @@ ghost use Rattle.frame_swap.specs.Ends.{api_table, api_knows, render_table, rend
 use crate::{ApiEnd, RenderEnd, swap_pair};
 use cmd_buffer::{CmdBuffer, CmdBytes, Command};
 use draw_encoder::{
-    BlitCall, BlitItem, Bytes, DrawItem, IndexSet, Item, Items, Recording, TouchItem, UniformSets,
-    VertexSet,
+    BlitCall, BlitItem, Bytes, DrawItem, IndexSet, Item, Items, Recording, TouchItem, UniformSet,
+    UniformSets, VertexSet,
 };
 use frame_record::{Frame, FrameLink, Outcome, RenderedFrame, collect};
-use gfx_words::{Handle, ViewMode};
+use gfx_words::{Handle, Info, Kind, UniformValue, ViewMode};
 use std::alloc::{AllocError, Global};
 use std::snapshot::Snapshot;
 use std::sync::Wait;
@@ -55,7 +55,17 @@ fn put(items: &mut Vec<Item>, item: Item) -> Result<(), AllocError>
     Ok(())
 }
 
-// A recording of two touches of a view, with one byte; its frame and its dropped lines have the number of the view.
+// One value for a uniform.
+fn one_value(alloc: Global, value: u8) -> Result<UniformSets, AllocError> {
+    let mut sets = Vec::new(alloc);
+    sets.push(UniformSet {
+        uniform: Handle::of(Kind::Uniform, 3, 1, Info::Plain),
+        value: UniformValue::Int(i32::from(value)),
+    })?;
+    Ok(UniformSets::from_vec(sets))
+}
+
+// A recording of two touches of a view, with one byte and one uniform value; its frame and its dropped lines have the number of the view.
 fn two(
     alloc: Global,
     encoder: u8,
@@ -74,7 +84,7 @@ fn two(
         frame: u32::from(view),
         items: Items::from_vec(items),
         bytes: Bytes::from_vec(Vec::from_elem(alloc, view, 1)?),
-        uniforms: UniformSets::from_vec(Vec::new(alloc)),
+        uniforms: one_value(alloc, view)?,
         dropped: u32::from(view),
     })
 }
@@ -112,11 +122,11 @@ fn recordings_of(alloc: Global, number: u8) -> Result<Vec<Recording>, AllocError
     four(alloc, number, 1, 5, 3, 7)
 }
 
-// The view of a frame's number is the first and is drawn by descending depth.
+// The view of a frame's number is the first and is drawn by descending depth; the second is as far from the last view.
 fn views_of(alloc: Global, number: u8) -> Result<ViewTable, Fail> {
     let mut views = ViewTable::new(alloc, 256)?;
     let view = u16::from(number);
-    views.set_order(&[view]).map_err(|_| "order")?;
+    views.set_order(&[view, 255 - view]).map_err(|_| "order")?;
     views
         .set_mode(view, ViewMode::DepthDescending)
         .map_err(|_| "mode")?;
@@ -184,19 +194,20 @@ fn equal_recordings(one: &[Recording], other: &[Recording]) -> bool {
 
 fn equal_views(one: &ViewTable, other: &ViewTable) -> bool {
     for view in 0..256u16 {
-        if one.get(view) != other.get(view) {
+        if one.get(view) != other.get(view) || view_at(one, view) != view_at(other, view) {
             return false;
         }
     }
-    one.count() == other.count() && first_view(one) == first_view(other)
+    one.count() == other.count()
 }
 
-// The view that is drawn first.
-fn first_view(views: &ViewTable) -> u16 {
-    if views.count() == 0 {
-        return 0;
+// The view at a position of the order.
+fn view_at(views: &ViewTable, position: u16) -> Option<u16> {
+    if position < views.count() {
+        Some(views.view_at(position))
+    } else {
+        None
     }
-    views.view_at(0)
 }
 
 // Which fields are equal: number, views, commands before and after, payloads, recordings, journal.

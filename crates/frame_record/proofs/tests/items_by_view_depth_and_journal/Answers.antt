@@ -9,8 +9,8 @@ pub framed-requires-clause-apart : goal.framed-requires-clause-apart
 framed-requires-clause-apart g c =
     let one : numbers_of c.in_ok-first.first.items ≡ 0 ∷ 4 ∷ [] = c.in_ok-first.ensures.numbers ∙ (λ i. c.draw.ensures i ∷ c.draw-2.ensures i ∷ []) in
     let two : numbers_of c.in_ok-second.second.items ≡ 1 ∷ 3 ∷ [] = c.in_ok-second.ensures.numbers ∙ (λ i. c.draw-3.ensures i ∷ c.draw-4.ensures i ∷ []) in
-    let three : numbers_of c.in_ok-third.third.items ≡ 2 ∷ 7 ∷ [] = c.in_ok-third.ensures.numbers ∙ (λ i. c.draw-5.ensures i ∷ c.draw-6.ensures i ∷ []) in
-    let four : numbers_of c.in_ok-fourth.fourth.items ≡ 5 ∷ 6 ∷ [] = c.in_ok-fourth.ensures.numbers ∙ (λ i. c.draw-7.ensures i ∷ c.draw-8.ensures i ∷ []) in
-    let all : numbers_in c.in_ok-recordings.recordings.items ≡ 0 ∷ 4 ∷ 1 ∷ 3 ∷ 2 ∷ 7 ∷ 5 ∷ 6 ∷ [] =
+    let three : numbers_of c.in_ok-third.third.items ≡ 2 ∷ 7 ∷ 8 ∷ [] = c.in_ok-third.ensures.numbers ∙ (λ i. c.draw-5.ensures i ∷ c.draw-6.ensures i ∷ c.draw-7.ensures i ∷ []) in
+    let four : numbers_of c.in_ok-fourth.fourth.items ≡ 5 ∷ 6 ∷ [] = c.in_ok-fourth.ensures.numbers ∙ (λ i. c.draw-8.ensures i ∷ c.draw-9.ensures i ∷ []) in
+    let all : numbers_in c.in_ok-recordings.recordings.items ≡ 0 ∷ 4 ∷ 1 ∷ 3 ∷ 2 ∷ 7 ∷ 8 ∷ 5 ∷ 6 ∷ [] =
     ap numbers_in c.in_ok-recordings.ensures ∙ (λ i. one i ++ (two i ++ (three i ++ (four i ++ [])))) in
-    subst (λ (ms : List ℕ). (n : ℕ) → count_of n ms ≤ 1) (sym all) (count_most (0 ∷ 4 ∷ 1 ∷ 3 ∷ 2 ∷ 7 ∷ 5 ∷ 6 ∷ []) refl)
+    subst (λ (ms : List ℕ). (n : ℕ) → count_of n ms ≤ 1) (sym all) (count_most (0 ∷ 4 ∷ 1 ∷ 3 ∷ 2 ∷ 7 ∷ 8 ∷ 5 ∷ 6 ∷ []) refl)
