@@ -15,7 +15,8 @@ mod status;
 mod tests;
 mod views;
 
-use crate::sharing::shares;
+pub use crate::sharing::shares;
+pub use crate::status::SharesStatus;
 use io_edge::{StdSink, StdSource};
 use std::alloc::{Alloc, Global};
 use std::process::ExitCode;

@@ -1,6 +1,6 @@
-// Scenes that share and that do not, texts that are none, and reads and writes that fail. The lines are those that the documents state.
-use crate::sharing::shares;
-use crate::status::SharesStatus;
+// Scenes that share and that do not, texts that are none or too long, and reads and writes that fail. The lines are those that the
+// documents state.
+use crate::{SharesStatus, shares};
 use io_edge::{MemSink, MemSource};
 use std::alloc::{AllocError, Global};
 use std::sync::Wait;
@@ -94,5 +94,27 @@ fn a_read_and_a_write_that_fail(rt: HostRuntime) -> Result<(), Fail> {
     let cut = left_by(&rt, rt.alloc(), TWO_BLITS, &[], 9)?;
     assert_eq!(rt; cut.status, SharesStatus::NoteFault);
     assert_eq!(rt; cut.lines.as_slice(), b"frame 1 v".as_slice());
+    Ok(())
+}
+
+// A scene of as many bytes as are read, and one of one more: behind its last line stands a comment.
+#[test]
+fn an_input_that_is_too_long(rt: HostRuntime) -> Result<(), Fail> {
+    let alloc = rt.alloc();
+    let mut text = TWO_BLITS.to_vec(alloc)?;
+    let comment = vec![in alloc; b'#'; 16_777_215usize.saturating_sub(text.len())]?;
+    text.extend_from_slice(&comment)?;
+    text.push(b'\n')?;
+    assert_eq!(rt; text.len(), 16_777_216);
+    let whole = left_by(&rt, alloc, &text, &[], 1000)?;
+    assert_eq!(rt; whole.status, SharesStatus::Done);
+    assert_eq!(rt;
+        whole.lines.as_slice(),
+        b"frame 1 view 3 encoders 0 1\n".as_slice()
+    );
+    text.push(b'\n')?;
+    let longer = left_by(&rt, alloc, &text, &[], 1000)?;
+    assert_eq!(rt; longer.status, SharesStatus::TooLong);
+    assert_eq!(rt; longer.lines.len(), 0);
     Ok(())
 }

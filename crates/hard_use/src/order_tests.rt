@@ -1,0 +1,118 @@
+// The draw order of a frame with all items that a frame can have.
+ghost use Rattle.std.specs.Prelude.{◌≡◌, ℕ, List};
+ghost use Rattle.gfx_model.specs.Views.{fewest_views};
+ghost use Rattle.gfx_model.specs.World.{Item as SeenItem};
+ghost use Rattle.hold_table.specs.Seats.{table_of, api_table, api_view};
+ghost use Rattle.hold_table.specs.Views.{first_view};
+
+use crate::limit_tests::START;
+use frame_record::{JournalEntry, OrderedItem, end_of_run};
+use frame_swap::{ApiEnd, swap_pair};
+use gfx_context::{Context, Encoder, Naming, Room, Shared};
+use hold_table::{ApiSeat, HoldTable};
+use std::alloc::Global;
+use std::marker::Brand;
+use std::sync::Wait;
+use std::test::Fail;
+use std::thread::Threads;
+
+const ITEMS: Room = Room {
+    items: 8191,
+    bytes: 0,
+    uniforms: 0,
+};
+
+// Touches the 256 views in turn, and tells how many touches were accepted.
+fn touches<C: Naming>(encoder: &mut Encoder<'_, C>) -> u32 {
+    for taken in 0..8191u32 {
+        if encoder.touch((taken % 256) as u16).is_err() {
+            return taken;
+        }
+    }
+    8191
+}
+
+// Eight encoders fill their rooms. How many touches were accepted.
+fn eight<C: Naming, R: Wait>(rt: &R, context: &mut Context<'_, C, ApiEnd>) -> Option<u32>
+    requires admits { (e f d : ℕ) (items : List SeenItem) → C.admits e f items d }
+{
+    let mut all = 0u32;
+    for _ in 0..8u8 {
+        if context.is_ended() {
+            return None;
+        }
+        let Ok(mut encoder) = context.begin(ITEMS) else {
+            return None;
+        };
+        all = all.wrapping_add(touches(&mut encoder));
+        encoder.end(rt, 0);
+    }
+    Some(all)
+}
+
+// What is asked of an order: its items, the touches of view 0, the first of them, the first of view 1, and the last of view 255.
+type Told = (usize, usize, [Option<JournalEntry>; 3]);
+
+fn told(order: &[OrderedItem]) -> Told {
+    let first = order.first().map(|item| item.entry);
+    let second = order.get(256).map(|item| item.entry);
+    let last = order.last().map(|item| item.entry);
+    (order.len(), end_of_run(order, 0, 0), [first, second, last])
+}
+
+// The order of the frame that the renderer's end takes.
+fn whole_order<C: Naming, R: Threads + Wait + Sync>(
+    rt: &R,
+    alloc: Global,
+    table: HoldTable,
+    seat: ApiSeat,
+) -> Option<(u32, Told)>
+    requires table { (table_of table ≡ C.table) × (api_table seat ≡ C.table) × (api_view seat ≡ first_view 0) }
+    requires views { C.views ≡ fewest_views }
+    requires admits { (e f d : ℕ) (items : List SeenItem) → C.admits e f items d }
+{
+    let Ok(shared) = Shared::<C>::new(alloc, table) else {
+        return None;
+    };
+    let Ok((api, mut render)) = swap_pair(alloc, 1) else {
+        return None;
+    };
+    let Ok(mut context) = Context::init(alloc, &shared, seat, api, START) else {
+        return None;
+    };
+    let touched = eight(rt, &mut context)?;
+    if context.is_ended() {
+        return None;
+    }
+    context.frame(rt).ok()?;
+    let Ok(Some(frame)) = render.try_take() else {
+        return None;
+    };
+    let Ok(order) = frame.ordered(alloc) else {
+        return None;
+    };
+    Some((touched, told(&order)))
+}
+
+// Touch k of an encoder is of view k mod 256, so view 0 has 32 touches of each encoder and view 255 has 31, the last of them number 7,935.
+#[test]
+fn the_order_of_all_items(rt: HostRuntime) -> Result<(), Fail> {
+    let (table, seat) = HoldTable::new(rt.alloc(), 0)?;
+    let found = whole_order::<Brand, _>(&rt, rt.alloc(), table, seat).ok_or("refused")?;
+    let (touched, (items, of_first, entries)) = found;
+    assert_eq!(rt; (touched, items, of_first), (65_528, 65_528, 256));
+    let first = JournalEntry {
+        encoder: 0,
+        ordinal: 0,
+    };
+    let second = JournalEntry {
+        encoder: 0,
+        ordinal: 1,
+    };
+    let last = JournalEntry {
+        encoder: 7,
+        ordinal: 7935,
+    };
+    assert_eq!(rt; entries, [Some(first), Some(second), Some(last)]);
+    Ok(())
+}
