@@ -31,7 +31,8 @@ use std::thread::Threads;
 /// pass had seen before, has no call of the pass between, and ends with the call.
 ///
 /// A call makes an entry, except where it answers want of memory. The end of a frame for which there was no memory in the context
-/// makes one as well, since the context is ended then.
+/// makes one as well, since the context is ended then. Want of memory is free: a call that the context would refuse, or that comes
+/// behind its end, may be answered so too, and then has no entry.
 #[derive(Drop)]
 pub struct ResLock<'t, C: Naming, L: FrameLink + Drop, H: HistoryNaming> {
     pub(crate) alloc: Global,
