@@ -19,7 +19,8 @@ mod status;
 #[cfg(test)]
 mod tests;
 
-use crate::loading::load;
+pub use crate::loading::load;
+pub use crate::status::LoadStatus;
 use io_edge::{NoGate, StdSink, StdSource};
 use std::alloc::{Alloc, Global};
 use std::process::ExitCode;

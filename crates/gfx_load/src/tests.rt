@@ -283,3 +283,24 @@ fn a_read_and_a_write_that_fail(rt: HostRuntime) -> Result<(), Fail> {
     assert_eq!(rt; cut.notes.as_slice(), b"0:0 index".as_slice());
     Ok(())
 }
+
+// A load without blocks, with one comment that has so many bytes behind its sign: 24 bytes more in all.
+fn long_load(alloc: Global, comment: usize) -> Result<Vec<u8>, AllocError> {
+    let mut text = b"load 1\ncallers 1\n#".to_vec(alloc)?;
+    text.extend_from_slice(&vec![in alloc; b'x'; comment]?)?;
+    text.extend_from_slice(b"\ndone\n")?;
+    Ok(text)
+}
+
+#[test]
+fn an_input_that_is_too_long(rt: HostRuntime) -> Result<(), Fail> {
+    let text = long_load(rt.alloc(), 16_777_192)?;
+    assert_eq!(rt; text.len(), 16_777_216);
+    let left = left_by(&rt, rt.alloc(), &text, &[], 1000, &NoGate)?;
+    assert_eq!(rt; left.status, LoadStatus::Done);
+    let text = long_load(rt.alloc(), 16_777_193)?;
+    let left = left_by(&rt, rt.alloc(), &text, &[], 1000, &NoGate)?;
+    assert_eq!(rt; left.status, LoadStatus::TooLong);
+    assert_eq!(rt; left.notes.len(), 0);
+    Ok(())
+}

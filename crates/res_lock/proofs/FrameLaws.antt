@@ -1,5 +1,5 @@
 -- The state behind the lock is kept where a frame ends and where an encoder begins.
-use Rattle.std.proofs.Common.{◌≡◌, inl, inr, ℕ, ◌+◌, ◌-◌, ◌==◌, ◌||◌, Bool, true, false, if◌then◌else◌, List, [], ◌∷◌, ◌++◌, sym, refl, ap, ◌∙◌, subst, Option, Some, None, MatchOption, IfOk, Result, Ok, Err}
+use Rattle.std.proofs.Common.{◌≡◌, inl, inr, ℕ, ◌+◌, ◌-◌, ◌==◌, ◌||◌, Bool, true, false, if◌then◌else◌, List, [], ◌∷◌, ◌++◌, sym, refl, ap, ◌∙◌, subst, Option, Some, None, MatchOption, IfOk, Result, Ok, Err, ◌≤◌, arith, cond, eq-eqb}
 use Rattle.std.proofs.lemmas.Option.{none-some}
 use Rattle.gfx_model.specs.World.{Item}
 use Rattle.gfx_model.specs.Recorder.{Room}
@@ -19,21 +19,25 @@ use Rattle.frame_record.specs.declared.frame.Outcome.TheVariants as outcomes
 use Rattle.gfx_context.specs.States.{ContextView, state_of}
 use Rattle.gfx_context.specs.Kept.{IsContext}
 use Rattle.gfx_context.specs.Calls as context_calls
-use Rattle.gfx_context.specs.Ended.{is_shown, is_shown_outcome, started, GivesWhere, IsEnd, CollectsAndEnds}
+use Rattle.gfx_context.specs.Ended.{is_shown, is_shown_outcome, started, MakesWay, GivesWhere, IsEnd, CollectsAndEnds}
 use Rattle.gfx_context.specs.declared.report.BackNote.{BackNote}
 use Rattle.gfx_context.specs.declared.report.FrameReport.{FrameReport}
 use Rattle.res_lock.specs.Histories.{LockCall, ends_frame, begins, Reply, given, begun, refused, ending, LockEntry, IsToldOrRefused, IsFrameReply, IsRunningReply, after_reply, state_after}
 use Rattle.res_lock.specs.Written.{written_where, book_after}
 use Rattle.res_lock.specs.Seats.{pass_view}
 use Rattle.res_lock.specs.Called.{entry_of, reply_of, refusal_reply, frame_reply, Calls, Begins, IsOutOfMemory, IsFramed}
-use Rattle.res_lock.specs.Locked.{log_entries, bared, IsKept, IsReport, Adds}
+use Rattle.res_lock.specs.Locked.{log_entries, bared, End, end_where, end_in, CameWith, EndedAs, IsKept, IsReport, Adds}
 use Rattle.res_lock.specs.declared.entry.LockRefusal.{LockRefusal}
 use Rattle.res_lock.specs.declared.entry.LockRefusal.TheVariants as lock_refusals
 use Rattle.res_lock.specs.declared.log.Log.{Log}
 use Rattle.res_lock.specs.declared.table.ResPass.{ResPass}
-use Rattle.res_lock.proofs.KeptLaws.{RunsAs, Both, entry_kept, running, Refuses, Refused, refused_by}
+use Rattle.res_lock.proofs.KeptLaws.{RunsAs, Both, runs_on, entry_kept, running, Refuses, Refused, refused_by}
 
 -- ---- the end of a frame, over states of the calls
+
+or_true : (b : Bool) → (b || true) ≡ true
+or_true true = refl
+or_true false = refl
 
 -- the reply is the definition's, and the state is that after it
 pub record Follows (s : CallState) (call : LockCall) (reply : Reply) (y : CallState) : Type 0 where
@@ -68,10 +72,6 @@ module _ (s x y : CallState) (same : x ≡ bared s x) where
   stopped_state e =
       let first : y ≡ record s { resources = bare_of s.resources; out = x.out; is_ended = true } = e ∙ ap (λ (z : CallState). record z { is_ended = true }) same in
       first ∙ ap (λ (m : ℕ). record s { resources = bare_of s.resources; out = m; is_ended = true }) (sym (ap (λ (z : CallState). z.out) first))
-
-  or_true : (b : Bool) → (b || true) ≡ true
-  or_true true = refl
-  or_true false = refl
 
   or_false : (a b : Bool) → (a || b) ≡ false → b ≡ false
   or_false true b e = cc e
@@ -137,22 +137,50 @@ end_as b s c d same has out number (Err r) m = by (refusal_seen r) m
     by None m = λ runs. absurd (true_false (sym (ap (λ v. v.is_ended) m.1) ∙ runs))
     by (Some x) m = λ runs. (ap (λ v. v.book) m.1 ∙ has, ap (λ v. v.out) m.1 ∙ out)
 
+-- ---- how a context was ended
+
+-- where the oldest frame came back, one fewer is out
+ended_out : (x : CallState) → 1 ≤ x.resources.latency → x.out ≡ x.resources.latency → (frames.ended x).out + 1 ≡ x.out
+ended_out x some full =
+    let one : backs_at_end x ≡ 1 = ap (λ (b : Bool). if b then 1 else 0) (eq-eqb x.out x.resources.latency full) in
+    omega arith
+
+end_told : {L : Type 0} (s : CallState) (o : Option End) (c d : ContextView L) → c.is_ended ≡ false → EndedAs o c → 1 ≤ c.book.resources.latency → c.out ≡ s.out → (number : ℕ) (result : Result FrameReport Refusal) → IsEnd result c d → EndedAs (end_where s o (frame_reply number result)) d
+end_told s o c d runs told some out number (Ok report) m = by report.given report.back m.given m.gives m.back m.state
+  where
+    by : (is_in : Bool) (back : Option BackNote) → is_in ≡ is_given (is_shown back) (state_of c) → GivesWhere is_in c d → MakesWay back c d.back → state_of d ≡ (frame_effect (is_shown back) (state_of c) end_frame).after → EndedAs (end_where s o (reply_of is_in report.number back)) d
+    by true back is g way state = runs_on o c d runs (ap (λ (z : CallState). z.is_ended) (state ∙ ap (λ (t : Bool). if t then frames.given (state_of c) else frames.ended (state_of c)) (sym is)) ∙ runs) told
+    by false None is g way state = let no_way : false ≡ true = is ∙ or_true (backs_at_end (state_of c) == 0) in cc no_way
+    by false (Some note) is g way state =
+        let left : d.out ≡ (frames.ended (state_of c)).out = ap (λ (z : CallState). z.out) (state ∙ ap (λ (t : Bool). if t then frames.given (state_of c) else frames.ended (state_of c)) (sym is)) in
+        let fewer : d.out + 1 ≡ s.out = ap (λ (n : ℕ). n + 1) left ∙ (ended_out (state_of c) some way.0 ∙ out) in
+        let came : CameWith note.outcome d.back = record { before = c.back; newest = way.1.rendered; last = way.1.oldest.back; same = sym (ap (λ (n : BackNote). n.outcome) way.1.note) } in
+        (ap (λ v. v.is_ended) g, inl (came, fewer))
+end_told {L} s o c d runs told some out number (Err r) m = by (refusal_seen r) m
+  where
+    by : (z : Option model.Refusal) → MatchOption z ((frame_refusal (state_of c) end_frame ≡ None) × (d ≡ record c { is_ended = true })) (λ x. (frame_refusal (state_of c) end_frame ≡ Some x) × (d ≡ c))
+        → EndedAs (end_where s o (refusal_reply number r z)) d
+    by None m = (ap (λ v. v.is_ended) m.1, inr (refl, ap (λ v. v.out) m.1 ∙ out))
+    by (Some x) m = subst (λ (v : ContextView L). EndedAs o v) (sym m.1) told
+
 -- ---- entries
 
 module _ {L : Type 0} {book : BookView} (start : CallState) (c : ContextView L) (h : List LockEntry) (k : IsKept start book (record { context = c; history = h })) (old new : Log) (p q : ResPass) (log_same : log_entries old ≡ h) where
-  pub framed_kept : {admits : ℕ → ℕ → List Item → ℕ → Type 0} {views : ℕ} → c.is_ended ≡ false → (result : Result FrameReport Refusal) (d : ContextView L) (number : ℕ) (reply : Reply) → number ≡ c.book.resources.frame → reply ≡ frame_reply number result
+  pub framed_kept : {admits : ℕ → ℕ → List Item → ℕ → Type 0} {views : ℕ} → c.is_ended ≡ false → 1 ≤ c.book.resources.latency → (result : Result FrameReport Refusal) (d : ContextView L) (number : ℕ) (reply : Reply) → number ≡ c.book.resources.frame → reply ≡ frame_reply number result
       → CollectsAndEnds admits views result c d → Adds ends_frame reply old new p q → Both start book d ends_frame (frame_reply number result) new p q h
-  framed_kept runs result d number reply is told m a =
+  framed_kept runs some result d number reply is told m a =
       let gathered : state_of m.collected ≡ state_of c = ap state_of m.collects.same in
+      let going : m.collected.is_ended ≡ false = ap (λ v. v.is_ended) m.collects.same ∙ runs in
       let same : state_of m.collected ≡ bared (state_after start h) (state_of m.collected) = gathered ∙ (k.same ∙ ap (bared (state_after start h)) (sym gathered)) in
       let f = end_follows (state_after start h) m.collected d same number (is ∙ ap (λ (z : CallState). z.resources.frame) (sym gathered)) result m.ends in
       entry_kept start c h k old new p q log_same d ends_frame (frame_reply number result) (subst (λ (x : Reply). Adds ends_frame x old new p q) told a) (running start c h k old new p q log_same runs ends_frame (frame_reply number result) f.replies) f.state
       (end_as (book_after book h) (state_after start h) m.collected d same (ap (λ v. v.book) m.collects.same ∙ k.written runs) (ap (λ v. v.out) m.collects.same ∙ k.out runs) number result m.ends)
+      (end_told (state_after start h) (end_in start h) m.collected d going (runs_on (end_in start h) c m.collected runs going k.told) (subst (λ v. 1 ≤ v.book.resources.latency) (sym m.collects.same) some) (ap (λ v. v.out) m.collects.same ∙ k.out runs) number result m.ends)
 
   pub reported : {admits : ℕ → ℕ → List Item → ℕ → Type 0} {views : ℕ} → c.is_ended ≡ false → IsContext admits views c → (result : Result FrameReport Refusal) (d : ContextView L) (number : ℕ) (reply : Reply) → number ≡ c.book.resources.frame → reply ≡ frame_reply number result
       → CollectsAndEnds admits views result c d → Adds ends_frame reply old new p q → (report : FrameReport) → result ≡ Ok report → IsReport L admits views start book report (pass_view q).seen
   reported {admits} {views} runs keeps result d number reply is told m a report ok =
-      let b = framed_kept runs result d number reply is told m a in
+      let b = framed_kept runs keeps.latency.0 result d number reply is told m a in
       let seen : (pass_view q).seen ≡ log_entries new = ap (λ u. u.seen) a.view in
       record {
         before = h;
@@ -188,7 +216,8 @@ module _ {L : Type 0} {book : BookView} (start : CallState) (c : ContextView L) 
       let first : state_of d ≡ record s { resources = bare_of s.resources; encoders = s.encoders + 1; out = c.out } = m.state ∙ ap (λ (z : CallState). record z { encoders = z.encoders + 1 }) k.same in
       first ∙ ap (λ (n : ℕ). record s { resources = bare_of s.resources; encoders = s.encoders + 1; out = n }) (sym (ap (λ (z : CallState). z.out) first)) in
       let b = entry_kept start c h k old new p q log_same d (begins room) (begun e.seat.encoder) (subst (λ (n : ℕ). Adds (begins room) (begun n) old new p q) is a) (running start c h k old new p q log_same runs (begins room) (begun e.seat.encoder) reply) state
-      (λ _. (ap (λ v. v.book) m.after ∙ k.written runs, ap (λ v. v.out) m.after ∙ k.out runs)) in
+      (λ _. (ap (λ v. v.book) m.after ∙ k.written runs, ap (λ v. v.out) m.after ∙ k.out runs))
+      (runs_on (end_in start h) c d runs (ap (λ v. v.is_ended) m.after ∙ runs) k.told) in
       let frame : e.seat.frame ≡ s.resources.frame = ap (λ (v : SeatView). v.frame) m.seat ∙ (sym keeps.tied.frame ∙ ap (λ (z : CallState). z.resources.frame) k.same) in
       record {
         kept = b.kept;

@@ -1,5 +1,5 @@
 -- One entry more keeps a history legal.
-use Rattle.std.proofs.Common.{◌≡◌, ◌≢◌, ℕ, zero, suc, ◌+◌, List, [], ◌∷◌, ◌++◌, length, sym, refl, ap, ◌∙◌, subst, arith, length-append}
+use Rattle.std.proofs.Common.{◌≡◌, ◌≢◌, ℕ, zero, suc, ◌+◌, List, [], ◌∷◌, ◌++◌, length, Option, sym, refl, ap, ◌∙◌, subst, arith, length-append}
 use Rattle.std.proofs.lemmas.List.{append-nil, map-append}
 use Rattle.std.specs.List.{range_with_len}
 use mathlib.Core.Logic.{dite}
@@ -8,6 +8,7 @@ use Rattle.gfx_model.specs.FrameCalls.{CallState}
 use Rattle.resource_book.specs.Written.{BookView}
 use Rattle.res_lock.specs.Written.{written_where, book_after}
 use Rattle.res_lock.specs.Histories.{LockEntry, IsReply, after_entry, state_after, HasReplies, part_of, AreInOrder, IsLegal}
+use Rattle.res_lock.specs.Locked.{End, end_where, end_after}
 use Rattle.res_lock.proofs.PartLaws.{part-append, part_own, part_other}
 
 pub after_snoc : (s : CallState) (es : List LockEntry) (e : LockEntry) → state_after s (es ++ e ∷ []) ≡ after_entry (state_after s es) e
@@ -17,6 +18,10 @@ after_snoc s (x ∷ es) e = after_snoc (after_entry s x) es e
 pub book_snoc : (b : BookView) (es : List LockEntry) (e : LockEntry) → book_after b (es ++ e ∷ []) ≡ written_where (book_after b es) e.call e.reply
 book_snoc b [] e = refl
 book_snoc b (x ∷ es) e = book_snoc (written_where b x.call x.reply) es e
+
+pub end_snoc : (s : CallState) (told : Option End) (es : List LockEntry) (e : LockEntry) → end_after s told (es ++ e ∷ []) ≡ end_where (state_after s es) (end_after s told es) e.reply
+end_snoc s told [] e = refl
+end_snoc s told (x ∷ es) e = end_snoc (after_entry s x) (end_where s told x.reply) es e
 
 pub replies_snoc : (s : CallState) (es : List LockEntry) (e : LockEntry) → HasReplies s es → IsReply (state_after s es) e.call e.reply → HasReplies s (es ++ e ∷ [])
 replies_snoc s [] e h is = (is, tt)

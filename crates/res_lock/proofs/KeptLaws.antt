@@ -16,17 +16,22 @@ use Rattle.res_lock.specs.Histories.{LockCall, on_things, ends_frame, begins, Re
 use Rattle.res_lock.specs.Written.{written_where, book_after}
 use Rattle.res_lock.specs.Seats.{pass_view, caller_of, made_by}
 use Rattle.res_lock.specs.Called.{entry_of, Does, CreatesBy, ChangesBy, Calls, Stays}
-use Rattle.res_lock.specs.Locked.{log_entries, LockView, IsOpening, bared, IsKept, Adds}
+use Rattle.res_lock.specs.Locked.{log_entries, LockView, IsOpening, bared, End, end_where, end_in, EndedAs, IsKept, Adds}
 use Rattle.res_lock.specs.declared.log.Log.{Log}
 use Rattle.res_lock.specs.declared.table.ResPass.{ResPass}
 use Rattle.res_lock.proofs.PartLaws.{part-append, part_own}
-use Rattle.res_lock.proofs.HistoryLaws.{after_snoc, book_snoc, legal_snoc}
+use Rattle.res_lock.proofs.HistoryLaws.{after_snoc, book_snoc, end_snoc, legal_snoc}
 
 -- ---- an entry more
 
 -- what a context that runs has written, and how many frames are out
 abbrev pub RunsAs : {L : Type 0} → BookView → CallState → ContextView L → Type 0
 RunsAs b s d = d.is_ended ≡ false → (d.book ≡ b) × (d.out ≡ s.out)
+
+-- a context that runs on, where no end is told
+pub runs_on : {L : Type 0} (o : Option End) (c d : ContextView L) → c.is_ended ≡ false → d.is_ended ≡ false → EndedAs o c → EndedAs o d
+runs_on None c d runs still is = still
+runs_on (Some e) c d runs still is = let both : false ≡ true = sym runs ∙ is.0 in cc both
 
 -- the state is kept, and the pass has learnt of its call
 pub record Both {L : Type 0} (start : CallState) (book : BookView) (context : ContextView L) (call : LockCall) (reply : Reply) (log : Log) (p q : ResPass) (h : List LockEntry) : Type 0 where
@@ -36,8 +41,8 @@ pub record Both {L : Type 0} (start : CallState) (book : BookView) (context : Co
 
 module _ {L : Type 0} {book : BookView} (start : CallState) (c : ContextView L) (h : List LockEntry) (k : IsKept start book (record { context = c; history = h })) (old new : Log) (p q : ResPass) (same : log_entries old ≡ h) where
   pub entry_kept : (d : ContextView L) (call : LockCall) (reply : Reply) → Adds call reply old new p q → IsReply (state_after start h) call reply → state_of d ≡ bared (after_reply (state_after start h) call reply) (state_of d)
-      → RunsAs (written_where (book_after book h) call reply) (after_reply (state_after start h) call reply) d → Both start book d call reply new p q h
-  entry_kept d call reply a is state held =
+      → RunsAs (written_where (book_after book h) call reply) (after_reply (state_after start h) call reply) d → EndedAs (end_where (state_after start h) (end_in start h) reply) d → Both start book d call reply new p q h
+  entry_kept d call reply a is state held told =
       let e : LockEntry = entry_of call reply p in
       let own : part_of (caller_of p) (log_entries old) ≡ part_of (caller_of p) (pass_view p).seen = a.on.1 (caller_of p) p.is_caller in
       let ordinal : e.ordinal ≡ length (part_of e.caller h) = p.made_is ∙ ap length (sym own ∙ ap (part_of (caller_of p)) same) in
@@ -49,6 +54,7 @@ module _ {L : Type 0} {book : BookView} (start : CallState) (c : ContextView L) 
           same = state ∙ ap (λ x. bared x (state_of d)) (sym (ap (state_after start) entries ∙ after_snoc start h e));
           written = λ runs. (held runs).0 ∙ sym (ap (book_after book) entries ∙ book_snoc book h e);
           out = λ runs. (held runs).1 ∙ sym (ap (λ l. (state_after start l).out) entries ∙ ap (λ (x : CallState). x.out) (after_snoc start h e));
+          told = subst (λ (o : Option End). EndedAs o d) (sym (ap (end_in start) entries ∙ end_snoc start None h e)) told;
         };
         calls = record {
           before = log_entries old;
@@ -79,10 +85,14 @@ module _ {L : Type 0} {book : BookView} (start : CallState) (c : ContextView L) 
   stays_as : (d : ContextView L) → d ≡ c → RunsAs (book_after book h) (state_after start h) d
   stays_as d is = subst (λ (u : ContextView L). RunsAs (book_after book h) (state_after start h) u) (sym is) (λ runs. (k.written runs, k.out runs))
 
+  -- no end is told by a call that changes no more than what was written
+  still_told : (d : ContextView L) → c.is_ended ≡ false → d.is_ended ≡ c.is_ended → EndedAs (end_in start h) d
+  still_told d runs same_end = runs_on (end_in start h) c d runs (same_end ∙ runs) k.told
+
   -- ---- a context that is ended
 
   pub ended_kept : c.is_ended ≡ true → (call : LockCall) (frame : ℕ) → frame ≡ c.book.resources.frame → Adds call (ended frame) old new p q → Both start book c call (ended frame) new p q h
-  ended_kept over call frame is a = entry_kept c call (ended frame) a (subst (λ (b : Bool). IsReplyWhere b (state_after start h) call (ended frame)) (sym over ∙ ended_is) (ap ended (is ∙ frame_is))) k.same (stays_as c refl)
+  ended_kept over call frame is a = entry_kept c call (ended frame) a (subst (λ (b : Bool). IsReplyWhere b (state_after start h) call (ended frame)) (sym over ∙ ended_is) (ap ended (is ∙ frame_is))) k.same (stays_as c refl) k.told
 
   -- ---- calls on things and views
 
@@ -111,11 +121,13 @@ module _ {L : Type 0} {book : BookView} (start : CallState) (c : ContextView L) 
 
   pub made_kept : c.is_ended ≡ false → (call : LockCall) (handle : Handle) (d : ContextView L) → CreatesBy call (Ok handle) c d → Adds call (made handle) old new p q → Both start book d call (made handle) new p q h
   made_kept runs (on_things call) handle d m a = entry_kept d (on_things call) (made handle) a (accepted_is call (Some handle) d runs (made handle) refl m) (done_state d call (Some handle) m) (done_as d call (Some handle) runs m)
+      (still_told d runs (ap (λ (x : CallState). x.is_ended) m.state))
   made_kept runs ends_frame handle d m a = absurd m
   made_kept runs (begins room) handle d m a = absurd m
 
   pub done_kept : c.is_ended ≡ false → (call : LockCall) (u : Unit {0}) (d : ContextView L) → ChangesBy call (Ok u) c d → Adds call done old new p q → Both start book d call done new p q h
   done_kept runs (on_things call) u d m a = entry_kept d (on_things call) done a (accepted_is call None d runs done refl m) (done_state d call None m) (done_as d call None runs m)
+      (still_told d runs (ap (λ (x : CallState). x.is_ended) m.state))
   done_kept runs ends_frame u d m a = absurd m
   done_kept runs (begins room) u d m a = absurd m
 
@@ -139,7 +151,8 @@ module _ {L : Type 0} {book : BookView} (start : CallState) (c : ContextView L) 
       stays : IsKept start book (record { context = d; history = log_entries new })
       stays = subst (λ (v : LockView L). IsKept start book v) (λ j. record { context = sym is j; history = (sym same ∙ ap log_entries (sym a.0)) j }) k
   refused_by d is call r (Some x) legal a =
-      let b = entry_kept d call (refused r) a (legal x refl) (ap state_of is ∙ (k.same ∙ ap (λ (u : ContextView L). bared (state_after start h) (state_of u)) (sym is))) (stays_as d is) in
+      let b = entry_kept d call (refused r) a (legal x refl) (ap state_of is ∙ (k.same ∙ ap (λ (u : ContextView L). bared (state_after start h) (state_of u)) (sym is))) (stays_as d is)
+      (subst (λ (u : ContextView L). EndedAs (end_in start h) u) (sym is) k.told) in
       record { kept = b.kept; answer = b.calls }
 
   refused_thing : c.is_ended ≡ false → (d : ContextView L) → d ≡ c → (call : ResourceCall) (r : Refusal) (o : Option model.Refusal) → refusal_seen r ≡ o → MatchOption o ⊤ (λ x. refusal_of c.book.resources call ≡ Some x) → Refuses (on_things call) r o → Refused d (on_things call) r o
@@ -165,6 +178,7 @@ opening_kept start book c h is opens has none = subst (λ (l : List LockEntry). 
   same = is ∙ (ap (λ r. record start { resources = r }) bared_is ∙ ap (λ (n : ℕ). record start { resources = bare_of start.resources; out = n }) (sym (ap (λ (x : CallState). x.out) is)));
   written = λ runs. has;
   out = λ runs. ap (λ (x : CallState). x.out) is;
+  told = ap (λ (x : CallState). x.is_ended) is ∙ opens.runs;
 })
   where
     bared_is : start.resources ≡ bare_of start.resources

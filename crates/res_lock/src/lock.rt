@@ -31,7 +31,8 @@ use std::thread::Threads;
 /// pass had seen before, has no call of the pass between, and ends with the call.
 ///
 /// A call makes an entry, except where it answers want of memory. The end of a frame for which there was no memory in the context
-/// makes one as well, since the context is ended then.
+/// makes one as well, since the context is ended then. Want of memory is free: a call that the context would refuse, or that comes
+/// behind its end, may be answered so too, and then has no entry.
 #[derive(Drop)]
 pub struct ResLock<'t, C: Naming, L: FrameLink + Drop, H: HistoryNaming> {
     pub(crate) alloc: Global,
@@ -92,7 +93,8 @@ impl<'t, C: Naming, L: FrameLink + Drop, H: HistoryNaming> ResLock<'t, C, L, H> 
 
     /// Ends the lock. All other passes were joined into this one, the first, which so has seen the whole history. The context comes
     /// back, in the state after the history. Where it is not ended, it has written just what the calls of the frame that is recorded
-    /// write, with the bytes, texels and names of the history. Of an ended context that is not said.
+    /// write, with the bytes, texels and names of the history. Of an ended context that is not said; the frame that came back last has
+    /// the outcome that the history tells, or it tells want of memory and none came back.
     pub fn close(self, pass: ResPass) -> (Context<'t, C, L>, Vec<Entry>)
         requires table { pass_table pass ≡ H.table }
         requires all { IsFirst pass × HasAll pass }
@@ -114,12 +116,13 @@ impl<'t, C: Naming, L: FrameLink + Drop, H: HistoryNaming> ResLock<'t, C, L, H> 
 
     /// Ends the frame, and waits for the encoders that were begun in it and have not ended; the lock is taken all the while.
     ///
-    /// The report is the context's own: the number of the frame, the items of all encoders that were begun in it, the sum of the numbers
-    /// that they ended with, the frame that came back, and whether this one was given.
+    /// The report is one that a context with the state and the writings of the history can give: the number of the frame, the items of
+    /// all encoders that were begun in it, the sum of the numbers that they ended with, the frame that came back, and whether this one was
+    /// given. No clause says that the items of different encoders stand in the order of the frame that was given.
     ///
     /// `Ended` exactly where an earlier frame was not given; then `FramesSpent` exactly where the number is 1,073,741,823. A frame that
-    /// is not given makes an entry that ends the context, with the outcome of `FrameReport.back`, or with want of memory where the
-    /// context had none; then the answer is `OutOfMemory`.
+    /// is not given makes an entry that ends the context, with the outcome of `FrameReport.back`, which is that of the frame that came
+    /// back, or with want of memory where the context had none; then the answer is `OutOfMemory`.
     pub fn frame<R: Threads + Wait + Sync>(
         &self,
         rt: &R,

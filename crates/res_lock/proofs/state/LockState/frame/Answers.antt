@@ -18,12 +18,12 @@ returns-then-is_ended-clause-answer g c =
 pub invariant_of-self-2 : goal.invariant_of-self-2
 invariant_of-self-2 g c =
     let runs = sym c.is_ended.ensures ∙ c.if-is_ended.false in
-    (search rules, (framed_kept g.H.HistoryNaming.start _ _ c.self.invariant.1 _ _ _ _ c.reserve.ensures.same.0 runs c.frame-answer.result _ c.frame_number-frame.result _ c.frame_number-frame.ensures.same c.reply_to-reply.ensures c.frame-answer.ensures.answer c.append-2.ensures).kept)
+    (search rules, (framed_kept g.H.HistoryNaming.start _ _ c.self.invariant.1 _ _ _ _ c.reserve.ensures.same.0 runs c.tell_facts.ensures.keeps.latency.0 c.frame-answer.result _ c.frame_number-frame.result _ c.frame_number-frame.ensures.same c.reply_to-reply.ensures c.frame-answer.ensures.answer c.append-2.ensures).kept)
 
 pub returns-clause-answer : goal.returns-clause-answer
 returns-clause-answer g c =
     let runs = sym c.is_ended.ensures ∙ c.if-is_ended.false in
-    let told = (framed_kept g.H.HistoryNaming.start _ _ c.self.invariant.1 _ _ _ _ c.reserve.ensures.same.0 runs c.frame-answer.result _ c.frame_number-frame.result _ c.frame_number-frame.ensures.same c.reply_to-reply.ensures c.frame-answer.ensures.answer c.append-2.ensures).calls in
+    let told = (framed_kept g.H.HistoryNaming.start _ _ c.self.invariant.1 _ _ _ _ c.reserve.ensures.same.0 runs c.tell_facts.ensures.keeps.latency.0 c.frame-answer.result _ c.frame_number-frame.result _ c.frame_number-frame.ensures.same c.reply_to-reply.ensures c.frame-answer.ensures.answer c.append-2.ensures).calls in
     elim c.match-answer.branch [
       | in-Ok w ↦ ok_framed g.H.HistoryNaming.start c.args.pass.now c.append-2.new.pass c.frame_number-frame.result c.frame-answer.result c.match-answer.result _ w.in-Ok.is w.result-is told
       | in-Err w ↦ err_framed g.H.HistoryNaming.start c.args.pass.now c.append-2.new.pass c.frame_number-frame.result c.frame-answer.result c.match-answer.result _ w.in-Err.is w.result-is told
