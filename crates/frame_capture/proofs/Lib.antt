@@ -6,3 +6,4 @@ pub mod Whole
 pub mod Loops
 pub mod Shown
 pub mod Rows
+pub mod Digits
