@@ -7,3 +7,4 @@ pub mod Loops
 pub mod Shown
 pub mod Rows
 pub mod Digits
+pub mod Lengths
