@@ -6,3 +6,5 @@ pub mod Whole
 pub mod Loops
 pub mod Shown
 pub mod Rows
+pub mod Digits
+pub mod Lengths

@@ -1,12 +1,14 @@
 // From a capture to the picture texts that it stands for.
-ghost use Rattle.std.specs.Prelude.{◌≡◌, ◌≤◌, ◌+◌, ◌*◌, IfOk, List, ℕ, Ok, None, length, string_bytes};
-ghost use Rattle.frame_capture.specs.Film.{Film, text_head, text_length, texts};
+ghost use Rattle.std.specs.Prelude.{◌≡◌, ◌≤◌, ◌*◌, IfOk, IsErrOf, IsOk, List, ℕ, Ok, None};
+ghost use Rattle.frame_capture.specs.Film.{Film, texts};
 ghost use Rattle.frame_capture.specs.Capture.{IsCapture};
 ghost use Rattle.frame_capture.specs.Fault.{behind, frame_at, frames_at, head_at, runs_at, shown};
 ghost use Rattle.frame_capture.specs.Gives.{Gives, Shows, after_texts};
+ghost use Rattle.frame_capture.specs.declared.fault.FieldFault.TheVariants as fields;
+ghost use Rattle.frame_capture.specs.declared.fault.CaptureFault.TheVariants as wholes;
 
 use crate::fault::{CaptureFault, FieldFault};
-use crate::fields::{after_mark, count_at, run_at, side_at, u32_at};
+use crate::fields::{after_mark, count_at, run_at, side_at, text_len, u32_at};
 use std::alloc::Global;
 
 const TOO_MUCH: u8 = 6;
@@ -73,34 +75,33 @@ fn read_frames(
     })
 }
 
-/// The sides, the number of frames, the head of their picture texts, and the bytes behind the capture's head.
+/// The sides, the number of frames, the bytes of each picture text, and the bytes behind the capture's head.
 #[derive(Drop)]
 struct Head<'a> {
     width: u16,
     height: u16,
     frames: u32,
-    text: String,
+    text_len: usize,
     rest: &'a [u8],
 }
 
 #[tactic(auto, unfolding(crate::specs::Fault::head_at))]
-fn read_head(alloc: Global, bytes: &[u8]) -> Result<Head<'_>, FieldFault>
+fn read_head(bytes: &[u8]) -> Result<Head<'_>, FieldFault>
     ensures exact { Gives (λ h. (record { width = h.width; height = h.height; frames = h.frames }, h.rest.now)) result (head_at bytes.now) }
-    ensures text { IfOk result (λ h. string_bytes h.text ≡ text_head h.width h.height) }
-    ensures short { IfOk result (λ h. h.frames * (length (string_bytes h.text) + 3 * (h.width * h.height)) ≤ 134217728) }
+    ensures short { IfOk result (λ h. h.frames * h.text_len ≤ 134217728) }
     ensures sides { IfOk result (λ h. (h.width ≤ 2048) × (h.height ≤ 2048)) }
+    ensures sure { IsErrOf result fields.OutOfMemory → ⊥ }
 {
     let rest = after_mark(bytes)?;
     let (width, rest) = side_at(rest)?;
     let (height, rest) = side_at(rest)?;
-    let text = format!(in alloc; "P6\n{width} {height}\n255\n")?;
-    let pixels = usize::from(width) * usize::from(height);
-    let (frames, rest) = count_at(width, height, text.len() + 3 * pixels, rest)?;
+    let text_len = text_len(width, height);
+    let (frames, rest) = count_at(width, height, text_len, rest)?;
     Ok(Head {
         width,
         height,
         frames,
-        text,
+        text_len,
         rest,
     })
 }
@@ -108,18 +109,20 @@ fn read_head(alloc: Global, bytes: &[u8]) -> Result<Head<'_>, FieldFault>
 /// The texts, or the first fault.
 #[tactic(auto, unfolding(crate::specs::Fault::shown))]
 fn show(alloc: Global, bytes: &[u8]) -> Result<Vec<u8>, CaptureFault>
-    ensures { Shows (λ v. v.items) result (shown bytes.now) }
+    ensures exact { Shows (λ v. v.items) result (shown bytes.now) }
+    ensures needs { IsErrOf result wholes.OutOfMemory → IsOk (head_at bytes.now) }
 {
-    let head = match read_head(alloc, bytes) {
+    let head = match read_head(bytes) {
         Ok(head) => head,
         Err(fault) => return Err(fault.behind(0)),
     };
-    let pixels = u32::from(head.width) * u32::from(head.height);
-    let text_len = head.text.len() + 3 * pixels as usize;
-    let mut texts = Vec::with_capacity(alloc, head.frames as usize * text_len)?;
+    let Head { width, height, .. } = head;
+    let text_head = format!(in alloc; "P6\n{width} {height}\n255\n")?;
+    let mut texts = Vec::with_capacity(alloc, head.frames as usize * head.text_len)?;
+    let pixels = u32::from(width) * u32::from(height);
     read_frames(
         &mut texts,
-        head.text.as_bytes(),
+        text_head.as_bytes(),
         pixels,
         head.frames,
         head.rest,
@@ -132,7 +135,7 @@ fn show(alloc: Global, bytes: &[u8]) -> Result<Vec<u8>, CaptureFault>
 /// # Errors
 ///
 /// `CaptureFault::At` exactly where the bytes are no capture, with the number of frames that stand whole before the first field that
-/// can't stand, and its cause. `CaptureFault::OutOfMemory` for want of memory alone.
+/// can't stand, and its cause. `CaptureFault::OutOfMemory` for want of memory alone, once the head was read.
 pub fn decode(alloc: Global, bytes: &[u8]) -> Result<Vec<u8>, CaptureFault>
     // What is shown are the texts of pictures whose capture the bytes are.
     ensures found { IfOk result (λ v. (f : Film) × IsCapture bytes.now f × (v.items ≡ texts f)) }
@@ -140,6 +143,8 @@ pub fn decode(alloc: Global, bytes: &[u8]) -> Result<Vec<u8>, CaptureFault>
     ensures only { (f : Film) → IsCapture bytes.now f → Shows (λ v. v.items) result (Ok (texts f)) }
     // Which fault it is, and where.
     ensures exact { Shows (λ v. v.items) result (shown bytes.now) }
+    // No memory is wanted before the head is read.
+    ensures needs { IsErrOf result wholes.OutOfMemory → IsOk (head_at bytes.now) }
 {
     show(alloc, bytes)
 }

@@ -1,9 +1,10 @@
 // The fields of a capture, each read off the front of the bytes.
-ghost use Rattle.std.specs.Prelude.{◌≡◌, ◌<◌, ◌≤◌, ◌*◌, IfOk};
+ghost use Rattle.std.specs.Prelude.{◌≡◌, ◌<◌, ◌≤◌, ◌*◌, IfOk, IsErrOf, decimal, length};
 ghost use Rattle.std.specs.Int.{w16, w32};
 ghost use Rattle.frame_capture.specs.Film.{text_length};
 ghost use Rattle.frame_capture.specs.Fault.{after_mark, count_at, number_at, run_at, side_at};
 ghost use Rattle.frame_capture.specs.Gives.{Gives};
+ghost use Rattle.frame_capture.specs.declared.fault.FieldFault.TheVariants as fields;
 
 use crate::fault::FieldFault;
 use crate::run::{Color, Run};
@@ -17,7 +18,8 @@ const MOST_FRAMES: u32 = 1024;
 const MOST_BYTES: usize = 134_217_728;
 
 fn u16_at(bytes: &[u8]) -> Result<(u16, &[u8]), FieldFault>
-    ensures { Gives (λ x. (x.0, x.1.now)) result (number_at w16 bytes.now) }
+    ensures exact { Gives (λ x. (x.0, x.1.now)) result (number_at w16 bytes.now) }
+    ensures sure { IsErrOf result fields.OutOfMemory → ⊥ }
 {
     if bytes.len() < 2 {
         return Err(FieldFault::CUT_OFF);
@@ -28,7 +30,8 @@ fn u16_at(bytes: &[u8]) -> Result<(u16, &[u8]), FieldFault>
 }
 
 pub(crate) fn u32_at(bytes: &[u8]) -> Result<(u32, &[u8]), FieldFault>
-    ensures { Gives (λ x. (x.0, x.1.now)) result (number_at w32 bytes.now) }
+    ensures exact { Gives (λ x. (x.0, x.1.now)) result (number_at w32 bytes.now) }
+    ensures sure { IsErrOf result fields.OutOfMemory → ⊥ }
 {
     if bytes.len() < 4 {
         return Err(FieldFault::CUT_OFF);
@@ -41,7 +44,8 @@ pub(crate) fn u32_at(bytes: &[u8]) -> Result<(u32, &[u8]), FieldFault>
 /// The bytes behind the mark.
 #[tactic(auto, unfolding(crate::specs::Fault::after_mark))]
 pub(crate) fn after_mark(bytes: &[u8]) -> Result<&[u8], FieldFault>
-    ensures { Gives (λ x. x.now) result (after_mark bytes.now) }
+    ensures exact { Gives (λ x. x.now) result (after_mark bytes.now) }
+    ensures sure { IsErrOf result fields.OutOfMemory → ⊥ }
 {
     if bytes.len() < 4 {
         return Err(FieldFault::CUT_OFF);
@@ -58,12 +62,40 @@ pub(crate) fn after_mark(bytes: &[u8]) -> Result<&[u8], FieldFault>
 pub(crate) fn side_at(bytes: &[u8]) -> Result<(u16, &[u8]), FieldFault>
     ensures exact { Gives (λ x. (x.0, x.1.now)) result (side_at bytes.now) }
     ensures within { IfOk result (λ x. x.0 ≤ 2048) }
+    ensures sure { IsErrOf result fields.OutOfMemory → ⊥ }
 {
     let (side, rest) = u16_at(bytes)?;
     if 1 <= side && side <= MOST_SIDE {
         return Ok((side, rest));
     }
     Err(FieldFault::OUT_OF_RANGE)
+}
+
+/// How many decimal digits a side has.
+fn digits(side: u16) -> usize
+    requires { side ≤ 2048 }
+    ensures exact { result ≡ length (decimal side) }
+    ensures most { result ≤ 4 }
+{
+    if side < 10 {
+        return 1;
+    }
+    if side < 100 {
+        return 2;
+    }
+    if side < 1000 {
+        return 3;
+    }
+    4
+}
+
+/// The bytes of a picture text of these sides.
+pub(crate) fn text_len(width: u16, height: u16) -> usize
+    requires { (width ≤ 2048) × (height ≤ 2048) }
+    ensures { result ≡ text_length width height }
+{
+    let head_len = 9 + digits(width) + digits(height);
+    head_len + 3 * (usize::from(width) * usize::from(height))
 }
 
 /// The number of frames, each of so many bytes of picture text, and the bytes behind it.
@@ -77,6 +109,7 @@ pub(crate) fn count_at(
     requires { text_len ≡ text_length width height }
     ensures exact { Gives (λ x. (x.0, x.1.now)) result (count_at width height bytes.now) }
     ensures within { IfOk result (λ x. x.0 * text_len ≤ 134217728) }
+    ensures sure { IsErrOf result fields.OutOfMemory → ⊥ }
 {
     let (frames, rest) = u32_at(bytes)?;
     if 1 <= frames

@@ -1,5 +1,5 @@
 //! Laws of captures.
-ghost use Rattle.std.specs.Prelude.{◌≡◌, List, ℕ, Ok};
+ghost use Rattle.std.specs.Prelude.{◌≡◌, ◌≤◌, List, ℕ, Ok, length};
 ghost use Rattle.frame_capture.specs.Film.{Film, texts};
 ghost use Rattle.frame_capture.specs.Capture.{IsCapture};
 ghost use Rattle.frame_capture.specs.Fault.{shown};
@@ -13,4 +13,9 @@ pub fn one_spelling()
 pub fn one_reading()
     ensures read { (bytes : List ℕ) → (f : Film) → IsCapture bytes f → shown bytes ≡ Ok (texts f) }
     ensures alone { (bytes : List ℕ) → (f g : Film) → IsCapture bytes f → IsCapture bytes g → texts f ≡ texts g }
+{}
+
+/// A capture has at most 201,326,592 bytes.
+pub fn length_law()
+    ensures { (bytes : List ℕ) → (f : Film) → IsCapture bytes f → length bytes ≤ 201326592 }
 {}

@@ -12,6 +12,7 @@ use Rattle.frame_capture.specs.Film.{Film}
 use Rattle.frame_capture.specs.Capture.{IsCapture}
 use Rattle.frame_capture.specs.Fault.{shown}
 use Rattle.frame_capture.proofs.Frames.{shown-again}
+use Rattle.frame_capture.proofs.Lengths.{capture-short}
 use Rattle.gfx_capture.specs.declared.words.Mode.{Mode}
 use Rattle.gfx_capture.specs.declared.words.Mode.TheVariants as modes
 use Rattle.gfx_capture.specs.declared.status.CaptureStatus.{CaptureStatus}
@@ -33,6 +34,10 @@ many-told most bytes before e h = go h.rest (sym e ∙ h.left_is)
 
 few-shown : (bytes : List ℕ) → length bytes ≤ longest_capture → show_status bytes ≡ by_reading (shown bytes)
 few-shown bytes few = rw (le-ltb longest_capture (length bytes) few) refl
+
+-- a capture is not too long, and is shown
+pub is-shown : (bytes : List ℕ) (f : Film) → IsCapture bytes f → show_status bytes ≡ status.Done
+is-shown bytes f is = few-shown bytes (capture-short bytes f is) ∙ ap by_reading (shown-again bytes f is)
 
 many-shown : (bytes : List ℕ) → longest_capture < length bytes → show_status bytes ≡ status.TooLong
 many-shown bytes many = rw (lt-ltb longest_capture (length bytes) many) refl

@@ -7,6 +7,8 @@ ghost use Rattle.spelling_model.specs.Readable.{IsReadable};
 ghost use Rattle.frame_capture.specs.Film.{Film, CanBeCaptured, texts};
 ghost use Rattle.frame_capture.specs.Capture.{IsCapture};
 ghost use Rattle.gfx_capture.specs.Filmed.{all_texts_length, film_of, longest_texts};
+ghost use Rattle.gfx_capture.specs.Ended.{show_status};
+ghost use Rattle.gfx_capture.specs.declared.status.CaptureStatus.TheVariants as status;
 
 /// The pictures of a readable scene, as those of a capture, have the scene's picture texts. By a lawful journal these texts have the length
 /// that the scene tells, and the pictures can be captured where it is at most 134,217,728.
@@ -19,4 +21,9 @@ pub fn film_law()
 /// Pictures that can be captured have a capture.
 pub fn capture_law()
     ensures { (f : Film) → CanBeCaptured f → (bytes : List ℕ) × IsCapture bytes f }
+{}
+
+/// The capture of pictures is shown, so `show` of what `record` wrote gives the pictures: it is not too long, and it is read as their texts.
+pub fn shown_again_law()
+    ensures { (bytes : List ℕ) (f : Film) → IsCapture bytes f → show_status bytes ≡ status.Done }
 {}

@@ -24,6 +24,29 @@ struct Left {
     notes: Vec<u8>,
 }
 
+// A run over this source, with room for so many bytes and notes.
+fn left_of<R: Threads + Wait + Sync>(
+    rt: &R,
+    alloc: Global,
+    words: &[&str],
+    source: &mut MemSource,
+    rooms: [usize; 2],
+) -> Result<Left, AllocError> {
+    let mut all = Vec::new(alloc);
+    for word in words {
+        all.push(word.to_string(alloc)?)?;
+    }
+    let mut sink = MemSink::new(alloc, rooms[0], 5, Vec::new(alloc))?;
+    let mut notes = MemSink::new(alloc, rooms[1], 7, Vec::new(alloc))?;
+    let captured = capture(rt, alloc, &all, source, &mut sink, &mut notes, &NoGate);
+    Ok(Left {
+        status: captured.status,
+        frames: captured.journal.frames.as_slice().len(),
+        put: sink.bytes().to_vec(alloc)?,
+        notes: notes.bytes().to_vec(alloc)?,
+    })
+}
+
 // A run over these bytes, with a source that fails at these calls, and room for so many bytes and notes.
 fn left_by<R: Threads + Wait + Sync>(
     rt: &R,
@@ -33,20 +56,8 @@ fn left_by<R: Threads + Wait + Sync>(
     fails: &[u32],
     rooms: [usize; 2],
 ) -> Result<Left, AllocError> {
-    let mut all = Vec::new(alloc);
-    for word in words {
-        all.push(word.to_string(alloc)?)?;
-    }
     let mut source = MemSource::new(bytes.to_vec(alloc)?, fails.to_vec(alloc)?);
-    let mut sink = MemSink::new(alloc, rooms[0], 5, Vec::new(alloc))?;
-    let mut notes = MemSink::new(alloc, rooms[1], 7, Vec::new(alloc))?;
-    let captured = capture(rt, alloc, &all, &mut source, &mut sink, &mut notes, &NoGate);
-    Ok(Left {
-        status: captured.status,
-        frames: captured.journal.frames.as_slice().len(),
-        put: sink.bytes().to_vec(alloc)?,
-        notes: notes.bytes().to_vec(alloc)?,
-    })
+    left_of(rt, alloc, words, &mut source, rooms)
 }
 
 #[test]
@@ -95,16 +106,88 @@ fn texts_that_are_refused(rt: HostRuntime) -> Result<(), Fail> {
     Ok(())
 }
 
+const TWO_FRAMES: &[u8] =
+    b"scene 1\nsize 2 2\nencoders 1\nframe\nview 0 clear 1 ff0000ff 0 0\nencoder 0\ntouch 0\nframe\nview 0 clear 1 00ff00ff 0 0\nencoder 0\ntouch 0\ndone\n";
+
+const ONE_ROW: &[u8] =
+    b"scene 1\nsize 256 1\nencoders 1\nframe\nview 0 clear 1 070707ff 0 0\nencoder 0\ntouch 0\ndone\n";
+
 #[test]
-fn pictures_that_are_too_large(rt: HostRuntime) -> Result<(), Fail> {
-    let mut text = b"scene 1\nsize 2048 2048\nencoders 1\n".to_vec(rt.alloc())?;
-    for _ in 0..11 {
+fn what_was_recorded_is_shown(rt: HostRuntime) -> Result<(), Fail> {
+    let two = left_by(&rt, rt.alloc(), &["record"], TWO_FRAMES, &[], [64, 64])?;
+    assert_eq!(rt;
+        two.put.as_slice(),
+        b"GFX1\x02\0\x02\0\x02\0\0\0\0\0\0\0\x04\xff\0\0\x01\0\0\0\x04\0\xff\0".as_slice()
+    );
+    let shown = left_by(&rt, rt.alloc(), &["show"], &two.put, &[], [64, 64])?;
+    assert_eq!(rt;
+        shown.put.as_slice(),
+        b"P6\n2 2\n255\n\xff\0\0\xff\0\0\xff\0\0\xff\0\0P6\n2 2\n255\n\0\xff\0\0\xff\0\0\xff\0\0\xff\0".as_slice()
+    );
+    let row = left_by(&rt, rt.alloc(), &["record"], ONE_ROW, &[], [64, 64])?;
+    assert_eq!(rt;
+        row.put.as_slice(),
+        b"GFX1\0\x01\x01\0\x01\0\0\0\0\0\0\0\xff\x07\x07\x07\x01\x07\x07\x07".as_slice()
+    );
+    let shown = left_by(&rt, rt.alloc(), &["show"], &row.put, &[], [1000, 64])?;
+    let mut wanted = b"P6\n256 1\n255\n".to_vec(rt.alloc())?;
+    for _ in 0..768 {
+        wanted.push(7)?;
+    }
+    assert_eq!(rt; shown.put.as_slice(), wanted.as_slice());
+    Ok(())
+}
+
+// A scene of so many frames of 2,048 by 2,048 without items.
+fn large_frames(alloc: Global, frames: u32) -> Result<Vec<u8>, AllocError> {
+    let mut text = b"scene 1\nsize 2048 2048\nencoders 1\n".to_vec(alloc)?;
+    for _ in 0..frames {
         text.extend_from_slice(b"frame\n")?;
     }
     text.extend_from_slice(b"done\n")?;
-    let left = left_by(&rt, rt.alloc(), &["record"], &text, &[], [64, 64])?;
+    Ok(text)
+}
+
+#[test]
+fn the_largest_pictures_and_one_more(rt: HostRuntime) -> Result<(), Fail> {
+    let ten = large_frames(rt.alloc(), 10)?;
+    let left = left_by(&rt, rt.alloc(), &["record"], &ten, &[], [700_000, 1000])?;
+    assert_eq!(rt; (left.status, left.frames), (CaptureStatus::Done, 10));
+    assert_eq!(rt; left.put.len(), 658_012);
+    let eleven = large_frames(rt.alloc(), 11)?;
+    let left = left_by(&rt, rt.alloc(), &["record"], &eleven, &[], [64, 64])?;
     assert_eq!(rt; left.status, CaptureStatus::TooLarge);
     assert_eq!(rt; (left.frames, left.put.len(), left.notes.len()), (0, 0, 0));
+    Ok(())
+}
+
+#[test]
+fn a_scene_that_is_too_long(rt: HostRuntime) -> Result<(), Fail> {
+    let mut text = vec![in rt.alloc(); b'\n'; 16_777_216]?;
+    let left = left_by(&rt, rt.alloc(), &["record"], &text, &[], [64, 64])?;
+    assert_eq!(rt;
+        left.status,
+        CaptureStatus::Scene {
+            line: 16_777_217,
+            cause: 2
+        }
+    );
+    text.push(b'\n')?;
+    let left = left_by(&rt, rt.alloc(), &["record"], &text, &[], [64, 64])?;
+    assert_eq!(rt; (left.status, left.put.len()), (CaptureStatus::TooLong, 0));
+    Ok(())
+}
+
+#[test]
+fn a_capture_that_is_too_long(rt: HostRuntime) -> Result<(), Fail> {
+    let bytes = vec![in rt.alloc(); 0u8; 201_326_592]?;
+    let mut source = MemSource::new(bytes, Vec::new(rt.alloc()));
+    let left = left_of(&rt, rt.alloc(), &["show"], &mut source, [64, 64])?;
+    assert_eq!(rt; left.status, CaptureStatus::Capture { frame: 0, cause: 1 });
+    let bytes = vec![in rt.alloc(); 0u8; 201_326_593]?;
+    let mut source = MemSource::new(bytes, Vec::new(rt.alloc()));
+    let left = left_of(&rt, rt.alloc(), &["show"], &mut source, [64, 64])?;
+    assert_eq!(rt; (left.status, left.put.len()), (CaptureStatus::TooLong, 0));
     Ok(())
 }
 

@@ -31,7 +31,7 @@ pub struct InstanceRoom {
 }
 
 impl InstanceRoom {
-    ghost use Rattle.std.specs.Prelude.{◌≤◌, vec_capacity, IfOk};
+    ghost use Rattle.std.specs.Prelude.{◌<◌, ◌≤◌, vec_capacity, IfOk, OnErr};
 
     /// No room yet. It takes no memory.
     pub fn new(alloc: Global) -> InstanceRoom {
@@ -41,11 +41,15 @@ impl InstanceRoom {
         }
     }
 
-    /// Takes what is wanting of the room for an instance of so many vertices.
+    /// Takes what is wanting of the room for an instance of so many vertices; for none it takes no memory.
     fn reserve(&mut self, vertices: usize) -> Result<(), AllocError>
         ensures vertices { IfOk result (λ _. vertices ≤ vec_capacity self.new.vertices) }
         ensures triangles { IfOk result (λ _. vertices ≤ vec_capacity self.new.triangles) }
+        ensures needs { OnErr result (0 < vertices) }
     {
+        if vertices == 0 {
+            return Ok(());
+        }
         self.vertices.clear();
         self.vertices.try_reserve(vertices)?;
         self.triangles.clear();
@@ -152,7 +156,7 @@ fn count_instances(
 /// Makes a draw's triangles, once for each instance, on the depth words of a target, and counts the fragments that pass both tests.
 /// The vertices are whole ones of three fixed numbers, the instances whole transforms; no bytes are one identity transform.
 ///
-/// `Err` comes for want of memory alone, before anything is counted: the words are as they were.
+/// `Err` comes for want of memory alone, before anything is counted: the words are as they were. A draw without vertices takes none.
 pub fn count_draw(
     words: &mut [u32],
     sides: &TargetSides,
@@ -168,6 +172,7 @@ pub fn count_draw(
     ensures words { IfOk result (λ _. words.new ≡ words_in (counted_on sides.now.width draw.now.state (draw_facings sides.now.width sides.now.height draw.now.state draw.now.front draw.now.back vertices.now instances.now) words.old)) }
     ensures count { IfOk result (λ count. count ≡ passed_in (counted_on sides.now.width draw.now.state (draw_facings sides.now.width sides.now.height draw.now.state draw.now.front draw.now.back vertices.now instances.now) words.old)) }
     ensures stays { OnErr result (words.new ≡ words.old) }
+    ensures needs { OnErr result (12 ≤ length vertices.now) }
 {
     room.reserve(vertices.len() / 12)?;
     let passed = count_instances(words, sides, draw, vertices, instances, room);
