@@ -47,9 +47,6 @@ impl InstanceRoom {
         ensures triangles { IfOk result (λ _. vertices ≤ vec_capacity self.new.triangles) }
         ensures needs { OnErr result (0 < vertices) }
     {
-        if vertices == 0 {
-            return Ok(());
-        }
         self.vertices.clear();
         self.vertices.try_reserve(vertices)?;
         self.triangles.clear();
