@@ -97,7 +97,7 @@ are-two-texts = (
     record {
       sides = ((omega arith, omega arith), (omega arith, omega arith));
       count = (omega arith, omega arith);
-      whole = (refl, refl, tt);
+      whole = (refl, (refl, tt));
       short = omega (arith, two-texts-long);
     },
     two-texts-are,
