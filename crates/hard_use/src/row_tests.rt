@@ -429,7 +429,7 @@ fn all_views(alloc: Global) -> Result<Vec<u8>, AllocError> {
 
 fn digits(view: u16) -> [u8; 3] {
     [
-        (view / 100) as u8,
+        (view / 100 % 10) as u8,
         (view / 10 % 10) as u8,
         (view % 10) as u8,
     ]
