@@ -35,12 +35,21 @@ pub struct Prepared<'x> {
     pub paint: Paint<'x>,
 }
 
+// What a triangle takes besides its pixels, in pixels.
+const TRIANGLE: u64 = 400;
+
+/// About how long triangles take within a cut, in pixels.
+fn work_of(triangles: &[Setup], cut: &Rect) -> u64 {
+    let own = TRIANGLE.saturating_mul(triangles.len() as u64);
+    covered_by(triangles, cut).saturating_add(own)
+}
+
 /// Draws with their triangles, in the order in which they are made.
 #[derive(Drop)]
 pub struct DrawList<'x> {
     draws: Vec<Listed<'x>>,
     triangles: Vec<Setup>,
-    pixels: u64,
+    work: u64,
     ghost within: { AreWithin draws.items (length triangles.items) },
 }
 
@@ -80,7 +89,7 @@ impl<'x> DrawList<'x> {
         DrawList {
             draws: Vec::new(alloc),
             triangles: Vec::new(alloc),
-            pixels: 0,
+            work: 0,
         }
     }
 
@@ -91,7 +100,7 @@ impl<'x> DrawList<'x> {
         DrawList {
             draws: Vec::new(alloc),
             triangles: room.triangles,
-            pixels: 0,
+            work: 0,
         }
     }
 
@@ -116,9 +125,10 @@ impl<'x> DrawList<'x> {
         self.draws.is_empty()
     }
 
-    /// About how many pixels the triangles cover within the cuts of their draws, each counted as often as it is covered.
-    pub(crate) fn pixels(&self) -> u64 {
-        self.pixels
+    /// About how long the draws take, in pixels: those that the triangles cover within the cuts of their draws, each counted as
+    /// often as it is covered, and 400 for each triangle.
+    pub(crate) fn work(&self) -> u64 {
+        self.work
     }
 
     /// Takes all draws out. Their room stays for the next ones.
@@ -127,7 +137,7 @@ impl<'x> DrawList<'x> {
     {
         self.draws.clear();
         self.triangles.clear();
-        self.pixels = 0;
+        self.work = 0;
     }
 
     /// Puts a draw and its triangles at the end. After an error the list is as it was.
@@ -136,7 +146,7 @@ impl<'x> DrawList<'x> {
         ensures err { OnErr result (self.new ≡ self.old) }
     {
         let cut = draw.cut;
-        let pixels = self.pixels.saturating_add(covered_by(triangles, &cut));
+        let work = self.work.saturating_add(work_of(triangles, &cut));
         let first = self.triangles.len();
         let after = first.saturating_add(triangles.len());
         self.triangles.extend_from_slice(triangles)?;
@@ -150,7 +160,7 @@ impl<'x> DrawList<'x> {
             after,
         };
         if self.draws.push(listed).is_ok() {
-            self.pixels = pixels;
+            self.work = work;
             return Ok(());
         }
         self.triangles.truncate(first);

@@ -5,6 +5,7 @@ pub mod SeenReading
 pub mod Gives
 pub mod Reads
 pub mod Digits
+pub mod Cuts
 pub mod Fields
 pub mod Names
 pub mod SeenNames

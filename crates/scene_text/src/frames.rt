@@ -64,11 +64,31 @@ pub fn add_beside(frames: &mut Vec<SceneFrame>, line: ResLine) -> Result<(), All
     Ok(())
 }
 
-/// A block without lines.
+/// How many lines the last of the blocks has.
+fn last_length(blocks: &[EncBlock]) -> usize {
+    match blocks {
+        [] => 0,
+        [.., block] => block.lines.as_slice().len(),
+    }
+}
+
+/// A guess at the length of the next block: that of the block before it in its frame, or that of the last one of the frame before.
+fn usual_length(frames: &[SceneFrame]) -> usize {
+    match frames {
+        [.., before, frame] => match frame.blocks.as_slice() {
+            [] => last_length(before.blocks.as_slice()),
+            blocks => last_length(blocks),
+        },
+        [frame] => last_length(frame.blocks.as_slice()),
+        [] => 0,
+    }
+}
+
+/// A block without lines. There is memory for as many as the block before it has, so that they need not be moved as they come.
 pub fn add_block(alloc: Global, frames: &mut Vec<SceneFrame>, encoder: u8) -> Result<(), AllocError>
     ensures { IfOk result (λ _. map frame_seen frames.new.items ≡ model.on_last (model.with_block encoder) (map frame_seen frames.old.items)) }
 {
-    let lines = Sequence::new(alloc);
+    let lines = Sequence::with_room(alloc, usual_length(frames))?;
     let block = EncBlock { encoder, lines };
     match frames.last_mut() {
         Some(frame) => frame.blocks.push(block)?,

@@ -13,6 +13,7 @@ mod journal_reading;
 mod journal_writing;
 mod lawful;
 mod lists;
+mod marks;
 mod names;
 mod numbers;
 mod parts;

@@ -4,6 +4,7 @@ ghost use Rattle.std.specs.List.{list_all};
 ghost use Rattle.scene_model.specs.Field.{split_at};
 ghost use Rattle.scene_model.specs.Scene.{newest_version, views_in};
 ghost use Rattle.scene_model.specs.Grammar as model;
+ghost use Rattle.scene_text.specs.Cuts.{IsSplit};
 ghost use Rattle.scene_text.specs.Fields.{texts};
 ghost use Rattle.scene_text.specs.Gives.{Gives, MayGive};
 ghost use Rattle.scene_text.specs.Seen.{room_seen, resource_line_seen, frame_seen};
@@ -425,6 +426,34 @@ impl Reading {
             return Err(LineFault::Bad(Cause::BadByte));
         }
         self.after_text(alloc, line, fields)
+    }
+
+    /// What a line of text bytes does that is split into its fields.
+    fn after_split(&mut self, alloc: Global, line: &[u8], fields: &[&[u8]]) -> Result<(), LineFault>
+        requires { IsSplit line.now (texts fields.now) }
+        ensures { MayGive (λ _. reading_seen self.new) result (model.line_read whole_language (reading_seen self.old) line.now) }
+    {
+        if is_skipped(line) {
+            return Ok(());
+        }
+        self.after_fields(alloc, fields)
+    }
+
+    /// What a line does that may be split into its fields already.
+    pub fn after_next<'a>(
+        &mut self,
+        alloc: Global,
+        line: &'a [u8],
+        is_split: bool,
+        fields: &mut Vec<&'a [u8]>,
+    ) -> Result<(), LineFault>
+        requires { is_split ≡ true → IsSplit line.now (texts fields.old.items) }
+        ensures { MayGive (λ _. reading_seen self.new) result (model.line_read whole_language (reading_seen self.old) line.now) }
+    {
+        if is_split {
+            return self.after_split(alloc, line, fields);
+        }
+        self.after_line(alloc, line, fields)
     }
 }
 

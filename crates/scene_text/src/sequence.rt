@@ -28,6 +28,14 @@ impl<T: Drop> Sequence<T> {
         }
     }
 
+    /// The empty list, with memory for so many items.
+    pub(crate) fn with_room(alloc: Global, room: usize) -> Result<Sequence<T>, AllocError>
+        ensures { IfOk result (λ s. s ≡ []) }
+    {
+        let all = Vec::with_capacity(alloc, room)?;
+        Ok(Sequence { all })
+    }
+
     /// The list of the items of a vector.
     pub fn from_vec(all: Vec<T>) -> Sequence<T>
         ensures { result ≡ all.items }

@@ -13,7 +13,7 @@ use crate::fault::{Cause, LineFault, SceneFault};
 use crate::reading::{Reading, all_text};
 use crate::scene::Scene;
 use crate::sequence::Sequence;
-use crate::splitting::find;
+use crate::splitting::next_line;
 use crate::stages::Stage;
 use std::alloc::{AllocError, Global};
 
@@ -100,8 +100,9 @@ pub fn read(alloc: Global, bytes: &[u8]) -> Result<Scene, SceneFault>
     let mut fields = Vec::new(alloc);
     let mut rest = bytes;
     let mut line: u32 = 1;
-    while let Some(n) = find(rest, b'\n') {
-        match reading.after_line(alloc, &rest[..n], &mut fields) {
+    while let Some(found) = next_line(rest, &mut fields)? {
+        let n = found.end;
+        match reading.after_next(alloc, &rest[..n], found.is_split, &mut fields) {
             Ok(()) => {}
             Err(fault) => return Err(at(line, fault)),
         }

@@ -25,27 +25,27 @@ read_readable (Err fault) bytes le e = tt
 
 pub returns-in-Err : goal.returns-in-Err
 returns-in-Err c = record {
-  exact = rw c.at.ensures (line_stops whole_language c.in-Err.fault c.loop-n.line (reading_seen c.loop-n.reading) (take c.in-Some.n c.loop-n.rest.now) c.loop-n.rest.now (drop (c.in-Some.n + 1) c.loop-n.rest.now) _ c.loop-n.invariant.left c.in-Some.ensures.cases.1 c.in-Err.ensures);
+  exact = rw c.at.ensures (line_stops whole_language c.in-Err.fault c.loop-fields.line (reading_seen c.loop-fields.reading) (take c.in-Some.found.end c.loop-fields.rest.now) c.loop-fields.rest.now (drop (c.in-Some.found.end + 1) c.loop-fields.rest.now) _ c.loop-fields.invariant.left (rw c.in-Some.is at c.in_ok-found.ensures.cases).1 c.in-Err.ensures);
   readable = tt;
   bounds = tt;
 }
 
 pub returns-clause-readable : goal.returns-clause-readable
 returns-clause-readable c =
-    let last = c.in_default.ensures.cases in
-    let whole = sym (ap (read_pieces whole_language c.loop-n.line (Ok (reading_seen c.loop-n.reading))) last) ∙ c.loop-n.invariant.left in
+    let last = (rw c.in_default.is at c.in_ok-found.ensures.cases) in
+    let whole = sym (ap (read_pieces whole_language c.loop-fields.line (Ok (reading_seen c.loop-fields.reading))) last) ∙ c.loop-fields.invariant.left in
     read_readable c.at_last_piece.result c.args.bytes.now c.requires (subst (Reads c.at_last_piece.result) whole c.at_last_piece.ensures)
 
 pub returns-clause-bounds : goal.returns-clause-bounds
 returns-clause-bounds c =
-    let last = c.in_default.ensures.cases in
-    let whole = sym (ap (read_pieces whole_language c.loop-n.line (Ok (reading_seen c.loop-n.reading))) last) ∙ c.loop-n.invariant.left in
+    let last = (rw c.in_default.is at c.in_ok-found.ensures.cases) in
+    let whole = sym (ap (read_pieces whole_language c.loop-fields.line (Ok (reading_seen c.loop-fields.reading))) last) ∙ c.loop-fields.invariant.left in
     read_bounded c.at_last_piece.result c.args.bytes.now c.requires (subst (Reads c.at_last_piece.result) whole c.at_last_piece.ensures)
 
-pub loop-n-preserved : goal.loop-n-preserved
-loop-n-preserved c =
-    let s = c.in-Some.ensures.cases in
+pub loop-fields-preserved : goal.loop-fields-preserved
+loop-fields-preserved c =
+    let s = (rw c.in-Some.is at c.in_ok-found.ensures.cases) in
     record {
-      left = rw (take_rest c.loop-n.rest.now (c.in-Some.n + 1)) (line_more whole_language c.loop-n.line (reading_seen c.loop-n.reading) (reading_seen c.after_line.new.self) (take c.in-Some.n c.loop-n.rest.now) c.loop-n.rest.now (drop (c.in-Some.n + 1) c.loop-n.rest.now) _ c.loop-n.invariant.left s.1 c.in-Ok.ensures);
-      line = line_less c.loop-n.line c.in-Some.n c.loop-n.rest.now _ s.0 c.loop-n.invariant.line;
+      left = rw (take_rest c.loop-fields.rest.now (c.in-Some.found.end + 1)) (line_more whole_language c.loop-fields.line (reading_seen c.loop-fields.reading) (reading_seen c.after_next.new.self) (take c.in-Some.found.end c.loop-fields.rest.now) c.loop-fields.rest.now (drop (c.in-Some.found.end + 1) c.loop-fields.rest.now) _ c.loop-fields.invariant.left s.1 c.in-Ok.ensures);
+      line = line_less c.loop-fields.line c.in-Some.found.end c.loop-fields.rest.now _ s.0 c.loop-fields.invariant.line;
     }

@@ -1,0 +1,14 @@
+pub mod Kept
+pub mod Mail
+pub mod Mails
+pub mod Statuses
+pub mod Things
+pub mod Layouts
+pub mod Modes
+pub mod Blits
+pub mod Views
+pub mod Rendered
+pub mod Calls
+pub mod Frames
+pub mod Exports
+pub mod Opening
