@@ -1,8 +1,8 @@
 mod AsBox
-mod MailKeeps
 mod On
 mod Told
 mod Slots
-mod LayoutParts
+mod Recorded
 mod Frames
+mod Begins
 mod Openings

@@ -1,20 +1,22 @@
 -- A core stays on its table with its views, and no frame of it is out.
-use Rattle.std.proofs.Common.{◌≡◌, ℕ, List, [], ◌∷◌, ◌++◌, Result, Ok, Err, refl, ap, sym, ◌∙◌, subst, append_assoc, append-nil}
+use Rattle.std.proofs.Common.{◌≡◌, false, Result, Ok, Err, ap, sym, ◌∙◌, subst}
 use Rattle.gfx_model.specs.Words.{Handle}
 use Rattle.gfx_model.specs.Recorder.{Room}
 use Rattle.gfx_model.specs.Views.{view_count}
 use Rattle.gfx_model.specs.Resources.{ResourceCall, destroy}
 use Rattle.gfx_words.specs.declared.refusals.Refusal.{Refusal}
 use Rattle.atomic_table.specs.Seated.{TableId}
-use Rattle.hold_table.specs.Views.{SeatView, joined_with}
-use Rattle.draw_encoder.specs.Calls.{EncoderView}
+use Rattle.hold_table.specs.Views.{SeatView}
+use Rattle.draw_encoder.specs.Calls.{EncoderView, RecorderView}
 use Rattle.draw_encoder.specs.declared.items.Recording.{Recording}
-use Rattle.context_core.specs.Calls.{Creates, Updates, Changes, Destroys, Begins}
+use Rattle.context_core.specs.Calls.{Creates, Updates, Changes, Destroys, Begins, IsBegin}
 use Rattle.context_core.specs.Ended as cores
-use Rattle.context_core.specs.Gathered.{with_gathered}
 use Rattle.context_core.specs.States.{CoreView, own}
+use Rattle.context_core.specs.declared.ending.NotReady.{NotReady}
+use Rattle.context_core.specs.declared.ending.NotReady.TheVariants as causes
+use Rattle.context_core.specs.declared.ending.Prepared.{Prepared}
 use Rattle.context_core.proofs.Same.{same_after}
-use Rattle.gfx_c.specs.Calls.{Gathers}
+use Rattle.gfx_c.specs.Calls.{Gathers, gathers_none, gathers_more}
 use Rattle.gfx_c.specs.Views.{IsOn}
 
 module _ {t : TableId} {a : CoreView} (o : IsOn t a) (b : CoreView) where
@@ -67,29 +69,37 @@ module _ {t : TableId} {a : CoreView} (o : IsOn t a) (b : CoreView) where
     none_out = ap (λ (c : CoreView). c.state.out) m.after ∙ o.none_out;
   }
 
+  pub on_prepares : (result : Result Prepared NotReady) → cores.Prepares result a b → IsOn t b
+  on_prepares (Ok p) m = record {
+    table_is = ap (λ (c : CoreView). c.table) m.after ∙ o.table_is;
+    views_are = ap (λ (c : CoreView). view_count c.state.book.resources.views) m.after ∙ o.views_are;
+    none_out = ap (λ (c : CoreView). c.state.out) m.after ∙ o.none_out;
+  }
+  on_prepares (Err causes.EncodersOff) m = on_same m.1
+  on_prepares (Err causes.FramesSpent) m = on_same m.2
+  on_prepares (Err causes.OutOfMemory) m = record {
+    table_is = ap (λ (c : CoreView). c.table) m.2 ∙ o.table_is;
+    views_are = ap (λ (c : CoreView). view_count c.state.book.resources.views) m.2 ∙ o.views_are;
+    none_out = ap (λ (c : CoreView). c.state.out) m.2 ∙ o.none_out;
+  }
+
+  pub on_begun : (room : Room) (result : Result RecorderView Refusal) → IsBegin own (λ r. r.state) result room a b → IsOn t b
+  on_begun room (Ok r) m = on_begins room r.state m
+  on_begun room (Err e) m = on_same m.1
+
 -- ---- what has come is gathered
 
-pub gathers_none : (a : CoreView) → Gathers a a
-gathers_none a = record { more = []; kept = sym (append-nil a.state.gathered); seat = refl; same = refl }
-
-pub gathers_more : (r : Recording) (seat : SeatView) (first old new : CoreView) → Gathers first old → cores.Gathers r seat old new → Gathers first new
-gathers_more r seat first old new g m =
-    let is : new.state.seat ≡ joined_with old.state.seat seat = ap (λ (c : CoreView). c.state.seat) m.after in
-    let lists : old.state.gathered ++ r ∷ [] ≡ new.state.gathered = sym (ap (λ (c : CoreView). c.state.gathered) m.after) in
-    record {
-      more = g.more ++ r ∷ [];
-      kept = sym lists ∙ ap (λ rs. rs ++ r ∷ []) g.kept ∙ append_assoc first.state.gathered g.more (r ∷ []);
-      seat = is ∙ (λ j. joined_with (g.seat j) seat) ∙ (λ j. with_gathered (sym is j) first.state.seat);
-      same = m.after ∙ (λ j. record (g.same j) { state = record (g.same j).state { seat = sym is j; gathered = lists j } });
-    }
-
 pub gathers_on : {a b c : CoreView} → Gathers a b → Gathers b c → Gathers a c
-gathers_on {a} {b} {c} g h = record {
-  more = g.more ++ h.more;
-  kept = h.kept ∙ ap (λ rs. rs ++ h.more) g.kept ∙ append_assoc a.state.gathered g.more h.more;
-  seat = h.seat ∙ ap (λ s. with_gathered c.state.seat s) g.seat;
-  same = h.same ∙ (λ j. record (g.same j) { state = record (g.same j).state { seat = c.state.seat; gathered = c.state.gathered } });
-}
+gathers_on g gathers_none = g
+gathers_on g (gathers_more r seat h m) = gathers_more r seat (gathers_on g h) m
 
 pub gathers_one : (r : Recording) (seat : SeatView) (a b : CoreView) → cores.Gathers r seat a b → Gathers a b
-gathers_one r seat a b m = gathers_more r seat a a b (gathers_none a) m
+gathers_one r seat a b m = gathers_more r seat gathers_none m
+
+pub gathered_running : {a b : CoreView} → Gathers a b → a.state.is_ended ≡ false → b.state.is_ended ≡ false
+gathered_running gathers_none e = e
+gathered_running (gathers_more r seat g m) e = ap (λ (c : CoreView). c.state.is_ended) m.after ∙ gathered_running g e
+
+pub on_gathered : {t : TableId} {a b : CoreView} → IsOn t a → Gathers a b → IsOn t b
+on_gathered o gathers_none = o
+on_gathered o (gathers_more r seat g m) = on_gathers (on_gathered o g) _ r seat m

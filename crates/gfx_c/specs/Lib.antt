@@ -1,10 +1,4 @@
 pub mod Kept
-pub mod Mail
-pub mod Mails
-pub mod Statuses
-pub mod Things
-pub mod Layouts
-pub mod Modes
 pub mod Blits
 pub mod Views
 pub mod Rendered

@@ -3,15 +3,21 @@ use Rattle.std.specs.Prelude.{◌≡◌, ℕ, ◌⊎◌, Option, Some, None, Res
 use Rattle.gfx_model.specs.Recorder.{Room}
 use Rattle.gfx_c.specs.declared.objects.Object.{Object}
 use Rattle.gfx_c.specs.declared.objects.Object.TheVariants.{Api, Recording}
-use Rattle.gfx_c.specs.declared.status.Fault.{Fault}
-use Rattle.gfx_c.specs.Calls.{IsOpened, BeginsHere}
+use Rattle.c_words.specs.declared.faults.Fault.{Fault}
+use Rattle.gfx_c.specs.Calls.{OpensHere, BeginsHere}
 use Rattle.gfx_c.specs.Exports.{OnContext}
+use Rattle.c_words.specs.Statuses.{status_of}
 use Rattle.gfx_c.specs.Views.{ContextView, EncoderView}
 
--- a context is made, or the handle is null still; a handle that is not null is as it was
+-- a handle after a context was made for it, or not
+abbrev pub opened_into : Result ContextView Fault → Option Object
+opened_into (Ok c) = Some (Api c)
+opened_into (Err f) = None
+
+-- a context is made for a handle that is null; a handle that is not null is as it was
 abbrev pub Opens : (old new : Option Object) → (status width height : ℕ) → Type 0
 Opens old new status width height =
-    ((old ≡ None) × (((status ≡ 0) × (c : ContextView) × (new ≡ Some (Api c)) × IsOpened width height c) ⊎ (((status ≡ 4) ⊎ (status ≡ 17)) × (new ≡ None))))
+    ((old ≡ None) × (r : Result ContextView Fault) × (status ≡ status_of r) × (new ≡ opened_into r) × OpensHere r width height)
     ⊎ ((o : Object) × (old ≡ Some o) × (status ≡ 105) × (new ≡ old))
 
 -- an encoder's handle after a begin

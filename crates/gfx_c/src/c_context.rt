@@ -8,7 +8,7 @@ use crate::context::Context;
 use crate::held::{put_context, put_encoder, take_context};
 use crate::objects::Object;
 use crate::slot::{Slot, is_null};
-use crate::status::{Fault, NO_OBJECT};
+use c_words::{Fault, NO_OBJECT};
 use context_core::Room;
 use gfx_words::Refusal;
 use std::alloc::Global;

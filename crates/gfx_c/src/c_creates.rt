@@ -2,16 +2,15 @@
 ghost use Rattle.std.specs.Prelude.{◌≡◌, ◌∷◌, [], nat_lt, Err, MatchOption};
 ghost use Rattle.gfx_model.specs.Resources as model;
 ghost use Rattle.gfx_model.specs.Words.{program_of_number, format_of_number, uniform_of_number};
-ghost use Rattle.gfx_c.specs.declared.status.Fault.TheVariants as faults;
+ghost use Rattle.c_words.specs.declared.faults.Fault.TheVariants as faults;
 ghost use Rattle.gfx_c.specs.Calls.{CreatesHere, CreatesOrWants, MakesLayout, OnThing, OnMaybe};
 ghost use Rattle.gfx_c.specs.Exports.{OnContext, word_after};
-ghost use Rattle.gfx_c.specs.Layouts.{parts_of};
-ghost use Rattle.gfx_c.specs.Statuses.{status_of};
+ghost use Rattle.c_words.specs.Layouts.{parts_of};
+ghost use Rattle.c_words.specs.Statuses.{status_of};
 
 use crate::held::{put_context, take_context};
-use crate::layouts::Part;
 use crate::slot::Slot;
-use crate::status::{Fault, NO_OBJECT};
+use c_words::{Fault, NO_OBJECT, Part};
 use gfx_words::Handle;
 use std::alloc::Global;
 

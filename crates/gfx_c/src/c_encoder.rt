@@ -3,7 +3,7 @@ ghost use Rattle.gfx_c.specs.Exports.{Ends, Drops};
 
 use crate::held::{put_encoder, take_encoder};
 use crate::slot::Slot;
-use crate::status::{Fault, NO_OBJECT};
+use c_words::{Fault, NO_OBJECT};
 use std::alloc::Global;
 
 /// Ends an encoder. Its handle is null from then on.

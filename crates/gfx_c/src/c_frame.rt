@@ -1,13 +1,13 @@
 // Frames for C.
-ghost use Rattle.std.specs.Prelude.{◌≡◌, length};
+ghost use Rattle.std.specs.Prelude.{◌≡◌};
 ghost use Rattle.gfx_c.specs.Exports.{OnContext};
 ghost use Rattle.gfx_c.specs.Frames.{FramesHere, framed_after};
-ghost use Rattle.gfx_c.specs.Statuses.{status_of};
+ghost use Rattle.c_words.specs.Statuses.{status_of};
 
 use crate::frame::Framed;
 use crate::held::{put_context, take_context};
 use crate::slot::Slot;
-use crate::status::{Fault, NO_OBJECT};
+use c_words::{Fault, NO_OBJECT};
 use std::alloc::Global;
 
 // Hands what is told of a frame to C.
@@ -32,7 +32,7 @@ pub extern "C" fn gfx_frame(
     picture: &mut [u8],
     framed: &mut Framed,
 ) -> u32
-    ensures { OnContext context.old.value context.new.value result (λ r c d. FramesHere r (length picture.old) c d × (framed.new ≡ framed_after r framed.old)) (framed.new ≡ framed.old) }
+    ensures { OnContext context.old.value context.new.value result (λ r c d. FramesHere r picture.old picture.new c d × (framed.new ≡ framed_after r framed.old)) ((picture.new ≡ picture.old) × (framed.new ≡ framed.old)) }
 {
     let Some((object, mut api)) = take_context(context, alloc) else {
         return NO_OBJECT;

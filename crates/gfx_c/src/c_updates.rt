@@ -6,7 +6,7 @@ ghost use Rattle.gfx_c.specs.Exports.{OnContext};
 
 use crate::held::{put_context, take_context};
 use crate::slot::Slot;
-use crate::status::{NO_OBJECT, status};
+use c_words::{NO_OBJECT, status};
 use fix_math::Rect;
 use std::alloc::Global;
 

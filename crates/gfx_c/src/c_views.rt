@@ -1,15 +1,15 @@
 // Views for C.
 ghost use Rattle.std.specs.Prelude.{◌≡◌, ◌∷◌, [], ⊤, Err, MatchOption};
 ghost use Rattle.gfx_model.specs.Resources as model;
-ghost use Rattle.gfx_c.specs.declared.status.Fault.TheVariants as faults;
+ghost use Rattle.c_words.specs.declared.faults.Fault.TheVariants as faults;
 ghost use Rattle.gfx_c.specs.Calls.{ChangesHere, OnMaybe};
 ghost use Rattle.gfx_c.specs.Exports.{OnContext};
-ghost use Rattle.gfx_c.specs.Modes.{mode_of_number};
+ghost use Rattle.c_words.specs.Modes.{mode_of_number};
 
 use crate::held::{put_context, take_context};
 use crate::slot::Slot;
-use crate::status::{NO_OBJECT, status};
 use crate::transform::Transform;
+use c_words::{NO_OBJECT, status};
 use fix_math::{Affine, Rect};
 use std::alloc::Global;
 

@@ -1,17 +1,13 @@
 // The context that C holds.
-ghost use Rattle.std.specs.Prelude.{◌≡◌, ◌<◌, ◌≤◌, ◌||◌, not, true, replicate, None, IfOk, IfErr, IfSome};
-ghost use Rattle.gfx_model.specs.World.{first_world};
-ghost use Rattle.hold_table.specs.Seats.{table_of};
-ghost use Rattle.context_core.specs.States.{opened_core};
-ghost use Rattle.store_laws.specs.ByIndex.{first_stores};
-ghost use Rattle.gfx_c.specs.Calls.{IsOpened};
+ghost use Rattle.std.specs.Prelude.{◌≡◌, ◌≤◌, ◌||◌, ◌&&◌, not, true, IfOk};
+ghost use Rattle.gfx_c.specs.Calls.{IsOpened, OpensHere, is_side};
+ghost use Rattle.c_words.specs.Things.{named, named_or_none};
 
-use crate::mail::Shared;
-use crate::picture::{Desk, DeskSink, empty_desk};
-use crate::status::Fault;
-use crate::things::Things;
+use letter_boxes::Shared;
+use crate::picture::PictureSink;
+use c_words::{Fault, Things};
 use context_core::{ContextCore, Start};
-use gfx_words::Refusal;
+use gfx_words::{Handle, Refusal};
 use hold_table::HoldTable;
 use render_core::Renderer;
 use std::alloc::{AllocError, Global};
@@ -37,9 +33,7 @@ pub struct Context {
     pub(crate) core: ContextCore,
     pub(crate) things: Things,
     pub(crate) lent: Option<Arc<Things>>,
-    pub(crate) renderer: Renderer<DeskSink>,
-    pub(crate) desk: Arc<Desk>,
-    pub(crate) most: usize,
+    pub(crate) renderer: Renderer<PictureSink>,
     pub(crate) is_shown: bool,
 }
 
@@ -51,13 +45,15 @@ impl Model for Context {
 
     ghost Value = { ContextView };
 
-    ghost view = { λ c. record { core = c.core; rows = c.things.rows.items; renderer = rendering_of c.renderer; is_shown = c.is_shown; most = c.most } };
+    ghost view = { λ c. record { core = c.core; rows = c.things.rows.items; renderer = rendering_of c.renderer; is_shown = c.is_shown; most = c.renderer.sink.capacity } };
 
     ghost invariant = { λ c. IsOn (table_of c.shared.value.table) c.core × IfSome c.lent (λ a. a.value.rows.items ≡ c.things.rows.items) };
 }
 
-fn is_side(side: u16) -> bool
-    ensures { result ≡ true → (1 ≤ side) × (side ≤ 2048) }
+// Whether a picture can have a side of so many pixels.
+fn is_length(side: u16) -> bool
+    ensures same { result ≡ is_side side }
+    ensures bounds { result ≡ true → (1 ≤ side) × (side ≤ 2048) }
 {
     side >= 1 && side <= 2048
 }
@@ -65,9 +61,9 @@ fn is_side(side: u16) -> bool
 impl Context {
     /// A context with nothing made, whose pictures have these sides. `BadSize` where a side is not 1 to 2,048; `OutOfMemory`.
     pub(crate) fn new(alloc: Global, width: u16, height: u16) -> Result<Context, Fault>
-        ensures { IfOk result (IsOpened width height) }
+        ensures { OpensHere result width height }
     {
-        if !is_side(width) || !is_side(height) {
+        if !is_length(width) || !is_length(height) {
             return Err(Fault::Refused(Refusal::BadSize));
         }
         match Context::open(alloc, width, height) {
@@ -79,6 +75,7 @@ impl Context {
     fn open(alloc: Global, width: u16, height: u16) -> Result<Context, AllocError>
         requires width { (1 ≤ width) × (width ≤ 2048) }
         requires height { (1 ≤ height) × (height ≤ 2048) }
+        requires sides { is_side width && is_side height ≡ true }
         ensures { IfOk result (IsOpened width height) }
     {
         let (table, api) = HoldTable::new(alloc, START.frame)?;
@@ -87,8 +84,8 @@ impl Context {
         };
         let shared = Arc::new(alloc, Shared::new(alloc, table)?)?;
         let things = Things::new(alloc)?;
-        let desk = empty_desk(alloc)?;
-        let sink = DeskSink::new(alloc, Arc::try_clone(&desk)?);
+        let most = 3 * usize::from(width) * usize::from(height) + MOST_HEADER;
+        let sink = PictureSink::new(alloc, most)?;
         let Ok(renderer) = Renderer::new(alloc, width, height, sink) else {
             return Err(AllocError);
         };
@@ -99,10 +96,29 @@ impl Context {
             things,
             lent: None,
             renderer,
-            desk,
-            most: 3 * usize::from(width) * usize::from(height) + MOST_HEADER,
             is_shown: true,
         })
+    }
+
+    /// The handle that was given for a word.
+    pub(crate) fn find(&self, word: u64) -> Option<Handle>
+        ensures { result ≡ named self.now.rows word }
+    {
+        self.things.find(word)
+    }
+
+    /// `Some(None)` for 0, and else the handle that was given for a word, where there is one.
+    pub(crate) fn find_maybe(&self, word: u64) -> Option<Option<Handle>>
+        ensures { result ≡ named_or_none self.now.rows word }
+    {
+        self.things.find_maybe(word)
+    }
+
+    /// How many bytes a picture has at most.
+    pub(crate) fn most(&self) -> usize
+        ensures { result ≡ self.now.most }
+    {
+        self.renderer.sink().capacity()
     }
 
     /// The number of the frame that is recorded.

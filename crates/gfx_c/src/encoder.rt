@@ -1,9 +1,11 @@
 // The encoder that C holds.
 ghost use Rattle.std.specs.Prelude.{◌≡◌, IfErr};
+ghost use Rattle.c_words.specs.Things.{named, named_or_none};
 
-use crate::mail::Shared;
-use crate::things::Things;
+use letter_boxes::Shared;
+use c_words::Things;
 use draw_encoder::Recorder;
+use gfx_words::Handle;
 use std::marker::Model;
 use std::sync::Arc;
 
@@ -13,11 +15,10 @@ pub struct Encoder {
     pub(crate) shared: Arc<Shared>,
     pub(crate) recorder: Recorder,
     pub(crate) things: Arc<Things>,
-    pub(crate) number: u8,
 }
 
 impl Model for Encoder {
-    ghost use Rattle.std.specs.Prelude.{◌≡◌, ◌<◌};
+    ghost use Rattle.std.specs.Prelude.{◌≡◌};
     ghost use Rattle.hold_table.specs.Seats.{table_of};
     ghost use Rattle.gfx_c.specs.Views.{EncoderView};
 
@@ -25,10 +26,24 @@ impl Model for Encoder {
 
     ghost view = { λ e. record { recorder = e.recorder; rows = e.things.value.rows.items } };
 
-    ghost invariant = { λ e. (e.number < 8) × (e.recorder.table ≡ table_of e.shared.value.table) × (e.recorder.state.recorder.view_count ≡ 512) };
+    ghost invariant = { λ e. (e.recorder.table ≡ table_of e.shared.value.table) × (e.recorder.state.recorder.view_count ≡ 512) };
 }
 
 impl Encoder {
+    /// The handle that had been given for a word when the encoder began.
+    pub(crate) fn find(&self, word: u64) -> Option<Handle>
+        ensures { result ≡ named self.now.rows word }
+    {
+        self.things.find(word)
+    }
+
+    /// `Some(None)` for 0, and else the handle that had been given for a word, where there is one.
+    pub(crate) fn find_maybe(&self, word: u64) -> Option<Option<Handle>>
+        ensures { result ≡ named_or_none self.now.rows word }
+    {
+        self.things.find_maybe(word)
+    }
+
     /// Ends the recording, which then waits to be collected. Where another waits in its place, the encoder comes back.
     pub(crate) fn end(self, dropped: u32) -> Result<(), Encoder>
         ensures { IfErr result (λ e. e ≡ self) }
@@ -37,15 +52,13 @@ impl Encoder {
             shared,
             recorder,
             things,
-            number,
         } = self;
-        match shared.try_post(number, recorder, dropped) {
+        match shared.try_post(recorder, dropped) {
             Ok(()) => Ok(()),
             Err(recorder) => Err(Encoder {
                 shared,
                 recorder,
                 things,
-                number,
             }),
         }
     }

@@ -1,14 +1,22 @@
 // The end of a frame, and its picture.
-ghost use Rattle.std.specs.Prelude.{◌≡◌, ◌≤◌, length};
-ghost use Rattle.gfx_c.specs.Frames.{MakesFrame, Shows, FramesHere};
+ghost use Rattle.std.specs.Prelude.{◌≡◌, ◌≤◌, ◌++◌, false, drop, length};
+ghost use Rattle.hold_table.specs.Seats.{table_of};
+ghost use Rattle.context_core.specs.Ended.{IsReady, Prepares, Gives};
+ghost use Rattle.context_core.specs.Gathered.{dropped_in};
+ghost use Rattle.context_core.specs.States.{CoreView};
+ghost use Rattle.render_core.specs.Outcomes.{is_shown};
+ghost use Rattle.render_core.specs.Rendered.{IsRendered};
+ghost use Rattle.gfx_c.specs.Frames.{MakesFrame, Shows, Delivers, FramesHere, HandsOut, emptied, fault_of, came_back};
+ghost use Rattle.gfx_c.specs.Rendered.{rendering_of};
 
 use crate::context::Context;
-use crate::picture::swap;
-use crate::status::Fault;
-use context_core::{FrameEnd, NotReady};
-use frame_record::{Frame, Outcome};
+use crate::picture::PictureSink;
+use c_words::Fault;
+use context_core::{ContextCore, FrameEnd, NotReady, Prepared};
+use frame_record::{Frame, Outcome, RenderedFrame};
 use gfx_words::Refusal;
-use render_core::SerialRasterizer;
+use hold_table::HoldTable;
+use render_core::{Renderer, SerialRasterizer};
 
 /// What C is told of a frame: its number, how many bytes of picture were written, and the sum of the numbers that its encoders ended with.
 #[repr(C)]
@@ -19,25 +27,92 @@ pub struct Framed {
     pub dropped: u64,
 }
 
+// Why a frame is not made, as C is told it.
+fn not_made(cause: NotReady) -> Fault
+    ensures { result ≡ fault_of cause }
+{
+    match cause {
+        NotReady::EncodersOff => Fault::TryAgain,
+        NotReady::FramesSpent => Fault::Refused(Refusal::FramesSpent),
+        NotReady::OutOfMemory => Fault::Refused(Refusal::OutOfMemory),
+    }
+}
+
+// Ends a frame that is ready, while none is out: it is made, and comes back at once.
+fn finish(core: &mut ContextCore, table: &HoldTable, prepared: Prepared) -> Frame
+    requires table { core.old.table ≡ table_of table.now }
+    requires none_out { core.old.state.out ≡ 0 }
+    requires ready { (mid : CoreView) × IsReady prepared mid core.old }
+    ensures { (made : CoreView) × Gives prepared.work result core.old made × (core.new ≡ came_back made) }
+{
+    core.tell_facts();
+    let FrameEnd { frame, journal: _ } = core.finish(table, prepared, true);
+    match frame {
+        Some(frame) => {
+            core.came_back();
+            frame
+        }
+        None => unreachable!(),
+    }
+}
+
+// Renders a frame into the sink, which is emptied before.
+fn render(renderer: &mut Renderer<PictureSink>, frame: Frame) -> RenderedFrame
+    ensures frame { result.frame ≡ frame }
+    ensures rendered { IsRendered (emptied (rendering_of renderer.old)) result (rendering_of renderer.new) }
+    ensures capacity { renderer.new.sink.capacity ≡ renderer.old.sink.capacity }
+{
+    renderer.sink_mut().clear();
+    renderer.render(&mut SerialRasterizer, frame)
+}
+
+fn was_shown(outcome: &Outcome) -> bool
+    ensures { result ≡ is_shown outcome.now }
+{
+    matches!(outcome, Outcome::Shown)
+}
+
+// Copies a text to the front of a buffer, which has room for it.
+fn copy_front(text: &[u8], buffer: &mut [u8])
+    requires { length text.now ≤ length buffer.old }
+    ensures { buffer.new ≡ text.now ++ drop (length text.now) buffer.old }
+{
+    buffer[..text.len()].copy_from_slice(text);
+}
+
 impl Context {
-    // Collects what has come, and makes the frame.
+    // The sum of the numbers that the encoders whose recordings have come ended with.
+    fn dropped(&self) -> u64
+        ensures { result ≡ dropped_in self.now.core.state.gathered }
+    {
+        self.core.dropped()
+    }
+
+    fn prepare(&mut self) -> Result<Prepared, NotReady>
+        requires { self.old.core.state.is_ended ≡ false }
+        ensures prepares { Prepares result self.old.core self.new.core }
+        ensures same { self.new ≡ record self.old { core = self.new.core } }
+    {
+        self.core.prepare()
+    }
+
+    fn finish(&mut self, prepared: Prepared) -> Frame
+        requires { (mid : CoreView) × IsReady prepared mid self.old.core }
+        ensures { (made : CoreView) × Gives prepared.work result self.old.core made × (self.new ≡ record self.old { core = came_back made }) }
+    {
+        finish(&mut self.core, &self.shared.table, prepared)
+    }
+
+    // Makes a frame of what has come. The context is not ended.
     fn make(&mut self) -> Result<(Frame, u64), Fault>
+        requires { self.old.core.state.is_ended ≡ false }
         ensures { MakesFrame result self.old self.new }
     {
         self.collect();
-        let dropped = self.core.dropped();
-        let prepared = match self.core.prepare() {
-            Ok(prepared) => prepared,
-            Err(NotReady::EncodersOff) => return Err(Fault::TryAgain),
-            Err(NotReady::FramesSpent) => return Err(Fault::Refused(Refusal::FramesSpent)),
-            Err(NotReady::OutOfMemory) => return Err(Fault::Refused(Refusal::OutOfMemory)),
-        };
-        self.core.tell_facts();
-        let FrameEnd { frame, journal: _ } = self.core.finish(&self.shared.table, prepared, true);
-        self.core.came_back();
-        match frame {
-            Some(frame) => Ok((frame, dropped)),
-            None => unreachable!(),
+        let dropped = self.dropped();
+        match self.prepare() {
+            Err(cause) => Err(not_made(cause)),
+            Ok(prepared) => Ok((self.finish(prepared), dropped)),
         }
     }
 
@@ -45,44 +120,63 @@ impl Context {
     fn show(&mut self, frame: Frame)
         ensures { Shows frame self.old self.new }
     {
-        let rendered = self.renderer.render(&mut SerialRasterizer, frame);
-        self.is_shown = matches!(rendered.outcome, Outcome::Shown);
+        let rendered = render(&mut self.renderer, frame);
+        self.is_shown = was_shown(&rendered.outcome);
     }
 
-    // Copies the picture that the sink left.
-    fn hand_out(&self, picture: &mut [u8]) -> usize
-        ensures { result ≤ length picture.old }
+    fn is_shown(&self) -> bool
+        ensures { result ≡ self.now.is_shown }
     {
-        let Some(left) = swap(&self.desk, None) else {
-            return 0;
-        };
-        let n = left.text.len().min(picture.len());
-        picture[..n].copy_from_slice(&left.text[..n]);
-        swap(&self.desk, Some(left));
-        n
+        self.is_shown
+    }
+
+    // Copies the picture in the sink to the front of the buffer, and answers how many bytes it has.
+    fn hand_out(&self, buffer: &mut [u8]) -> usize
+        requires { self.now.most ≤ length buffer.old }
+        ensures { HandsOut self.now.renderer.held result buffer.old buffer.new }
+    {
+        let text = self.renderer.sink().text();
+        copy_front(text, buffer);
+        text.len()
+    }
+
+    // Renders a frame, and hands its picture out.
+    fn deliver(
+        &mut self,
+        frame: Frame,
+        dropped: u64,
+        buffer: &mut [u8],
+    ) -> Result<Framed, Fault>
+        requires { self.old.most ≤ length buffer.old }
+        ensures { Delivers result frame dropped buffer.old buffer.new self.old self.new }
+    {
+        let number = frame.number;
+        self.show(frame);
+        if !self.is_shown() {
+            return Err(Fault::Refused(Refusal::OutOfMemory));
+        }
+        let picture = self.hand_out(buffer);
+        Ok(Framed {
+            number,
+            picture,
+            dropped,
+        })
     }
 
     /// Ends the frame, renders it, and writes its picture. `Ended`; `TooSmall` where the buffer is; `TryAgain` where an encoder has not
-    /// come back; `FramesSpent`. After `OutOfMemory` the context is ended.
-    pub(crate) fn frame(&mut self, picture: &mut [u8]) -> Result<Framed, Fault>
-        ensures { FramesHere result (length picture.old) self.old self.new }
+    /// come back; `FramesSpent`. After `OutOfMemory` the context is ended. After a refusal the buffer is as before.
+    pub(crate) fn frame(&mut self, buffer: &mut [u8]) -> Result<Framed, Fault>
+        ensures { FramesHere result buffer.old buffer.new self.old self.new }
     {
         if self.is_ended() {
             return Err(Fault::Ended);
         }
-        if picture.len() < self.most {
+        if buffer.len() < self.most() {
             return Err(Fault::TooSmall);
         }
-        let (frame, dropped) = self.make()?;
-        let number = frame.number;
-        self.show(frame);
-        if !self.is_shown {
-            return Err(Fault::Refused(Refusal::OutOfMemory));
+        match self.make() {
+            Err(fault) => Err(fault),
+            Ok((frame, dropped)) => self.deliver(frame, dropped, buffer),
         }
-        Ok(Framed {
-            number,
-            picture: self.hand_out(picture),
-            dropped,
-        })
     }
 }

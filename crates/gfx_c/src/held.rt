@@ -1,7 +1,7 @@
 // The object behind a handle, out of its box and back into it.
 ghost use Rattle.std.specs.Prelude.{◌≡◌, Some, None, MatchOption};
 ghost use Rattle.gfx_c.specs.declared.objects.Object.TheVariants.{Api, Recording};
-ghost use Rattle.gfx_c.specs.Exports.{IsNoContext, IsNoEncoder};
+ghost use Rattle.gfx_c.specs.Exports.{context_of, encoder_of};
 
 use crate::context::Context;
 use crate::encoder::Encoder;
@@ -12,7 +12,7 @@ use std::mem;
 
 /// Takes the context of a handle, with the box that it was in. None where the handle is another, which stays as it was.
 pub(crate) fn take_context(slot: &mut Slot, alloc: Global) -> Option<(Box<Object>, Context)>
-    ensures { MatchOption result (IsNoContext slot.old.value × (slot.new.value ≡ slot.old.value)) (λ p. (slot.old.value ≡ Some (Api p.1)) × (slot.new.value ≡ None)) }
+    ensures { MatchOption result ((context_of slot.old.value ≡ None) × (slot.new.value ≡ slot.old.value)) (λ p. (slot.old.value ≡ Some (Api p.1)) × (slot.new.value ≡ None)) }
 {
     let Some(mut object) = take(slot, alloc) else {
         return None;
@@ -42,7 +42,7 @@ pub(crate) fn put_context(slot: &mut Slot, object: Box<Object>, context: Context
 
 /// Takes the encoder of a handle, with the box that it was in. None where the handle is another, which stays as it was.
 pub(crate) fn take_encoder(slot: &mut Slot, alloc: Global) -> Option<(Box<Object>, Encoder)>
-    ensures { MatchOption result (IsNoEncoder slot.old.value × (slot.new.value ≡ slot.old.value)) (λ p. (slot.old.value ≡ Some (Recording p.1)) × (slot.new.value ≡ None)) }
+    ensures { MatchOption result ((encoder_of slot.old.value ≡ None) × (slot.new.value ≡ slot.old.value)) (λ p. (slot.old.value ≡ Some (Recording p.1)) × (slot.new.value ≡ None)) }
 {
     let Some(mut object) = take(slot, alloc) else {
         return None;

@@ -17,18 +17,13 @@ mod creates;
 mod encoder;
 mod frame;
 mod held;
-mod layouts;
-mod letter;
-mod mail;
 mod objects;
 mod parts;
 mod picture;
 mod recording;
 mod slot;
-mod status;
 #[cfg(test)]
 mod tests;
-mod things;
 mod transform;
 mod updates;
 mod views;

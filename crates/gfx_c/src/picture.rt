@@ -1,95 +1,76 @@
-// How pictures leave a renderer that keeps its sink.
-ghost use Rattle.std.specs.Prelude.{◌≡◌, ◌≤◌, None, ⊤};
+// The sink in which a renderer leaves its picture.
+ghost use Rattle.std.specs.Prelude.{◌≡◌, ◌≤◌, ◌<◌, [], ◌-◌, min, length, vec_len, vec_capacity, Some, None, IfOk};
 ghost use Rattle.io_edge.specs.Edge.{Rose};
 
-use counted_slot::{Counted, FREE, Fits, TAKEN};
 use io_edge::{Failed, Sink};
 use std::alloc::{AllocError, Global};
-use std::sync::Arc;
 
-/// The text of a picture.
+/// Keeps the text of one picture, in room that is made once. It fails only where the room is used up.
 #[derive(Drop)]
-pub struct Picture {
-    pub text: Vec<u8>,
-}
-
-impl Fits for Picture {
-    type Tag = u64;
-
-    ghost fits = { λ _ _. ⊤ };
-}
-
-/// A place in which the sink leaves a picture, and from which the context takes it.
-pub type Desk = Counted<Option<Picture>>;
-
-/// A desk without a picture.
-pub(crate) fn empty_desk(alloc: Global) -> Result<Arc<Desk>, AllocError> {
-    let desk: Desk = Counted::new(None, &0);
-    Ok(Arc::new(alloc, desk)?)
-}
-
-/// Leaves a picture or none, and takes what was there. Where another call is at the desk, nothing changes.
-pub(crate) fn swap(desk: &Desk, picture: Option<Picture>) -> Option<Picture> {
-    let (found, claim) = desk.turn(FREE, TAKEN);
-    if found != FREE {
-        claim.done();
-        return None;
-    }
-    match picture {
-        Some(picture) => claim.put(Some(picture), FREE),
-        None => claim.put(None, FREE),
-    }
-}
-
-/// A sink that leaves what is put on a desk. It tells no content, and want of memory is a fault.
-#[derive(Drop)]
-pub struct DeskSink {
-    desk: Arc<Desk>,
-    alloc: Global,
+pub struct PictureSink {
+    text: Vec<u8>,
+    capacity: usize,
     faults: u64,
+    ghost room: { capacity ≤ vec_capacity text },
+    ghost within: { vec_len text ≤ capacity },
+    ghost never_short: { vec_len text < capacity → faults ≡ 0 },
 }
 
-impl DeskSink {
-    pub(crate) fn new(alloc: Global, desk: Arc<Desk>) -> DeskSink {
-        DeskSink {
-            desk,
-            alloc,
+impl PictureSink {
+    /// An empty sink for a text of at most so many bytes.
+    pub(crate) fn new(alloc: Global, capacity: usize) -> Result<PictureSink, AllocError>
+        ensures { IfOk result (λ s. (s.text.items ≡ []) × (s.capacity ≡ capacity) × (s.faults ≡ 0)) }
+    {
+        Ok(PictureSink {
+            text: Vec::with_capacity(alloc, capacity)?,
+            capacity,
             faults: 0,
-        }
+        })
     }
 
-    fn copy(&self, piece: &[u8]) -> Result<Vec<u8>, AllocError> {
-        let mut text = match swap(&self.desk, None) {
-            Some(picture) => picture.text,
-            None => Vec::new(self.alloc),
-        };
-        text.clear();
-        text.extend_from_slice(piece)?;
-        Ok(text)
+    /// How many bytes a text has at most.
+    pub(crate) fn capacity(&self) -> usize
+        ensures { result ≡ self.now.capacity }
+    {
+        self.capacity
+    }
+
+    /// The text.
+    pub(crate) fn text(&self) -> &[u8]
+        ensures same { result.now ≡ self.now.text.items }
+        ensures most { length result.now ≤ self.now.capacity }
+    {
+        &self.text
+    }
+
+    /// Makes it as new.
+    pub(crate) fn clear(&mut self)
+        ensures { (self.new.text.items ≡ []) × (self.new.capacity ≡ self.old.capacity) × (self.new.faults ≡ 0) }
+    {
+        self.text.clear();
+        self.faults = 0;
     }
 }
 
-impl Sink for DeskSink {
-    ghost held = { λ _. None };
+impl Sink for PictureSink {
+    ghost held = { λ s. Some s.text.items };
 
     ghost tally = { λ _. None };
 
-    ghost sure = { λ _. None };
+    ghost sure = { λ s. Some s.capacity };
 
     ghost faults = { λ s. s.faults };
 
-    ghost never_short = { λ s short. absurd short };
+    ghost never_short = { λ s short. s.never_short short };
 
     fn put(&mut self, piece: &[u8]) -> Result<usize, Failed> {
-        match self.copy(piece) {
-            Ok(text) => {
-                swap(&self.desk, Some(Picture { text }));
-                Ok(piece.len())
-            }
-            Err(_) => {
-                self.faults = self.faults.saturating_add(1);
-                Err(Failed)
-            }
+        let room = self.capacity - self.text.len();
+        if room == 0 {
+            self.faults = self.faults.saturating_add(1);
+            return Err(Failed);
         }
+        let n = piece.len().min(room);
+        self.text.extend_from_slice(&piece[..n]).unwrap();
+        Ok(n)
     }
 }

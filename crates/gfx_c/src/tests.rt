@@ -17,9 +17,9 @@ use crate::c_views::{
     gfx_set_view_scissor, gfx_set_view_target, gfx_set_view_transform,
 };
 use crate::frame::Framed;
-use crate::layouts::Part;
 use crate::slot::Slot;
 use crate::transform::Transform;
+use c_words::Part;
 use std::alloc::Global;
 use std::test::Fail;
 

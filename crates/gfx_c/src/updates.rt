@@ -5,10 +5,29 @@ ghost use Rattle.gfx_model.specs.Resources as model;
 ghost use Rattle.gfx_c.specs.Calls.{DestroysHere, UpdatesHere, OnThing};
 
 use crate::context::Context;
-use crate::status::{Fault, told};
+use c_words::{Fault, told};
 use fix_math::Rect;
+use gfx_words::Handle;
 
 impl Context {
+    fn update_bytes(&mut self, buffer: Handle, offset: u32, bytes: &[u8]) -> Result<(), Fault>
+        ensures { UpdatesHere result (model.update_buffer buffer offset bytes.now) self.old self.new }
+    {
+        told(self.core.update_buffer(buffer, offset, bytes))
+    }
+
+    fn update_texels(&mut self, texture: Handle, rect: Rect, bytes: &[u8]) -> Result<(), Fault>
+        ensures { UpdatesHere result (model.update_texture texture (rect_seen rect) bytes.now) self.old self.new }
+    {
+        told(self.core.update_texture(texture, rect, bytes))
+    }
+
+    fn destroy_thing(&mut self, h: Handle) -> Result<(), Fault>
+        ensures { DestroysHere result h self.old self.new }
+    {
+        told(self.core.destroy(&self.shared.table, h))
+    }
+
     /// Changes bytes of a vertex or index buffer. `Unknown` where the word names nothing that was made; then `WrongKind`, `Stale`,
     /// `BadRange`.
     pub(crate) fn update_buffer(
@@ -19,9 +38,9 @@ impl Context {
     ) -> Result<(), Fault>
         ensures { OnThing self.old.rows buffer result self.old self.new (λ h. UpdatesHere result (model.update_buffer h offset bytes.now) self.old self.new) }
     {
-        match self.things.find(buffer) {
+        match self.find(buffer) {
             None => Err(Fault::Unknown),
-            Some(h) => told(self.core.update_buffer(h, offset, bytes)),
+            Some(h) => self.update_bytes(h, offset, bytes),
         }
     }
 
@@ -34,9 +53,9 @@ impl Context {
     ) -> Result<(), Fault>
         ensures { OnThing self.old.rows texture result self.old self.new (λ h. UpdatesHere result (model.update_texture h (rect_seen rect) bytes.now) self.old self.new) }
     {
-        match self.things.find(texture) {
+        match self.find(texture) {
             None => Err(Fault::Unknown),
-            Some(h) => told(self.core.update_texture(h, rect, bytes)),
+            Some(h) => self.update_texels(h, rect, bytes),
         }
     }
 
@@ -44,9 +63,9 @@ impl Context {
     pub(crate) fn destroy(&mut self, thing: u64) -> Result<(), Fault>
         ensures { OnThing self.old.rows thing result self.old self.new (λ h. DestroysHere result h self.old self.new) }
     {
-        match self.things.find(thing) {
+        match self.find(thing) {
             None => Err(Fault::Unknown),
-            Some(h) => told(self.core.destroy(&self.shared.table, h)),
+            Some(h) => self.destroy_thing(h),
         }
     }
 }

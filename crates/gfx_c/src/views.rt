@@ -1,29 +1,16 @@
 // How views are set.
-ghost use Rattle.std.specs.Prelude.{◌≡◌, Err, MatchOption, option_map};
+ghost use Rattle.std.specs.Prelude.{◌≡◌, Err, MatchOption};
 ghost use Rattle.fix_math.specs.Seen.{rect_seen, affine_seen};
 ghost use Rattle.gfx_model.specs.Resources as model;
 ghost use Rattle.gfx_words.specs.Seen.{mode_seen};
-ghost use Rattle.gfx_c.specs.declared.status.Fault.TheVariants as faults;
+ghost use Rattle.c_words.specs.declared.faults.Fault.TheVariants as faults;
 ghost use Rattle.gfx_c.specs.Calls.{ChangesHere, OnMaybe};
-ghost use Rattle.gfx_c.specs.Modes.{mode_of_number};
+ghost use Rattle.c_words.specs.Modes.{mode_of_number};
 
 use crate::context::Context;
-use crate::status::{Fault, told};
+use c_words::{Fault, mode_of, told};
 use fix_math::{Affine, Rect};
-use gfx_words::ViewMode;
-
-// The mode of a number.
-fn mode_of(number: u8) -> Option<ViewMode>
-    ensures { option_map mode_seen result ≡ mode_of_number number }
-{
-    match number {
-        0 => Some(ViewMode::Default),
-        1 => Some(ViewMode::Sequential),
-        2 => Some(ViewMode::DepthAscending),
-        3 => Some(ViewMode::DepthDescending),
-        _ => None,
-    }
-}
+use gfx_words::{Handle, ViewMode};
 
 impl Context {
     /// Sets the part of its target that a view draws on. `BadView`, as of each call that names a view.
@@ -54,14 +41,20 @@ impl Context {
         told(self.core.set_view_clear(view, flags, color, depth, stencil))
     }
 
+    fn set_mode(&mut self, view: u16, mode: ViewMode) -> Result<(), Fault>
+        ensures { ChangesHere result (model.set_view_mode view (mode_seen mode)) self.old self.new }
+    {
+        told(self.core.set_view_mode(view, mode))
+    }
+
     /// Sets how a view orders its draws and touches, by a number from 0 to 3; else `BadValue`.
     pub(crate) fn set_view_mode(&mut self, view: u16, mode: u8) -> Result<(), Fault>
         ensures { MatchOption (mode_of_number mode) ((result ≡ Err faults.BadValue) × (self.new ≡ self.old)) (λ m. ChangesHere result (model.set_view_mode view m) self.old self.new) }
     {
-        let Some(mode) = mode_of(mode) else {
-            return Err(Fault::BadValue);
-        };
-        told(self.core.set_view_mode(view, mode))
+        match mode_of(mode) {
+            None => Err(Fault::BadValue),
+            Some(mode) => self.set_mode(view, mode),
+        }
     }
 
     /// Sets the transform of a view.
@@ -71,12 +64,20 @@ impl Context {
         told(self.core.set_view_transform(view, t))
     }
 
+    fn set_target(&mut self, view: u16, target: Option<Handle>) -> Result<(), Fault>
+        ensures { ChangesHere result (model.set_view_target view target) self.old self.new }
+    {
+        told(self.core.set_view_target(view, target))
+    }
+
     /// Sets the target of a view, a frame buffer, or the back buffer by 0. `Unknown`; `BadView`, `WrongKind`, `Stale`.
     pub(crate) fn set_view_target(&mut self, view: u16, target: u64) -> Result<(), Fault>
         ensures { OnMaybe self.old.rows target result self.old self.new (λ o. ChangesHere result (model.set_view_target view o) self.old self.new) }
     {
-        let target = self.things.find_maybe(target)?;
-        told(self.core.set_view_target(view, target))
+        match self.find_maybe(target) {
+            None => Err(Fault::Unknown),
+            Some(target) => self.set_target(view, target),
+        }
     }
 
     /// Sets the views that come first. `BadView` where an id is no view's; then `BadRange` where one stands twice.
