@@ -6,6 +6,8 @@ mod faults;
 mod given;
 mod layouts;
 mod modes;
+#[cfg(test)]
+mod tests;
 
 pub use faults::{Fault, NO_OBJECT, status, told};
 pub use given::Things;

@@ -1,6 +1,6 @@
 -- How encoders begin.
-use Rattle.std.proofs.Common.{◌≡◌, Bool, false, List, Option, Some, None, Result, Ok, Err, refl, ap, sym, ◌∙◌, subst}
-use Rattle.std.specs.Prelude.{MatchOption, ⊤}
+use Rattle.std.proofs.Common.{◌≡◌, ℕ, Bool, false, List, Option, Some, None, Result, Ok, Err, refl, ap, sym, ◌∙◌, subst}
+use Rattle.std.specs.Prelude.{MatchOption, IfOk, ⊤}
 use Rattle.gfx_model.specs.FrameCalls.{Begun, begin_encoder, frame_refusal}
 use Rattle.gfx_model.specs.Recorder.{Room}
 use Rattle.gfx_model.specs.Resources as model
@@ -28,15 +28,15 @@ same_begun x y e = cc e
 pub begins_views : (room : Room) (e : encoders.EncoderView) (a b : CoreView) → Begins own room e a b → e.recorder.view_count ≡ view_count a.state.book.resources.views
 begins_views room e a b m = sym (ap (λ (x : Begun). x.recorder.view_count) (same_begun _ (record { encoder = e.seat.encoder; recorder = e.recorder }) m.made))
 
-module _ (rows : List (Option Handle)) (renderer : Rendering) (is_shown : Bool) (most : _) (a b : CoreView) {t : TableId} (o : IsOn t a) where
+module _ (rows : List (Option Handle)) (renderer : Rendering) (is_shown : Bool) (most : ℕ) (a b : CoreView) {t : TableId} (o : IsOn t a) where
   abbrev with_core : CoreView → ContextView
   with_core c = context_with rows renderer is_shown most c
 
-  recorder_now : (room : Room) (result : Result RecorderView Refusal) → IsBegin own (λ r. r.state) result room a b → ((r : RecorderView) → result ≡ Ok r → r.table ≡ a.table) → BeginsRecorder result room (with_core a) (with_core b)
-  recorder_now room (Ok r) m same = (m, same r refl, begins_views room r.state a b m ∙ o.views_are, refl)
+  recorder_now : (room : Room) (result : Result RecorderView Refusal) → IsBegin own (λ r. r.state) result room a b → IfOk result (λ r. r.table ≡ a.table) → BeginsRecorder result room (with_core a) (with_core b)
+  recorder_now room (Ok r) m same = (m, same, begins_views room r.state a b m ∙ o.views_are, refl)
   recorder_now room (Err e) m same = (m.0, ap with_core m.1)
 
-  pub recorder_told : (room : Room) (result : Result RecorderView Refusal) → IsBegin own (λ r. r.state) result room a b → ((r : RecorderView) → result ≡ Ok r → r.table ≡ a.table) → (old : ContextView) → with_core a ≡ old → BeginsRecorder result room old (with_core b)
+  pub recorder_told : (room : Room) (result : Result RecorderView Refusal) → IsBegin own (λ r. r.state) result room a b → IfOk result (λ r. r.table ≡ a.table) → (old : ContextView) → with_core a ≡ old → BeginsRecorder result room old (with_core b)
   recorder_told room result m same old e = subst (λ (v : ContextView). BeginsRecorder result room v (with_core b)) e (recorder_now room result m same)
 
 -- memory may be wanting earlier

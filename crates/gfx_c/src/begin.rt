@@ -7,12 +7,11 @@ ghost use Rattle.gfx_c.specs.Calls.{BeginsHere, BeginsEncoder, BeginsRecorder, C
 
 use crate::context::Context;
 use crate::encoder::Encoder;
-use letter_boxes::Letter;
-use letter_boxes::Shared;
 use c_words::{Fault, Things, told};
 use context_core::Room;
 use draw_encoder::Recorder;
 use gfx_words::Refusal;
+use letter_boxes::{Letter, Shared};
 use std::alloc::AllocError;
 use std::sync::Arc;
 

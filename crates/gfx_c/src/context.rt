@@ -3,12 +3,12 @@ ghost use Rattle.std.specs.Prelude.{◌≡◌, ◌≤◌, ◌||◌, ◌&&◌, no
 ghost use Rattle.gfx_c.specs.Calls.{IsOpened, OpensHere, is_side};
 ghost use Rattle.c_words.specs.Things.{named, named_or_none};
 
-use letter_boxes::Shared;
 use crate::picture::PictureSink;
 use c_words::{Fault, Things};
 use context_core::{ContextCore, Start};
 use gfx_words::{Handle, Refusal};
 use hold_table::HoldTable;
+use letter_boxes::Shared;
 use render_core::Renderer;
 use std::alloc::{AllocError, Global};
 use std::marker::Model;

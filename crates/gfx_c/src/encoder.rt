@@ -2,10 +2,10 @@
 ghost use Rattle.std.specs.Prelude.{◌≡◌, IfErr};
 ghost use Rattle.c_words.specs.Things.{named, named_or_none};
 
-use letter_boxes::Shared;
 use c_words::Things;
 use draw_encoder::Recorder;
 use gfx_words::Handle;
+use letter_boxes::Shared;
 use std::marker::Model;
 use std::sync::Arc;
 

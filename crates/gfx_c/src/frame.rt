@@ -141,12 +141,7 @@ impl Context {
     }
 
     // Renders a frame, and hands its picture out.
-    fn deliver(
-        &mut self,
-        frame: Frame,
-        dropped: u64,
-        buffer: &mut [u8],
-    ) -> Result<Framed, Fault>
+    fn deliver(&mut self, frame: Frame, dropped: u64, buffer: &mut [u8]) -> Result<Framed, Fault>
         requires { self.old.most ≤ length buffer.old }
         ensures { Delivers result frame dropped buffer.old buffer.new self.old self.new }
     {

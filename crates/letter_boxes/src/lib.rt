@@ -4,6 +4,8 @@
 
 mod boxes;
 mod letter_rule;
+#[cfg(test)]
+mod tests;
 
 pub use boxes::{LetterBox, Shared};
 pub use letter_rule::{Claim, Enter, Grab, Knows, Law, Letter, Rest};

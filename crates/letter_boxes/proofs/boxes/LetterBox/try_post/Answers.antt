@@ -1,6 +1,7 @@
-use Rattle.std.proofs.Common.{rules, ap, ◌∙◌, sym, Some, None}
+use Rattle.std.proofs.Common.{ℕ, rules, ap, ◌∙◌, sym, subst, Some, None}
 use Rattle.hold_table.specs.declared.table.EncSeat.{EncSeat}
 use Rattle.hold_table.specs.Seats.{enc_table}
+use Rattle.draw_encoder.specs.Bundles.{BelongTogether}
 use Rattle.draw_encoder.specs.declared.items.Recording.{Recording}
 use Rattle.letter_boxes.proofs.MailKeeps.{enters_keep, claims_keep, posts_keep, filled}
 use Rattle.letter_boxes.proofs.boxes.LetterBox.try_post.Goals as goal
@@ -10,6 +11,9 @@ load_new_seat-seat-requires c = (search rules, enters_keep _ _)
 
 pub compare_exchange-requires : goal.compare_exchange-requires
 compare_exchange-requires c = let new = c.load_new_seat-seat.ensures.2 in (search rules, search rules, claims_keep _ _ _ _ (ap (λ m. m.0.holds) new) (ap (λ m. m.1) new))
+
+pub new-letter-requires : goal.new-letter-requires
+new-letter-requires c = subst (λ (n : ℕ). BelongTogether n c.end-recording.result.0 c.end-recording.result.1) c.requires.views c.end-recording.ensures.together
 
 pub store-requires : goal.store-requires
 store-requires c =
