@@ -36,7 +36,7 @@ first_rendering width height = record {
   held = Some [];
   tally = None;
   faults = 0;
-  sure = Some (3 * width * height + 17);
+  sure = Some (3 * (width * height) + 17);
 }
 
 -- whether a picture can have a side of so many pixels
@@ -50,7 +50,7 @@ pub record IsOpened (width height : ℕ) (c : ContextView) : Type 0 where
   pub rows : c.rows ≡ replicate 7168 None
   pub renderer : c.renderer ≡ first_rendering width height
   pub is_shown : c.is_shown ≡ true
-  pub most : c.most ≡ 3 * width * height + 17
+  pub most : c.most ≡ 3 * (width * height) + 17
 
 -- why a context is not made: a side is none; or memory is wanting, which may come before
 abbrev pub IsNotOpened : Fault → (width height : ℕ) → Type 0

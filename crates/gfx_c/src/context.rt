@@ -84,8 +84,8 @@ impl Context {
         };
         let shared = Arc::new(alloc, Shared::new(alloc, table)?)?;
         let things = Things::new(alloc)?;
-        let most = 3 * usize::from(width) * usize::from(height) + MOST_HEADER;
-        let sink = PictureSink::new(alloc, most)?;
+        let pixels = usize::from(width) * usize::from(height);
+        let sink = PictureSink::new(alloc, 3 * pixels + MOST_HEADER)?;
         let Ok(renderer) = Renderer::new(alloc, width, height, sink) else {
             return Err(AllocError);
         };
