@@ -1,6 +1,7 @@
 mod AsBox
 mod On
 mod Told
+mod MadeLayouts
 mod Slots
 mod Recorded
 mod Frames
