@@ -1,5 +1,7 @@
 // Layouts as C has them.
-ghost use Rattle.std.specs.Prelude.{◌≡◌, option_map};
+ghost use Rattle.std.specs.Prelude.{◌≡◌, List, Some, option_map};
+ghost use Rattle.gfx_model.specs.Vertex.{LayoutPart};
+ghost use Rattle.vertex_layout.specs.Building.{built};
 ghost use Rattle.vertex_layout.specs.Kinds.{attribute_seen, component_seen};
 ghost use Rattle.c_words.specs.Layouts.{attribute_of_number, component_of_number, parts_of, AddsPart, IsLayoutOf};
 
@@ -59,6 +61,16 @@ fn add(builder: &mut LayoutBuilder, part: &Part) -> Option<()>
     Some(())
 }
 
+// The layout of the parts that were added.
+fn finished(builder: LayoutBuilder) -> Result<VertexLayout, Fault>
+    ensures { (parts : List LayoutPart) → builder ≡ built parts → IsLayoutOf (Some parts) result }
+{
+    match builder.end() {
+        Ok(layout) => Ok(layout),
+        Err(_) => Err(Fault::Refused(Refusal::BadSize)),
+    }
+}
+
 /// The layout of parts. `BadValue` where a number of a part stands for nothing; else `BadSize` where they make no layout.
 pub fn layout_of(parts: &[Part]) -> Result<VertexLayout, Fault>
     ensures { IsLayoutOf (parts_of parts.now) result }
@@ -70,8 +82,5 @@ pub fn layout_of(parts: &[Part]) -> Result<VertexLayout, Fault>
             None => return Err(Fault::BadValue),
         }
     }
-    match builder.end() {
-        Ok(layout) => Ok(layout),
-        Err(_) => Err(Fault::Refused(Refusal::BadSize)),
-    }
+    finished(builder)
 }
