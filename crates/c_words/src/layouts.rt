@@ -5,7 +5,7 @@ ghost use Rattle.vertex_layout.specs.Building.{built};
 ghost use Rattle.vertex_layout.specs.Kinds.{attribute_seen, component_seen};
 ghost use Rattle.c_words.specs.Layouts.{attribute_of_number, component_of_number, parts_of, AddsPart, IsLayoutOf};
 
-use crate::status::Fault;
+use crate::faults::Fault;
 use gfx_words::Refusal;
 use vertex_layout::{Attr, AttrType, LayoutBuilder, VertexLayout};
 
