@@ -1,10 +1,13 @@
 // Contexts for C.
-ghost use Rattle.std.specs.Prelude.{◌≡◌, Ok};
-ghost use Rattle.gfx_c.specs.Calls.{Collects};
+ghost use Rattle.std.specs.Prelude.{◌≡◌, None, Ok};
+ghost use Rattle.gfx_words.specs.Seen.{room_seen};
+ghost use Rattle.c_words.specs.Statuses.{status_of};
+ghost use Rattle.gfx_c.specs.Calls.{BeginsHere, Collects};
 ghost use Rattle.gfx_c.specs.Exports.{OnContext, ShutsDown};
-ghost use Rattle.gfx_c.specs.Opening.{Opens, BeginsInto};
+ghost use Rattle.gfx_c.specs.Opening.{Opens, BeginsInto, opened_into, begun_into};
 
 use crate::context::Context;
+use crate::encoder::Encoder;
 use crate::held::{put_context, put_encoder, take_context};
 use crate::objects::Object;
 use crate::slot::{Slot, is_null};
@@ -12,6 +15,55 @@ use c_words::{Fault, NO_OBJECT};
 use context_core::Room;
 use gfx_words::Refusal;
 use std::alloc::Global;
+
+// Puts a context that was made into a handle that is null, and answers its status.
+fn hand_context(context: &mut Slot, blank: Box<Object>, made: Result<Context, Fault>) -> u32
+    requires { context.old.value ≡ None }
+    ensures status { result ≡ status_of made }
+    ensures handle { context.new.value ≡ opened_into made }
+{
+    match made {
+        Ok(made) => {
+            put_context(context, blank, made);
+            0
+        }
+        Err(fault) => fault.number(),
+    }
+}
+
+// Puts an encoder that was begun into a handle that is null, and answers its status.
+fn hand_encoder(encoder: &mut Slot, blank: Box<Object>, begun: Result<Encoder, Fault>) -> u32
+    requires { encoder.old.value ≡ None }
+    ensures status { result ≡ status_of begun }
+    ensures handle { encoder.new.value ≡ begun_into begun }
+{
+    match begun {
+        Ok(begun) => {
+            put_encoder(encoder, blank, begun);
+            0
+        }
+        Err(fault) => fault.number(),
+    }
+}
+
+// Begins an encoder for a handle that is null, whose box this is.
+fn begin_for(
+    alloc: Global,
+    context: &mut Slot,
+    encoder: &mut Slot,
+    blank: Box<Object>,
+    room: Room,
+) -> u32
+    requires { encoder.old.value ≡ None }
+    ensures { OnContext context.old.value context.new.value result (λ r c d. (encoder.new.value ≡ begun_into r) × BeginsHere r (room_seen room) c d) (encoder.new.value ≡ None) }
+{
+    let Some((object, mut api)) = take_context(context, alloc) else {
+        return NO_OBJECT;
+    };
+    let begun = api.begin(room);
+    put_context(context, object, api);
+    hand_encoder(encoder, blank, begun)
+}
 
 /// Makes a context, whose pictures have these sides, for a handle that is null.
 #[unsafe(no_mangle)]
@@ -21,16 +73,11 @@ pub extern "C" fn gfx_init(alloc: Global, context: &mut Slot, width: u16, height
     if !is_null(context, alloc) {
         return Fault::Taken.number();
     }
-    let Ok(object) = Box::new(alloc, Object::Blank) else {
+    let Ok(blank) = Box::new(alloc, Object::Blank) else {
         return Fault::Refused(Refusal::OutOfMemory).number();
     };
-    match Context::new(alloc, width, height) {
-        Ok(made) => {
-            put_context(context, object, made);
-            0
-        }
-        Err(fault) => fault.number(),
-    }
+    let made = Context::new(alloc, width, height);
+    hand_context(context, blank, made)
 }
 
 /// Gives a context up. Its handle is null from then on.
@@ -62,23 +109,12 @@ pub extern "C" fn gfx_begin(
     let Ok(blank) = Box::new(alloc, Object::Blank) else {
         return Fault::Refused(Refusal::OutOfMemory).number();
     };
-    let Some((object, mut api)) = take_context(context, alloc) else {
-        return NO_OBJECT;
-    };
     let room = Room {
         items,
         bytes,
         uniforms,
     };
-    let begun = api.begin(room);
-    put_context(context, object, api);
-    match begun {
-        Ok(recording) => {
-            put_encoder(encoder, blank, recording);
-            0
-        }
-        Err(fault) => fault.number(),
-    }
+    begin_for(alloc, context, encoder, blank, room)
 }
 
 /// Collects what encoders of this frame ended with and has come, and tells how many have not come.
