@@ -10,8 +10,7 @@ loop-part-init c = ([], refl, c.new-builder.ensures)
 pub loop-part-preserved : goal.loop-part-preserved
 loop-part-preserved c =
     let i = c.loop-part.invariant in
-    let added = c.in-Some.ensures in
-    (
+    let added = c.in-Some.ensures in (
       i.0 ++ added.0 ∷ [],
       parts_more c.args.parts.now c.loop-part.part-index c.part-item.result i.0 added.0 c.loop-part-test.true i.1 (ap part_of (sym c.part-item.is) ∙ added.1),
       added.2 i.0 i.2,
