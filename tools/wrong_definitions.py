@@ -43,7 +43,7 @@ WRONG = [
     ("clear whole target", G + "World.antt", "if contains (view_rect view.rect s.color.width s.color.height) x y then cleared view.clear p else p", "cleared view.clear p"),
     # pixels
     ("shared edge to both", G + "Raster.antt", "is_top_or_left p q = if int_le p.y q.y then int_le q.y p.y && int_lt p.x q.x else true", "is_top_or_left p q = true"),
-    ("shared edge to neither", G + "Raster.antt", "is_top_or_left p q = if int_le p.y q.y then int_le q.y p.y && int_lt p.x q.x else true", "is_top_or_left p q = false"),
+    ("shared edge to neither", G + "Raster.antt", "is_top_or_left p q = if int_le p.y q.y then int_le q.y p.y && int_lt p.x q.x else true", "is_top_or_left p q = not true"),
     ("screen y up", G + "Raster.antt", "(pos 65536 -ℤ p.y)", "(pos 65536 +ℤ p.y)"),
     ("cull turned", G + "Raster.antt", "(is_front t && not (cull == 1)) || (is_back t && not (cull == 2))", "(is_front t && not (cull == 2)) || (is_back t && not (cull == 1))"),
     ("no guard range", G + "Raster.antt", "if is_in_guard_range p then Some", "if true then Some"),
@@ -53,7 +53,7 @@ WRONG = [
     ("least with factors", G + "Pixel.antt", "(if equation == 3 then min s d else max s d)", "(if equation == 3 then min scaled_s scaled_d else max s d)"),
     ("greatest with factors", G + "Pixel.antt", "(if equation == 3 then min s d else max s d)", "(if equation == 3 then min s d else max scaled_s scaled_d)"),
     # draws
-    ("uniforms reset each draw", G + "World.antt", "painted_color (newest_value color_name vec4 w.things)", "painted_color (option_and_then (λ s. Some s.value) (slice_get d.values 0))"),
+    ("uniforms reset each draw", G + "World.antt", "do_item view w (draw_item d) = draw_on (fold set_uniform w d.values) view d", "do_item view w (draw_item d) = record (draw_on (fold set_uniform w d.values) view d) { things = w.things }"),
     ("blit reads past the source", G + "World.antt", "nat_lt (b.sx + (x - b.dx)) source.width", "true"),
     ("samples its own target", G + "World.antt", "if is_serial h.serial (target_color w view.target) then None else texels_of", "if false then None else texels_of"),
     ("stage below 0 is stage 0", G + "World.antt", "bound_handle textures (negsuc n) = None", "bound_handle textures (negsuc n) = slice_index_or textures 0 None"),
