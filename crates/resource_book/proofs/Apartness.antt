@@ -12,7 +12,7 @@ use Rattle.resource_book.specs.Tables.{StandApart, IsOfKind}
 
 -- ---- a thing in place of another
 
-count_set : (q : Thing → Bool) (ts : List Thing) (n : ℕ) (y d : Thing) → n < length ts → q y ≡ q (slice_index_or ts n d) → count_where q (slice_set ts n y) ≡ count_where q ts
+pub count_set : (q : Thing → Bool) (ts : List Thing) (n : ℕ) (y d : Thing) → n < length ts → q y ≡ q (slice_index_or ts n d) → count_where q (slice_set ts n y) ≡ count_where q ts
 count_set q [] n y d lt e = refl
 count_set q (t ∷ ts) zero y d lt e = ap (λ b. (if b then 1 else 0) + count_where q ts) e
 count_set q (t ∷ ts) (suc n) y d lt e = ap (λ m. (if q t then 1 else 0) + m) (count_set q ts n y d (omega (arith, lt)) e)
@@ -46,7 +46,7 @@ not_counted_by : (p : Thing → Bool) (t : Thing) (ts : List Thing) (b : Bool) �
 not_counted_by p t ts true f e = absurd (none-some t (sym e))
 not_counted_by p t ts false f e = let h = f e in omega (arith, h)
 
-not_counted : (p : Thing → Bool) (ts : List Thing) → find p ts ≡ None → count_where p ts ≡ 0
+pub not_counted : (p : Thing → Bool) (ts : List Thing) → find p ts ≡ None → count_where p ts ≡ 0
 not_counted p [] e = refl
 not_counted p (t ∷ ts) e = not_counted_by p t ts (p t) (not_counted p ts) e
 

@@ -20,6 +20,7 @@ pub mod TargetCalls
 pub mod WrittenLaws
 pub mod Apartness
 pub mod Holders
+pub mod NameLaws
 pub mod Named
 pub mod Overs
 pub mod PlaceLaws

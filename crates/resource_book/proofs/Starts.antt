@@ -92,7 +92,7 @@ few_step : (q p : Thing → Bool) (t : Thing) (ts : List Thing) (b : Bool) → c
 few_step q p t ts true h = omega (arith, h)
 few_step q p t ts false h = omega (arith, h)
 
-few_kept : (q p : Thing → Bool) (ts : List Thing) → count_where q (filter p ts) ≤ count_where q ts
+pub few_kept : (q p : Thing → Bool) (ts : List Thing) → count_where q (filter p ts) ≤ count_where q ts
 few_kept q p [] = omega arith
 few_kept q p (t ∷ ts) = few_step q p t ts (p t) (few_kept q p ts)
 

@@ -1,4 +1,5 @@
 pub mod Seen
+pub mod Names
 pub mod Tables
 pub mod Stacks
 pub mod Shelves

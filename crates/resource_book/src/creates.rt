@@ -12,7 +12,7 @@ ghost use Rattle.resource_book.specs.Shelves.{HasLimits};
 ghost use Rattle.resource_book.specs.Written.{depth_word, flag_number};
 
 use crate::desk::Desk;
-use crate::find::{can_attach, find_named, uniform_kind_of};
+use crate::find::{can_attach, uniform_kind_of};
 use crate::rows::Fact;
 use cmd_buffer::Command;
 use gfx_words::{Handle, Info, Kind, ProgramKind, Refusal, UniformKind};
@@ -54,7 +54,7 @@ impl Desk {
         // as long as with any other index
         let bytes = Command::CreateLayout { index: 0, layout }.size();
         self.reserve(bytes)?;
-        let handle = self.make(Kind::Layout, Info::Plain, Fact::Layout(layout));
+        let handle = self.make(Kind::Layout, Info::Plain, Fact::Layout(layout), None);
         self.write(Command::CreateLayout {
             index: handle.index(),
             layout,
@@ -91,7 +91,7 @@ impl Desk {
         let fact = Fact::Vertices {
             bytes: bytes.len() as u32,
         };
-        let handle = self.make(Kind::VertexBuffer, Info::Plain, fact);
+        let handle = self.make(Kind::VertexBuffer, Info::Plain, fact, None);
         let index = handle.index();
         self.send(
             Command::CreateVertexBuffer {
@@ -129,7 +129,7 @@ impl Desk {
         let fact = Fact::Indices {
             bytes: bytes.len() as u32,
         };
-        let handle = self.make(Kind::IndexBuffer, Info::Plain, fact);
+        let handle = self.make(Kind::IndexBuffer, Info::Plain, fact, None);
         let index = handle.index();
         self.send(Command::CreateIndexBuffer { index, payload }, sent);
         Ok(handle)
@@ -150,7 +150,7 @@ impl Desk {
             return Err(Refusal::SerialsSpent);
         }
         self.reserve(4)?;
-        let handle = self.make(Kind::Program, Info::Plain, Fact::Program(kind));
+        let handle = self.make(Kind::Program, Info::Plain, Fact::Program(kind), None);
         self.write(Command::CreateProgram {
             index: handle.index(),
             kind: kind.number(),
@@ -189,7 +189,7 @@ impl Desk {
             color: color.serial(),
             depth: serial_of(depth),
         };
-        let handle = self.make(Kind::FrameBuffer, Info::Plain, fact);
+        let handle = self.make(Kind::FrameBuffer, Info::Plain, fact, None);
         let index = handle.index();
         self.write(Command::CreateFrameBuffer {
             index,
@@ -210,7 +210,7 @@ impl Desk {
         if name.len() < 1 || name.len() > 32 {
             return Err(Refusal::BadSize);
         }
-        match find_named(&self.shelf.table, name) {
+        match self.shelf.table.named(name) {
             Some(number) => self.refer(number, kind),
             None => self.new_uniform(name, kind),
         }
@@ -259,12 +259,15 @@ impl Desk {
         let Ok(own) = name.to_vec(self.alloc) else {
             return Err(Refusal::OutOfMemory)
         };
+        let Ok(key) = name.to_vec(self.alloc) else {
+            return Err(Refusal::OutOfMemory)
+        };
         let Ok(sent) = name.to_vec(self.alloc) else {
             return Err(Refusal::OutOfMemory)
         };
         let payload = self.payloads.len() as u32;
         let fact = Fact::Uniform { kind, name: own };
-        let handle = self.make(Kind::Uniform, Info::Uniform(kind), fact);
+        let handle = self.make(Kind::Uniform, Info::Uniform(kind), fact, Some(key));
         let index = handle.index();
         let serial = handle.serial();
         self.send(

@@ -1,5 +1,5 @@
 // The state of the calls, with what they wrote.
-ghost use Rattle.std.specs.Prelude.{◌≡◌, ◌≤◌, ◌<◌, ◌++◌, ◌∷◌, [], false, true, Some, None, MatchResult, IfOk, IfErr, length, vec_len, vec_capacity};
+ghost use Rattle.std.specs.Prelude.{◌≡◌, ◌≤◌, ◌<◌, ◌++◌, ◌∷◌, [], false, true, Some, None, option_map, MatchResult, IfSome, IfOk, IfErr, length, vec_len, vec_capacity};
 ghost use Rattle.gfx_model.specs.World.{Content};
 ghost use Rattle.gfx_model.specs.Commands.{command_bytes};
 ghost use Rattle.gfx_model.specs.Resources as model;
@@ -10,6 +10,7 @@ ghost use Rattle.cmd_buffer.specs.Seen.{command_seen};
 ghost use Rattle.resource_laws.specs.Bare.{bare_content, bare_of};
 ghost use Rattle.resource_laws.specs.Lawful.{IsLawful};
 ghost use Rattle.resource_book.specs.Seen.{fact_seen};
+ghost use Rattle.resource_book.specs.Tables.{name_of};
 ghost use Rattle.resource_book.specs.Shelves.{HasLimits};
 ghost use Rattle.resource_book.specs.Desks.{desk_seen, payloads_seen, HasRoom};
 
@@ -52,13 +53,15 @@ impl Desk {
         Ok(())
     }
 
-    /// Makes a thing; there is room.
-    pub fn make(&mut self, kind: Kind, info: Info, fact: Fact) -> Handle
+    /// Makes a thing, with its name once more if it is a uniform; there is room.
+    pub fn make(&mut self, kind: Kind, info: Info, fact: Fact, name: Option<Vec<u8>>) -> Handle
         requires limits { HasLimits self.old.shelf }
         requires lawful { IsLawful (desk_seen self.old).resources }
         requires index { (model.lacks_index (desk_seen self.old).resources (kind_seen kind)).0 ≡ false }
         requires serial { (model.lacks_serial (desk_seen self.old).resources).0 ≡ false }
         requires kind { content_kind (fact_seen fact) ≡ kind_seen kind }
+        requires name { option_map (λ v. v.items) name ≡ name_of (fact_seen fact) }
+        requires unused { IfSome name (λ v. model.named_uniform (desk_seen self.old).resources v.items ≡ None) }
         requires room { 1 ≤ self.old.shelf.table.spare }
         ensures limits { HasLimits self.new.shelf }
         ensures made { Some result ≡ (model.make (kind_seen kind) (info_seen info) (fact_seen fact) (desk_seen self.old).resources).made }
@@ -67,7 +70,7 @@ impl Desk {
         ensures post { self.new.post ≡ self.old.post }
         ensures payloads { self.new.payloads ≡ self.old.payloads }
     {
-        self.shelf.make(kind, info, fact)
+        self.shelf.make(kind, info, fact, name)
     }
 
     /// Writes a command to be done before the frame's draws; there is room.

@@ -1,74 +1,17 @@
 // Looking for things.
-ghost use Rattle.std.specs.Prelude.{◌≡◌, ◌<◌, ◌&&◌, ◌==◌, option_map, map, filter, length, if◌then◌else◌, slice_index_or, Some, None, true, false, MatchOption, MatchResult};
+ghost use Rattle.std.specs.Prelude.{◌≡◌, ◌<◌, ◌&&◌, map, filter, length, slice_index_or, Some, None, true, false, MatchResult};
 ghost use Rattle.std.specs.List.{find};
-ghost use Rattle.gfx_model.specs.Words.{Kind, uniform_kind, frame_buffer_kind, is_kind, is_live_in, greatest};
-ghost use Rattle.gfx_model.specs.Resources.{Thing, is_at, is_live, has_name, holds_texture, word_of_thing, uniform_kind_in, byte_count, bytes_of_thing, holders, least_index, can_attach, texture_sides, same_sides, not_live_option};
+ghost use Rattle.gfx_model.specs.Words.{frame_buffer_kind, is_live_in, greatest};
+ghost use Rattle.gfx_model.specs.Resources.{Thing, is_at, is_live, holds_texture, word_of_thing, uniform_kind_in, byte_count, bytes_of_thing, least_index, can_attach, texture_sides, same_sides};
 ghost use Rattle.gfx_words.specs.Kinds.{kind_seen, uniform_seen, format_seen};
 ghost use Rattle.resource_book.specs.Seen.{fact_seen, row_seen, rows_seen};
-ghost use Rattle.resource_book.specs.Finding.{held_by, lesser_number};
-ghost use Rattle.resource_book.specs.Tables.{number_of};
+ghost use Rattle.resource_book.specs.Finding.{held_by};
 ghost use Rattle.resource_book.specs.Answered.{HasLiveThing};
 
 use crate::rows::{Fact, Row};
 use crate::table::ThingTable;
 use gfx_words::{Format, Handle, Info, Kind, PlaceWord, Refusal, UniformKind};
 use view_table::LiveTargets;
-
-fn has_name(row: &Row, name: &[u8]) -> bool
-    ensures { result ≡ (is_live (row_seen row.now) && has_name name.now (row_seen row.now).content) }
-{
-    match &row.fact {
-        Fact::Uniform { kind: _, name: own } => row.death.is_none() && own.as_slice() == name,
-        _ => false,
-    }
-}
-
-// the number of the uniform of an index, where it lives and has a name
-fn named_at(table: &ThingTable, index: u16, name: &[u8]) -> Option<usize>
-    requires { index < greatest uniform_kind }
-    ensures { result ≡ number_of (λ t. is_at uniform_kind index t && (is_live t && has_name name.now t.content)) table.now.things }
-{
-    table.facts();
-    match table.first_at(Kind::Uniform, index) {
-        None => None,
-        Some(n) => numbered(table.row(n), name, n),
-    }
-}
-
-// the number of a row, where it lives and has a name
-fn numbered(row: &Row, name: &[u8], number: usize) -> Option<usize>
-    ensures { result ≡ (if is_live (row_seen row.now) && has_name name.now (row_seen row.now).content then Some number else None) }
-{
-    if has_name(row, name) {
-        Some(number)
-    } else {
-        None
-    }
-}
-
-fn lesser(a: Option<usize>, b: Option<usize>) -> Option<usize>
-    ensures { result ≡ lesser_number a b }
-{
-    match (a, b) {
-        (Some(n), Some(m)) => Some(if n <= m { n } else { m }),
-        (Some(n), None) => Some(n),
-        (None, b) => b,
-    }
-}
-
-/// The number of the live uniform of a name.
-pub fn find_named(table: &ThingTable, name: &[u8]) -> Option<usize>
-    ensures { MatchOption result
-        (find (λ t. is_live t && has_name name.now t.content) table.now.things ≡ None)
-        (λ n. (n < length table.now.things) × ((d : Thing) → find (λ t. is_live t && has_name name.now t.content) table.now.things ≡ Some (slice_index_or table.now.things n d))) }
-{
-    table.facts();
-    let mut found = None;
-    for index in 0..Kind::Uniform.greatest() {
-        found = lesser(found, named_at(table, index, name));
-    }
-    found
-}
 
 /// The kind of a uniform.
 pub fn uniform_kind_of(fact: &Fact) -> UniformKind

@@ -8,6 +8,7 @@ mod deaths;
 mod desk;
 mod find;
 mod frames;
+mod names;
 mod opening;
 mod rows;
 mod settings;

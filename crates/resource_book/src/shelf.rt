@@ -1,5 +1,5 @@
 // The definitions' state of the calls in code.
-ghost use Rattle.std.specs.Prelude.{◌≡◌, ◌<◌, ◌≤◌, ◌+◌, ◌-◌, ℕ, [], false, length, Some, None, slice_index_or};
+ghost use Rattle.std.specs.Prelude.{◌≡◌, ◌<◌, ◌≤◌, ◌+◌, ◌-◌, ℕ, [], false, length, option_map, Some, None, IfSome, slice_index_or};
 ghost use Rattle.gfx_model.specs.Resources as model;
 ghost use Rattle.gfx_model.specs.Resources.{Thing, is_kept_thing};
 ghost use Rattle.store_laws.specs.Standing.{content_kind};
@@ -10,6 +10,7 @@ ghost use Rattle.resource_book.specs.Answered.{HasLiveThing};
 ghost use Rattle.resource_laws.specs.Bare.{bare_content, bare_of};
 ghost use Rattle.resource_laws.specs.Lawful.{IsLawful};
 ghost use Rattle.resource_book.specs.Seen.{fact_seen};
+ghost use Rattle.resource_book.specs.Tables.{name_of};
 
 use crate::rows::{Fact, Row};
 use crate::stacks::{Stack, all_keep, reclaim_all};
@@ -45,13 +46,15 @@ impl Shelf {
         self.next_serial > 4_294_967_295
     }
 
-    /// Makes a thing of the top index and the next serial.
-    pub fn make(&mut self, kind: Kind, info: Info, fact: Fact) -> Handle
+    /// Makes a thing of the top index and the next serial, with its name once more if it is a uniform.
+    pub fn make(&mut self, kind: Kind, info: Info, fact: Fact, name: Option<Vec<u8>>) -> Handle
         requires limits { HasLimits self.old }
         requires lawful { IsLawful (resources_of self.old) }
         requires index { (model.lacks_index (resources_of self.old) (kind_seen kind)).0 ≡ false }
         requires serial { (model.lacks_serial (resources_of self.old)).0 ≡ false }
         requires kind { content_kind (fact_seen fact) ≡ kind_seen kind }
+        requires name { option_map (λ v. v.items) name ≡ name_of (fact_seen fact) }
+        requires unused { IfSome name (λ v. model.named_uniform (resources_of self.old) v.items ≡ None) }
         requires room { 1 ≤ self.old.table.spare }
         ensures limits { HasLimits self.new }
         ensures made { Some result ≡ (model.make (kind_seen kind) (info_seen info) (fact_seen fact) (resources_of self.old)).made }
@@ -60,13 +63,14 @@ impl Shelf {
         let index = self.stacks[kind.number() as usize].take();
         let handle = Handle::of(kind, index, self.next_serial as u32, info);
         self.next_serial += 1;
-        self.table.push(Row {
+        let row = Row {
             handle,
             birth: self.frame,
             death: None,
             fact,
             references: 1,
-        });
+        };
+        self.table.push(row, name);
         handle
     }
 

@@ -126,7 +126,7 @@ impl Desk {
             width,
             height,
         };
-        self.make(Kind::Texture, info, fact)
+        self.make(Kind::Texture, info, fact, None)
     }
 
     fn new_filled(

@@ -4,7 +4,8 @@ use Rattle.std.specs.List.{AllByRecursion}
 use Rattle.gfx_model.specs.Resources.{is_kept_thing}
 use Rattle.resource_book.specs.declared.rows.Row.{Row}
 use Rattle.resource_book.specs.Seen.{row_seen, rows_seen}
-use Rattle.resource_book.specs.Tables.{TableView, StandApart, IsOfKind, IsPlaced, texels_of}
+use Rattle.resource_book.specs.Tables.{TableView, StandApart, IsOfKind, IsNamed, IsPlaced, texels_of}
+use Rattle.resource_book.proofs.Named.{named_started}
 use Rattle.resource_book.proofs.Starts.{apart_kept, all_kept, length_kept}
 use Rattle.resource_book.proofs.table.ThingTable.start_frame.Goals as goal
 
@@ -27,6 +28,7 @@ invariant_of-self c = record {
   placed = subst (λ (rows : List Row). IsPlaced c.number_all.new.numbers.items (rows_seen rows)) c.deref.ensures.value c.number_all.ensures;
   apart = subst StandApart (sym c.keep_rows.ensures) (apart_kept (is_kept_thing c.args.latency c.args.frame) (rows_seen c.self.inside.rows.items) c.self.invariant.apart);
   kinds = subst (AllByRecursion IsOfKind) (sym c.keep_rows.ensures) (all_kept IsOfKind (is_kept_thing c.args.latency c.args.frame) (rows_seen c.self.inside.rows.items) c.self.invariant.kinds);
+  named = subst (IsNamed c.self.inside.names.entries) (sym c.keep_rows.ensures) (named_started c.args.latency c.args.frame c.self.inside.names.entries (rows_seen c.self.inside.rows.items) c.self.invariant.named);
   sum = c.texels_in-texels.ensures.sum ∙ ap (λ rows. texels_of (rows_seen rows)) c.deref-2.ensures.value;
   most =
       let a = c.texels_in-texels.ensures.most in
