@@ -4,7 +4,7 @@ ghost use Rattle.gfx_words.specs.Kinds.{format_seen, program_seen, uniform_seen}
 ghost use Rattle.texture_store.specs.Seen.{own_source_seen};
 ghost use Rattle.hold_table.specs.Seats.{table_of};
 ghost use Rattle.context_core.specs.States.{own};
-ghost use Rattle.std.specs.Prelude.{◌≡◌};
+ghost use Rattle.std.specs.Prelude.{◌≡◌, None, IfErr};
 
 use crate::context::ContextCore;
 use crate::marks::{mark_dying, mark_live};
@@ -128,6 +128,7 @@ impl ContextCore {
 
     /// Makes a uniform, or refers to the live one of that name once more. `BadSize` exactly where the name has not 1 to 32 bytes;
     /// then, where one lives, `WrongKind` for the other kind and `Full` at 65,535 references; else `Full` (256) and `SerialsSpent`.
+    /// Memory can be wanting only where none lives.
     pub fn create_uniform(
         &mut self,
         table: &HoldTable,
@@ -136,6 +137,7 @@ impl ContextCore {
     ) -> Result<Handle, Refusal>
         requires table { self.old.table ≡ table_of table.now }
         ensures answer { Creates own result (model.create_uniform name.now (uniform_seen kind)) self.old self.new }
+        ensures memory { IfErr result (λ r. r ≡ Refusal.OutOfMemory → model.named_uniform self.old.state.book.resources name.now ≡ None) }
         ensures stays { KeepsUsable self.old.state self.new.state }
     {
         self.book.tell_facts();

@@ -2,7 +2,7 @@
 ghost use Rattle.gfx_model.specs.Resources as model;
 ghost use Rattle.gfx_words.specs.Kinds.{format_seen, program_seen, uniform_seen};
 ghost use Rattle.texture_store.specs.Seen.{own_source_seen};
-ghost use Rattle.std.specs.Prelude.{◌≡◌};
+ghost use Rattle.std.specs.Prelude.{◌≡◌, None, IfErr};
 
 use crate::context::Context;
 use draw_encoder::Naming;
@@ -76,8 +76,10 @@ impl<'t, C: Naming, L: FrameLink + Drop> Context<'t, C, L> {
 
     /// Makes a uniform, or refers to the live one of that name once more. `BadSize` exactly where the name has not 1 to 32 bytes;
     /// then, where one lives, `WrongKind` for the other kind and `Full` at 65,535 references; else `Full` (256) and `SerialsSpent`.
+    /// Memory can be wanting only where none lives.
     pub fn create_uniform(&mut self, name: &[u8], kind: UniformKind) -> Result<Handle, Refusal>
-        ensures { Creates result (model.create_uniform name.now (uniform_seen kind)) self.old self.new }
+        ensures answer { Creates result (model.create_uniform name.now (uniform_seen kind)) self.old self.new }
+        ensures memory { IfErr result (λ r. r ≡ Refusal.OutOfMemory → model.named_uniform self.old.book.resources name.now ≡ None) }
     {
         self.core.create_uniform(self.shared.table(), name, kind)
     }

@@ -1,4 +1,4 @@
-use Rattle.std.proofs.Common.{◌≡◌, ℕ, ◌+◌, ◌-◌, ◌<◌, ◌≤◌, Bool, true, false, not, ◌&&◌, nat_lt, nat_le, List, [], ◌∷◌, ◌++◌, length, Option, Some, None, Result, Ok, Err, MatchOption, MatchResult, sym, ap, ◌∙◌, subst, if◌then◌else◌}
+use Rattle.std.proofs.Common.{◌≡◌, ℕ, ◌+◌, ◌-◌, ◌<◌, ◌≤◌, Bool, true, false, not, ◌&&◌, nat_lt, nat_le, List, [], ◌∷◌, ◌++◌, length, Option, Some, None, Result, Ok, Err, MatchOption, MatchResult, IfErr, sym, ap, ◌∙◌, subst, if◌then◌else◌}
 use Rattle.std.proofs.lemmas.Bool.{lt-ltb, le-ltb}
 use Rattle.std.specs.List.{find}
 use Rattle.gfx_model.specs.Words.{Handle, UniformKind, kind_number}
@@ -6,6 +6,7 @@ use Rattle.gfx_model.specs.Commands.{destroy_command}
 use Rattle.gfx_model.specs.Resources as model
 use Rattle.gfx_model.specs.Resources.{Thing, Resources, is_at, named_uniform, uniform_refusals, uniform_effect, first_refusal, on_thing, with_references, destroy_effect, die, references_of}
 use Rattle.gfx_words.specs.declared.refusals.Refusal.{Refusal}
+use Rattle.gfx_words.specs.declared.refusals.Refusal.TheVariants as refusals
 use Rattle.gfx_words.specs.Seen.{refusal_seen, IsFirstRefusal}
 use Rattle.resource_laws.specs.Bare.{bare_of}
 use Rattle.resource_book.specs.Written.{BookView, after_in, add_all, where_changed, written, payload_for}
@@ -46,6 +47,11 @@ pub referred : (result : Result Handle Refusal) (name : List ℕ) (k : UniformKi
     → Creates result (model.create_uniform name k) old new
 referred result name k old new t size is a =
     subst (λ b. IsMadeBy b result name k old new (named_uniform old.resources name)) (sym size) (subst (λ o. IsMadeBy false result name k old new o) (sym is) (referred_by result name k old new t a))
+
+-- who only tests what the definition tests wants no memory
+pub never_memory : (result : Result Handle Refusal) (first : Option model.Refusal) (A : Handle → Type 0) (B X : Type 0) → MatchResult result A (λ r. IsFirstRefusal first r × B) → IfErr result (λ r. r ≡ refusals.OutOfMemory → X)
+never_memory (Ok h) first A B X a = tt
+never_memory (Err r) first A B X a = λ e. absurd (subst (IsFirstRefusal first) e a.0)
 
 -- ---- destroys
 

@@ -3,7 +3,7 @@ ghost use Rattle.gfx_model.specs.Resources as model;
 ghost use Rattle.fix_math.specs.Seen.{rect_seen, affine_seen};
 ghost use Rattle.gfx_words.specs.Seen.{mode_seen, format_seen, program_seen, uniform_seen};
 ghost use Rattle.texture_store.specs.Seen.{own_source_seen};
-ghost use Rattle.std.specs.Prelude.{◌≡◌, ◌≤◌, [], IfOk, MatchResult};
+ghost use Rattle.std.specs.Prelude.{◌≡◌, ◌≤◌, [], None, IfOk, IfErr, MatchResult};
 ghost use Rattle.gfx_model.specs.Views.{IsViewCount};
 ghost use Rattle.resource_book.specs.Opened.{opened};
 ghost use Rattle.resource_book.specs.Seen.{rows_seen};
@@ -116,10 +116,11 @@ impl Book {
         self.desk.create_program(kind)
     }
 
-    /// Makes a uniform, or refers to the live one of that name once more. `BadSize` exactly where the name has not 1 to 32 bytes; then, where one lives, `WrongKind` for the other kind and `Full` at 65,535 references; else `Full` (256) and `SerialsSpent`.
+    /// Makes a uniform, or refers to the live one of that name once more. `BadSize` exactly where the name has not 1 to 32 bytes; then, where one lives, `WrongKind` for the other kind and `Full` at 65,535 references; else `Full` (256) and `SerialsSpent`. Memory can be wanting only where none of the name lives.
     pub fn create_uniform(&mut self, name: &[u8], kind: UniformKind) -> Result<Handle, Refusal>
         ensures answer { Creates result (model.create_uniform name.now (uniform_seen kind)) self.old self.new }
         ensures free { IfOk result (λ h. Gives self.old.resources (model.create_uniform name.now (uniform_seen kind)) h) }
+        ensures memory { IfErr result (λ r. r ≡ Refusal.OutOfMemory → model.named_uniform self.old.resources name.now ≡ None) }
     {
         self.desk.create_uniform(name, kind)
     }

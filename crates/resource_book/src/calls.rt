@@ -1,6 +1,6 @@
 // The resource calls, whoever answers them.
 ghost use Rattle.gfx_model.specs.Resources as model;
-ghost use Rattle.std.specs.Prelude.{◌≡◌};
+ghost use Rattle.std.specs.Prelude.{◌≡◌, None, IfErr};
 ghost use Rattle.fix_math.specs.Seen.{rect_seen, affine_seen};
 ghost use Rattle.gfx_words.specs.Seen.{mode_seen, format_seen, program_seen, uniform_seen};
 ghost use Rattle.texture_store.specs.Seen.{own_source_seen};
@@ -66,9 +66,10 @@ pub trait ResourceCalls {
         ensures answer { Creates result (model.create_program (program_seen kind)) (book self.old) (book self.new) }
         ensures rest { rest self.new ≡ rest self.old };
 
-    /// Makes a uniform, or refers to the live one of that name once more.
+    /// Makes a uniform, or refers to the live one of that name once more. Memory can be wanting only where none lives.
     fn create_uniform(&mut self, name: &[u8], kind: UniformKind) -> Result<Handle, Refusal>
         ensures answer { Creates result (model.create_uniform name.now (uniform_seen kind)) (book self.old) (book self.new) }
+        ensures memory { IfErr result (λ r. r ≡ Refusal.OutOfMemory → model.named_uniform (book self.old).resources name.now ≡ None) }
         ensures rest { rest self.new ≡ rest self.old };
 
     /// Changes bytes of a vertex or index buffer.

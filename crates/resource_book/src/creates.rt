@@ -1,5 +1,5 @@
 // The creates.
-ghost use Rattle.std.specs.Prelude.{◌≡◌, ◌≤◌, ◌<◌, ◌+◌, length, slice_index_or, Some, None, MatchResult};
+ghost use Rattle.std.specs.Prelude.{◌≡◌, ◌≤◌, ◌<◌, ◌+◌, length, slice_index_or, Some, None, MatchResult, IfErr};
 ghost use Rattle.gfx_model.specs.Resources as model;
 ghost use Rattle.gfx_model.specs.Resources.{Thing};
 ghost use Rattle.gfx_words.specs.Kinds.{format_seen, program_seen, uniform_seen};
@@ -206,6 +206,7 @@ impl Desk {
         ensures limits { HasLimits self.new.shelf }
         ensures post { self.new.post ≡ self.old.post }
         ensures answer { Creates result (model.create_uniform name.now (uniform_seen kind)) (desk_seen self.old) (desk_seen self.new) }
+        ensures memory { IfErr result (λ r. r ≡ Refusal.OutOfMemory → model.named_uniform (desk_seen self.old).resources name.now ≡ None) }
     {
         if name.len() < 1 || name.len() > 32 {
             return Err(Refusal::BadSize);
