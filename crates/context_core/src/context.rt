@@ -1,5 +1,5 @@
 // The core, how it begins, and what it tells.
-ghost use Rattle.std.specs.Prelude.{◌≡◌, ◌<◌, ◌≤◌, ◌-◌, [], vec_capacity, ⊤, IfOk, IfErr};
+ghost use Rattle.std.specs.Prelude.{◌≡◌, ◌<◌, ◌≤◌, ◌+◌, ◌-◌, [], vec_capacity, ⊤, IfOk, IfErr};
 ghost use Rattle.gfx_model.specs.Views.{IsViewCount, view_count};
 ghost use Rattle.hold_table.specs.Seats.{api_table, api_view};
 ghost use Rattle.hold_table.specs.Views.{first_view};
@@ -10,6 +10,7 @@ ghost use Rattle.context_core.specs.Kept.{IsCore};
 ghost use Rattle.context_core.specs.States.{opened_core};
 
 use draw_encoder::Recording;
+use frame_record::Frame;
 use hold_table::ApiSeat;
 use resource_book::{Book, Start};
 use std::alloc::{AllocError, Global};
@@ -24,8 +25,9 @@ pub(crate) const MOST_ENCODERS: usize = 8;
 /// It is ended exactly after `finish` where the frame that came back was not shown, and after want of memory in `prepare`; then no
 /// encoder begins and no frame ends.
 ///
-/// A frame is out from the `finish` that made it to the `came_back` that tells that it is not; the oldest comes back first. What
-/// could be named in a frame that is out can be named in it still, as the clause `stays` of each call tells.
+/// A frame is out from the `finish` that made it to the `came_back` that tells that it is not; the oldest comes back first. That
+/// nobody reads a frame that came back is its caller's to see to. What could be named in a frame that is out can be named in it
+/// still, as the clause `stays` tells of each call that changes a place.
 /// Contracts see a `CoreView`.
 #[derive(Drop)]
 pub struct ContextCore {
@@ -152,11 +154,13 @@ impl ContextCore {
         self.is_ended
     }
 
-    /// The oldest frame that is out is out no longer, and what it names may go. One is out.
-    pub fn came_back(&mut self)
-        requires { 0 < self.old.state.out }
+    /// The oldest frame that is out is out no longer, and what it names may go. Nobody reads it any more.
+    pub fn came_back(&mut self, frame: &Frame)
+        requires some { 0 < self.old.state.out }
+        requires oldest { frame.now.number + self.old.state.out ≡ self.old.state.book.resources.frame }
         ensures { self.new ≡ record self.old { state = record self.old.state { out = self.old.state.out - 1 } } }
     {
+        let _ = frame;
         self.out -= 1;
     }
 

@@ -25,7 +25,8 @@ use std::mem;
 
 const GREATEST_FRAME: u32 = 1_073_741_823;
 
-/// What the end of a frame needs memory for, and the work of the frame.
+/// What the end of a frame needs memory for, and the work of the frame. What was written in the frame is in it alone: whoever
+/// drops it gives that up, and one that is prepared after it has none of it.
 #[derive(Drop)]
 pub struct Prepared {
     pub work: Work,
@@ -158,9 +159,10 @@ impl ContextCore {
     /// Ends the frame by what was prepared: makes the frame that is to be given, which is out from then on, and starts the next
     /// one; or ends the core, where the frame that came back before was not shown. `is_shown` is true where none came back.
     ///
-    /// The conditions are what `prepare` told: no encoder was begun since, no view was set and nothing was written. Fewer frames are out than may be
-    /// where one is to be given.
+    /// The conditions are what `prepare` told: the core is not ended, no encoder was begun since, no view was set and nothing was
+    /// written. Fewer frames are out than may be where one is to be given.
     pub fn finish(&mut self, table: &HoldTable, prepared: Prepared, is_shown: bool) -> FrameEnd
+        requires running { self.old.state.is_ended ≡ false }
         requires table { self.old.table ≡ table_of table.now }
         requires none_off { self.old.state.seat.off ≡ [] }
         requires out { is_shown ≡ true → self.old.state.out < self.old.state.book.resources.latency }

@@ -26,6 +26,7 @@ fn opened(alloc: Global) -> Option<(HoldTable, ContextCore)>
     ensures table { IfSome result (λ p. p.1.table ≡ table_of p.0) }
     ensures running { IfSome result (λ p. p.1.state.is_ended ≡ false) }
     ensures out { IfSome result (λ p. p.1.state.out < p.1.state.book.resources.latency) }
+    ensures none_out { IfSome result (λ p. p.1.state.out ≡ 0) }
 {
     let Ok((table, seat)) = HoldTable::new(alloc, 7) else {
         return None;
@@ -68,16 +69,19 @@ fn no_frame_ends_while_an_encoder_is_off(rt: HostRuntime) -> Result<(), Fail> {
     Ok(())
 }
 
-// A frame ends: its number and its recordings, how many frames are out, and the next frame.
-fn one_frame(alloc: Global) -> Option<(u32, usize, u32, u32)> {
+// A frame ends and comes back: its number and its recordings, how many frames are out before and behind it, and the next frame.
+fn one_frame(alloc: Global) -> Option<(u32, usize, u32, u32, u32)> {
     let (table, mut core) = opened(alloc)?;
     let Ok(prepared) = core.prepare() else {
         return None;
     };
     let frame = core.finish(&table, prepared, true).frame?;
+    let out = core.out();
+    core.came_back(&frame);
     Some((
         frame.number,
         frame.recordings.len(),
+        out,
         core.out(),
         core.frame_number(),
     ))
@@ -85,7 +89,7 @@ fn one_frame(alloc: Global) -> Option<(u32, usize, u32, u32)> {
 
 #[test]
 fn a_frame_ends(rt: HostRuntime) -> Result<(), Fail> {
-    assert_eq!(rt; one_frame(rt.alloc()), Some((7, 0, 1, 8)));
+    assert_eq!(rt; one_frame(rt.alloc()), Some((7, 0, 1, 0, 8)));
     Ok(())
 }
 

@@ -1,5 +1,5 @@
 -- The frames that are out, where one comes back and where one is given.
-use Rattle.std.proofs.Common.{◌≡◌, ℕ, zero, suc, ◌+◌, ◌-◌, ◌≤◌, List, [], ◌∷◌, ◌++◌, map, length, sym, ap, ◌∙◌, subst, arith, append_assoc, length-append}
+use Rattle.std.proofs.Common.{◌≡◌, ℕ, zero, suc, ◌+◌, ◌-◌, ◌<◌, ◌≤◌, List, [], ◌∷◌, ◌++◌, map, length, sym, ap, ◌∙◌, subst, arith, append_assoc, length-append}
 use Rattle.std.specs.List.{AllByRecursion, range_with_len}
 use Rattle.std.proofs.lemmas.List.{drop-append-le, map-append}
 use Rattle.schedule_model.proofs.Lists.{all-snoc}
@@ -11,7 +11,7 @@ use Rattle.frame_record.specs.Links.{frames_of, out_of, CameBack}
 use Rattle.context_core.specs.Gathered.{AreCollected}
 use Rattle.context_core.specs.Kept.{AreTargets}
 use Rattle.gfx_context.specs.Kept.{KeepsNames, AreOut}
-use Rattle.gfx_context.proofs.OutStays.{rest_of}
+use Rattle.gfx_context.proofs.OutStays.{first_of, rest_of}
 
 range_snoc : (a n : ℕ) → range_with_len a (suc n) ≡ range_with_len a n ++ (a + n) ∷ []
 range_snoc a zero = (let e : a ≡ a + 0 = omega arith in ap (λ (x : ℕ). x ∷ []) e)
@@ -30,6 +30,14 @@ module _ (admits : ℕ → ℕ → List Item → ℕ → Type 0) (views : ℕ) (
         numbers = ap rest_of numbers ∙ ap (λ (n : ℕ). range_with_len n left) first;
         names = (subst (AllByRecursion (KeepsNames admits views places)) c.oldest o.names).1;
       }
+
+  -- what comes back is the oldest by its number
+  pub oldest_number : (out : ℕ) (new : List RenderedFrame) (r : RenderedFrame) → AreOut admits views places frame out given back → 0 < out → CameBack given back new r → r.frame.number + out ≡ frame
+  oldest_number zero new r o some c = absurd (omega (arith, some))
+  oldest_number (suc left) new r o some c =
+      let first : r.frame.number ≡ frame - suc left = ap (λ fs. first_of (map (λ f. f.number) fs)) (sym c.oldest) ∙ ap first_of o.numbers in
+      let le = o.some in
+      omega (arith, first, le)
 
   pub out_given : (out : ℕ) (now : List Frame) (f : Frame) → AreOut admits views places frame out given back → now ≡ given ++ f ∷ [] → f.number ≡ frame → AreCollected admits views frame places f.recordings.items → AreTargets frame places f.views.settings
       → AreOut admits views places (suc frame) (out + 1) now back

@@ -26,8 +26,9 @@ impl<'t, C: Naming, L: FrameLink + Drop> Context<'t, C, L> {
         ensures origin { L.origin self.new.link ≡ L.origin self.old.link }
         ensures same { self.new ≡ record self.old { out = self.new.out; back = self.new.back; link = self.new.link } }
     {
+        self.core.tell_facts();
         let back = self.link.take_back(rt);
-        self.core.came_back();
+        self.core.came_back(&back.frame);
         BackNote {
             number: back.frame.number,
             outcome: back.outcome,
@@ -54,6 +55,7 @@ impl<'t, C: Naming, L: FrameLink + Drop> Context<'t, C, L> {
         prepared: Prepared,
         given: bool,
     ) -> Vec<JournalEntry>
+        requires running { self.old.is_ended ≡ false }
         requires none_off { self.old.seat.off ≡ [] }
         requires out { given ≡ true → self.old.out < self.old.book.resources.latency }
         requires accepted { frame_refusal (state_of self.old) end_frame ≡ None }
