@@ -1,4 +1,5 @@
-// What no clause says at once: when an index comes again, the limits, and a thread that records while a frame ends.
+// What no clause says at once: when an index comes again, and what encoders answer to the program that had it; the limits; who
+// holds a texture; a thread that records while a frame ends, or while the context does; and an encoder that is begun again.
 ghost use Rattle.std.specs.Prelude.{◌≡◌, ◌≤◌, ◌+◌, ◌++◌, ℕ, List, [], map};
 ghost use Rattle.gfx_model.specs.Views.{fewest_views};
 ghost use Rattle.gfx_model.specs.World.{Item as SeenItem};
@@ -176,6 +177,49 @@ fn an_index_comes_again(rt: HostRuntime) -> Result<(), Fail> {
     Ok(())
 }
 
+// A program dies in frame 0, and another is made in each frame behind it. What encoders of frames 0 to 2 answer to a draw by the first.
+fn dead_program<C: Naming, R: Threads + Wait + Sync>(
+    rt: &R,
+    alloc: Global,
+    table: HoldTable,
+    seat: ApiSeat,
+) -> Option<[Option<Refusal>; 3]>
+    requires table { (table_of table ≡ C.table) × (api_table seat ≡ C.table) × (api_view seat ≡ first_view 0) }
+    requires views { C.views ≡ fewest_views }
+    requires admits { (e f d : ℕ) (items : List SeenItem) → C.admits e f items d }
+{
+    let shared = Shared::<C>::new(alloc, table).ok()?;
+    let mut context = begun(alloc, &shared, seat, 0, 1, 1)?;
+    let program = context.create_program(ProgramKind::Solid).ok()?;
+    let mut answers = [None; 3];
+    for answer in &mut answers {
+        let mut encoder = begun_one(&mut context)?.ok()?;
+        // accepted in frame 0
+        let _ = context.destroy(program);
+        *answer = encoder.submit(0, program, 0, 255).err();
+        encoder.end(rt, 0);
+        ended(rt, &mut context)?.ok()?;
+        context.create_program(ProgramKind::Solid).ok()?;
+    }
+    Some(answers)
+}
+
+#[test]
+fn a_dead_program_is_stale(rt: HostRuntime) -> Result<(), Fail> {
+    let (table, seat) = HoldTable::new(rt.alloc(), 0)?;
+    let answers = dead_program::<Brand, _>(&rt, rt.alloc(), table, seat);
+    // its place is dying in frame 1, and has serial 3 in frame 2
+    assert_eq!(rt;
+        answers,
+        Some([
+            None,
+            Some(Refusal::Stale { word: 6 }),
+            Some(Refusal::Stale { word: 13 })
+        ])
+    );
+    Ok(())
+}
+
 // The refusal of a program, by whatever answers the calls.
 fn refused<B: ResourceCalls>(calls: &mut B) -> Option<Refusal> {
     calls.create_program(ProgramKind::Solid).err()
@@ -245,6 +289,41 @@ fn a_texture_is_held(rt: HostRuntime) -> Result<(), Fail> {
     Ok(())
 }
 
+// Of two frame buffers that hold a texture the first dies, and a third one has its index. The answer to the destroy of the texture,
+// and the third.
+fn held_again<C: Naming, R: Threads + Wait + Sync>(
+    rt: &R,
+    alloc: Global,
+    table: HoldTable,
+    seat: ApiSeat,
+) -> Option<(Result<(), Refusal>, Handle)>
+    requires table { (table_of table ≡ C.table) × (api_table seat ≡ C.table) × (api_view seat ≡ first_view 0) }
+    requires views { C.views ≡ fewest_views }
+{
+    let shared = Shared::<C>::new(alloc, table).ok()?;
+    let mut context = begun(alloc, &shared, seat, 0, 1, 1)?;
+    let texture = context
+        .create_texture(1, 1, Format::Rgba8, false, TexSource::Fill([0; 4]))
+        .ok()?;
+    let first = context.create_frame_buffer(texture, None).ok()?;
+    context.create_frame_buffer(texture, None).ok()?;
+    context.destroy(first).ok()?;
+    for _ in 0..2u8 {
+        ended(rt, &mut context)?.ok()?;
+    }
+    let third = context.create_frame_buffer(texture, None).ok()?;
+    Some((context.destroy(texture), third))
+}
+
+#[test]
+fn the_holder_of_least_index(rt: HostRuntime) -> Result<(), Fail> {
+    let (table, seat) = HoldTable::new(rt.alloc(), 0)?;
+    let (answer, holder) = held_again::<Brand, _>(&rt, rt.alloc(), table, seat).ok_or("memory")?;
+    assert_eq!(rt; (holder.index(), holder.serial()), (0, 4));
+    assert_eq!(rt; answer, Err(Refusal::Attached { holder }));
+    Ok(())
+}
+
 // A thread records and ends its encoder while this one ends the frame. The number of items, and the sum of the dropped.
 fn beside<C: Naming + Send + Sync, R: Threads + Wait + Sync>(
     rt: &R,
@@ -279,5 +358,88 @@ fn a_thread_records(rt: HostRuntime) -> Result<(), Fail> {
     let (table, seat) = HoldTable::new(rt.alloc(), 0)?;
     let told = beside::<Brand, _>(&rt, rt.alloc(), table, seat);
     assert_eq!(rt; told, Some((2, 5)));
+    Ok(())
+}
+
+// The context is shut down while a frame is out, an encoder has ended, and a thread ends another one. What came back.
+fn shut<C: Naming + Send + Sync, R: Threads + Wait + Sync>(
+    rt: &R,
+    alloc: Global,
+    table: HoldTable,
+    seat: ApiSeat,
+) -> Option<[Option<BackNote>; 3]>
+    requires table { (table_of table ≡ C.table) × (api_table seat ≡ C.table) × (api_view seat ≡ first_view 0) }
+    requires views { C.views ≡ fewest_views }
+    requires admits { (e f d : ℕ) (items : List SeenItem) → C.admits e f items d }
+{
+    let shared = Shared::<C>::new(alloc, table).ok()?;
+    let mut context = begun(alloc, &shared, seat, 0, 1, 1)?;
+    ended(rt, &mut context)?.ok()?;
+    begun_one(&mut context)?.ok()?.end(rt, 0);
+    let open = begun_one(&mut context)?.ok()?;
+    let (_, closed) = thread::join(
+        rt,
+        || -> ()
+            requires admits { (e f d : ℕ) (items : List SeenItem) → C.admits e f items d }
+        {
+            open.end(rt, 0);
+        },
+        || -> Closed<ListLink>
+            ensures table { api_table result.seat ≡ C.table }
+            ensures off { (api_view result.seat).off ≡ [] }
+        { context.shutdown(rt) },
+    );
+    let Closed {
+        link: _,
+        seat,
+        backs,
+    } = closed;
+    shared.into_table().close(seat);
+    Some(backs)
+}
+
+#[test]
+fn a_context_is_shut_down(rt: HostRuntime) -> Result<(), Fail> {
+    let (table, seat) = HoldTable::new(rt.alloc(), 0)?;
+    let backs = shut::<Brand, _>(&rt, rt.alloc(), table, seat);
+    let first = BackNote {
+        number: 0,
+        outcome: Outcome::Shown,
+    };
+    assert_eq!(rt; backs, Some([Some(first), None, None]));
+    Ok(())
+}
+
+// An encoder is begun, and begun again where there was no memory: its number, how many were begun, and the items of its frame.
+fn begun_again<C: Naming, R: Threads + Wait + Sync>(
+    rt: &R,
+    alloc: Global,
+    table: HoldTable,
+    seat: ApiSeat,
+) -> Option<(u8, u32, usize)>
+    requires table { (table_of table ≡ C.table) × (api_table seat ≡ C.table) × (api_view seat ≡ first_view 0) }
+    requires views { C.views ≡ fewest_views }
+    requires admits { (e f d : ℕ) (items : List SeenItem) → C.admits e f items d }
+{
+    let shared = Shared::<C>::new(alloc, table).ok()?;
+    let mut context = begun(alloc, &shared, seat, 0, 1, 1)?;
+    let mut encoder = match begun_one(&mut context)? {
+        Err(Refusal::OutOfMemory) => begun_one(&mut context)?.ok()?,
+        one => one.ok()?,
+    };
+    let number = encoder.number();
+    let begun = context.begun();
+    let _ = encoder.touch(0);
+    encoder.end(rt, 0);
+    let report = ended(rt, &mut context)?.ok()?;
+    Some((number, begun, report.journal.len()))
+}
+
+// `rt try --test --fail-alloc N` tries it with the Nth allocation failing.
+#[test]
+fn an_encoder_is_begun_again(rt: HostRuntime) -> Result<(), Fail> {
+    let (table, seat) = HoldTable::new(rt.alloc(), 0)?;
+    let told = begun_again::<Brand, _>(&rt, rt.alloc(), table, seat).ok_or("memory")?;
+    assert_eq!(rt; told, (0, 1, 1));
     Ok(())
 }
