@@ -21,7 +21,7 @@ use Rattle.context_core.specs.Places.{Stays}
 use Rattle.atomic_table.specs.Seated.{TableId}
 use Rattle.context_core.proofs.Stays.{stays_unnamed, free_unnamed}
 use Rattle.context_core.proofs.Moves.{kept_moved}
-use Rattle.context_core.proofs.Same.{same_after}
+use Rattle.resource_book.proofs.SameLaws.{same_law}
 use Rattle.context_core.proofs.Tied.{free_before, tied_made}
 
 -- an effect that makes a thing of a kind
@@ -82,7 +82,7 @@ module _ {r : Resources} {e : Effect} {h : Handle} (m : IsMake r e h) where
 pub kept_made : (admits : ℕ → ℕ → List Item → ℕ → Type 0) (views : ℕ) (v : CoreState) (c : ResourceCall) (h : Handle) → IsCore admits views ⊤ v → IsLawful v.book.resources → IsMake v.book.resources (effect v.book.resources c) h
     → IsCore admits views ⊤ (record v { book = after_in c (Some h) v.book; seat = created (place_of_handle h) h.serial v.seat })
 kept_made admits views v c h k l m =
-    let same = same_after v.book.resources c in
+    let same = same_law v.book.resources c in
     let stays = λ (n : ℕ). stays_unnamed v.seat.places (place_of_handle h) (live h.serial) n (free_unnamed n (place_at v.seat.places (place_of_handle h)) (place_was_free m v.seat l k.tied)) in
     kept_moved admits views v k (after_in c (Some h) v.book) (slice_set v.seat.places (place_of_handle h) (live h.serial)) h.serial
     (λ n le. stays_unnamed v.seat.places (place_of_handle h) (live h.serial) n (free_unnamed n (place_at v.seat.places (place_of_handle h)) (place_was_free m v.seat l k.tied)))

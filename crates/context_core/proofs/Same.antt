@@ -1,20 +1,19 @@
 -- Calls that make nothing and let nothing die.
-use Rattle.std.proofs.Common.{◌≡◌, ℕ, Bool, true, false, not, List, Option, Some, None, Result, Ok, Err, ◌-◌, if◌then◌else◌, refl, sym, ◌∙◌, subst, arith, slice_set, nat_lt}
+use Rattle.std.proofs.Common.{◌≡◌, ℕ, Bool, true, false, not, List, Option, Some, None, Result, Ok, Err, refl, sym, ◌∙◌, subst, arith}
 use Rattle.std.specs.Prelude.{⊤}
-use Rattle.std.specs.List.{find}
-use Rattle.std.proofs.lemmas.List.{length-set}
-use Rattle.gfx_model.specs.Views.{View, Clear, ViewMode, plain_view, view_count, view_at}
+use Rattle.gfx_model.specs.Views.{Clear, ViewMode, plain_view, view_at}
 use Rattle.gfx_model.specs.World.{Item}
-use Rattle.gfx_model.specs.Words.{Handle, UniformKind, is_kind, frame_buffer_kind}
+use Rattle.gfx_model.specs.Words.{Handle, is_kind, frame_buffer_kind}
 use Rattle.gfx_model.specs.Raster.{Rect, Affine}
 use Rattle.resource_laws.specs.Lawful.{IsLawful}
 use Rattle.resource_laws.proofs.CallLaws.{all_passed}
 use Rattle.context_core.specs.Kept.{IsTarget, AreTargets}
 use Rattle.context_core.proofs.Targets.{same_targets, other_target, live_is_target}
-use Rattle.gfx_model.specs.Resources.{Thing, Resources, ResourceCall, create_layout, create_vertex_buffer, create_index_buffer, create_texture, create_frame_buffer, create_program, create_uniform, update_buffer, update_texture, destroy, set_view_rect, set_view_scissor, set_view_clear, set_view_mode, set_view_transform, set_view_target, set_view_order, reset_view, effect, refusals, refusal_of, is_live_handle, named_uniform, uniform_effect, no_change, die, on_thing, with_references, references_of, is_at}
+use Rattle.gfx_model.specs.Resources.{Thing, Resources, ResourceCall, update_buffer, update_texture, set_view_rect, set_view_scissor, set_view_clear, set_view_mode, set_view_transform, set_view_target, set_view_order, reset_view, effect, refusals, refusal_of, is_live_handle}
 use Rattle.hold_table.specs.Views.{SeatView}
 use Rattle.resource_book.specs.Written.{BookView, after_in}
 use Rattle.resource_book.specs.Answered as books
+use Rattle.resource_book.proofs.SameLaws.{same_law}
 use Rattle.gfx_words.specs.declared.refusals.Refusal.{Refusal}
 use Rattle.context_core.specs.Places.{IsPlaced}
 use Rattle.atomic_table.specs.Seated.{TableId}
@@ -23,41 +22,6 @@ use Rattle.context_core.specs.Calls.{updated, Changes, Updates}
 use Rattle.context_core.specs.States.{CoreState, CoreView, own, core_of}
 use Rattle.context_core.proofs.Moves.{kept_same}
 use Rattle.context_core.proofs.Tied.{placed_bare}
-
--- no call changes the number of views or how many frames may be out
-abbrev pub IsOfSame : (old new : Resources) → Type 0
-IsOfSame old new = (view_count new.views ≡ view_count old.views) × (new.latency ≡ old.latency)
-
-same_uniform : (r : Resources) (name : List ℕ) (k : UniformKind) (o : Option Thing) → IsOfSame r (uniform_effect r name k o).after
-same_uniform r name k None = (refl, refl)
-same_uniform r name k (Some t) = (refl, refl)
-
-same_destroy : (r : Resources) (h : Handle) (b : Bool) → IsOfSame r (if b then no_change (on_thing (with_references (λ n. n - 1)) h.serial r) else no_change (die h r)).after
-same_destroy r h true = (refl, refl)
-same_destroy r h false = (refl, refl)
-
-same_view : (r : Resources) (v : ℕ) (x : View) → view_count (record r.views { settings = slice_set r.views.settings v x }) ≡ view_count r.views
-same_view r v x = length-set r.views.settings v x
-
-pub same_after : (r : Resources) (c : ResourceCall) → IsOfSame r (effect r c).after
-same_after r (create_layout x) = (refl, refl)
-same_after r (create_vertex_buffer h bytes) = (refl, refl)
-same_after r (create_index_buffer bytes) = (refl, refl)
-same_after r (create_texture width height f d source) = (refl, refl)
-same_after r (create_frame_buffer color depth) = (refl, refl)
-same_after r (create_program k) = (refl, refl)
-same_after r (create_uniform name k) = same_uniform r name k (named_uniform r name)
-same_after r (update_buffer h offset bytes) = (refl, refl)
-same_after r (update_texture h rect bytes) = (refl, refl)
-same_after r (destroy h) = same_destroy r h (nat_lt 1 (references_of (find (is_at h.kind h.index) r.things)))
-same_after r (set_view_rect v rect) = (same_view r v _, refl)
-same_after r (set_view_scissor v rect) = (same_view r v _, refl)
-same_after r (set_view_clear v c) = (same_view r v _, refl)
-same_after r (set_view_mode v m) = (same_view r v _, refl)
-same_after r (set_view_transform v t) = (same_view r v _, refl)
-same_after r (set_view_target v t) = (same_view r v _, refl)
-same_after r (set_view_order ids) = (refl, refl)
-same_after r (reset_view v) = (same_view r v _, refl)
 
 -- a call that changes no things
 pub record IsQuiet (seat : SeatView) (r : Resources) (c : ResourceCall) : Type 0 where
@@ -68,7 +32,7 @@ pub record IsQuiet (seat : SeatView) (r : Resources) (c : ResourceCall) : Type 0
 
 pub kept_quiet : (admits : ℕ → ℕ → List Item → ℕ → Type 0) (views : ℕ) (v : CoreState) (c : ResourceCall) → IsCore admits views ⊤ v → IsQuiet v.seat v.book.resources c → refusal_of v.book.resources c ≡ None → IsCore admits views ⊤ (updated c v)
 kept_quiet admits views v c k q passes =
-    let same = same_after v.book.resources c in
+    let same = same_law v.book.resources c in
     kept_same admits views v k (after_in c None v.book)
     (record {
       placed = placed_bare v.seat.places (effect v.book.resources c).after.things (subst (λ (ts : List Thing). IsPlaced v.seat.places ts) (sym q.things) k.tied.placed);

@@ -18,6 +18,7 @@ use Rattle.draw_encoder.proofs.NameLaws.{item_fits, uniforms_fit}
 use Rattle.context_core.specs.Places.{IsUsable, Stays}
 use Rattle.context_core.specs.Gathered.{IsCollected, AreCollected}
 use Rattle.context_core.specs.Kept.{IsTarget, AreTargets}
+use Rattle.context_core.specs.Laws.{StaysLaw}
 
 target_stays : (frame : ℕ) (old new : List Place) → Stays frame old new → (o : Option Handle) → IsTarget frame old o → IsTarget frame new o
 target_stays frame old new s None t = tt
@@ -40,6 +41,9 @@ module _ (admits : ℕ → ℕ → List Item → ℕ → Type 0) (views : ℕ) (
 
   pub all_stay : (frame : ℕ) → Stays frame old new → (rs : List Recording) → AreCollected admits views frame old rs → AreCollected admits views frame new rs
   all_stay frame s rs c = all-map (IsCollected admits views frame old) (IsCollected admits views frame new) (collected_stays frame s) rs c
+
+pub stays_law : StaysLaw
+stays_law admits views frame old new s = (all_stay admits views old new frame s, targets_stay frame old new s)
 
 -- ---- one place changes
 

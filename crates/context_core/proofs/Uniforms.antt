@@ -17,7 +17,7 @@ use Rattle.context_core.specs.Kept.{IsTied, AreTargets, IsCore, KeepsUsable}
 use Rattle.context_core.specs.States.{CoreState, CoreView, own, core_of}
 use Rattle.context_core.specs.Calls.{IsPlacedBy, Makes}
 use Rattle.context_core.proofs.Moves.{kept_same}
-use Rattle.context_core.proofs.Same.{same_after}
+use Rattle.resource_book.proofs.SameLaws.{same_law}
 use Rattle.context_core.proofs.Died.{tied_referred}
 use Rattle.context_core.proofs.Created.{IsMake, made_by, place_was_free, serial_is_new, kept_after, makes_after, usable_after}
 use Rattle.context_core.specs.Places.{Stays}
@@ -83,7 +83,7 @@ module _ {admits : ℕ → ℕ → List Item → ℕ → Type 0} {views : ℕ} {
 
     referred : IsReferred v.book.resources e → IsCore admits views ⊤ (record v { book = b; seat = s })
     referred m =
-        let same = same_after v.book.resources (create_uniform name kind) in
+        let same = same_law v.book.resources (create_uniform name kind) in
         subst (λ (p : BookView × SeatView). IsCore admits views ⊤ (record v { book = p.0; seat = p.1 })) (λ j. (sym book j, sym (same_seat m) j))
         (kept_same admits views v k (after_in (create_uniform name kind) (Some h) v.book)
         (subst (λ (r : Resources). IsTied (bare_of r) v.seat) (sym m.after) (tied_referred (λ n. n + 1) m.serial v.book.resources v.seat l k.tied)) (ap (λ (r : Resources). r.next_serial) m.after) same.0 same.1

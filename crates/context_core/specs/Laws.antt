@@ -3,13 +3,16 @@ use Rattle.std.specs.Prelude.{◌≡◌, ℕ, ◌<◌, ◌==◌, List, Option, S
 use Rattle.std.specs.List.{AllByRecursion, find}
 use Rattle.gfx_model.specs.Words.{Handle, texture_kind, is_kind, greatest}
 use Rattle.gfx_model.specs.World.{Item, Content, frame_buffer_content}
+use Rattle.gfx_model.specs.Views.{View}
 use Rattle.schedule_model.specs.Machine.{Place}
 use Rattle.gfx_model.specs.Resources.{Thing, Resources, is_at}
 use Rattle.resource_laws.specs.Bare.{bare_of}
 use Rattle.resource_laws.specs.Lawful.{IsLawful}
 use Rattle.call_laws.specs.Context.{HasItem, HasTargets}
+use Rattle.draw_encoder.specs.declared.items.Recording.{Recording}
 use Rattle.draw_encoder.specs.Names.{FitsItem}
-use Rattle.context_core.specs.Places.{IsUsable}
+use Rattle.context_core.specs.Places.{IsUsable, Stays}
+use Rattle.context_core.specs.Gathered.{AreCollected}
 use Rattle.hold_table.specs.Views.{SeatView}
 use Rattle.context_core.specs.Kept.{IsTied, AreTargets}
 
@@ -53,3 +56,9 @@ HoldsUsable frame places things _ = ⊤
 abbrev pub AttachedLaw : Type 0
 AttachedLaw = (seat : SeatView) (r : Resources) → IsTied (bare_of r) seat → IsLawful r → (frame : ℕ) (h : Handle) (t : Thing) → find (is_at h.kind h.index) r.things ≡ Some t
     → IsUsable frame seat.places h → HoldsUsable frame seat.places r.things t.content
+
+-- where what could be named in a frame can be named still, recordings of the frame were collected so still, and the targets of its views are so still: so
+-- whoever keeps frames that are out keeps what they name, by the clause `stays` of each call
+abbrev pub StaysLaw : Type 0
+StaysLaw = (admits : ℕ → ℕ → List Item → ℕ → Type 0) (views frame : ℕ) (old new : List Place) → Stays frame old new
+    → ((rs : List Recording) → AreCollected admits views frame old rs → AreCollected admits views frame new rs) × ((vs : List View) → AreTargets frame old vs → AreTargets frame new vs)

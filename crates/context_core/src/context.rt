@@ -1,6 +1,9 @@
 // The core, how it begins, and what it tells.
-ghost use Rattle.std.specs.Prelude.{◌≡◌, ◌<◌, ◌≤◌, ◌+◌, ◌-◌, [], vec_capacity, ⊤, IfOk, IfErr};
+ghost use Rattle.std.specs.Prelude.{◌≡◌, ◌<◌, ◌≤◌, ◌+◌, ◌-◌, [], option_map, vec_capacity, ⊤, IfOk, IfErr};
+ghost use Rattle.std.specs.List.{find};
+ghost use Rattle.gfx_model.specs.Resources.{is_at};
 ghost use Rattle.gfx_model.specs.Views.{IsViewCount, view_count};
+ghost use Rattle.gfx_words.specs.Kinds.{kind_seen};
 ghost use Rattle.hold_table.specs.Seats.{api_table, api_view};
 ghost use Rattle.hold_table.specs.Views.{first_view};
 ghost use Rattle.resource_laws.specs.Lawful.{IsLawful};
@@ -11,6 +14,7 @@ ghost use Rattle.context_core.specs.States.{opened_core};
 
 use draw_encoder::Recording;
 use frame_record::Frame;
+use gfx_words::{Handle, Kind};
 use hold_table::ApiSeat;
 use resource_book::{Book, Start};
 use std::alloc::{AllocError, Global};
@@ -123,6 +127,13 @@ impl ContextCore {
         ensures most { result ≤ 1073741823 }
     {
         self.book.frame()
+    }
+
+    /// The handle of the thing at a kind's index, live or waiting.
+    pub fn handle_at(&self, kind: Kind, index: u16) -> Option<Handle>
+        ensures { result ≡ option_map (λ t. t.handle) (find (is_at (kind_seen kind) index) self.now.state.book.resources.things) }
+    {
+        self.book.handle_at(kind, index)
     }
 
     /// How many frames may be out.

@@ -14,7 +14,7 @@ mod tests;
 mod updates;
 mod views;
 
-ghost use Rattle.context_core.specs.Laws.{ItemsLaw, TargetsLaw, AttachedLaw};
+ghost use Rattle.context_core.specs.Laws.{ItemsLaw, TargetsLaw, AttachedLaw, StaysLaw};
 
 pub use begin::Lent;
 pub use context::ContextCore;
@@ -37,4 +37,10 @@ pub fn targets_law()
 /// targets of frames that are out, it so keeps of their textures.
 pub fn attached_law()
     ensures { AttachedLaw }
+{}
+
+/// Where what could be named in a frame can be named still, what recordings of that frame name, and the targets of its views, can be
+/// named in it still. So whoever keeps frames that are out knows by the clause `stays` of each call that what they name stays.
+pub fn stays_law()
+    ensures { StaysLaw }
 {}

@@ -18,6 +18,7 @@ use Rattle.resource_book.specs.declared.frames.Work.{Work}
 use Rattle.context_core.specs.Gathered.{dropped_in}
 use Rattle.gfx_context.specs.States.{ContextView, context_of, state_of}
 use Rattle.gfx_context.specs.Ended.{is_shown, MakesWay, FinishesWhere, with_written, GivesWhere, Ends}
+use Rattle.gfx_context.proofs.Entries.{length_journal}
 
 -- what is known of the report before a frame is given or not
 pub record IsReport {L : Type 0} (report : FrameReport) (old : ContextView L) : Type 0 where
@@ -67,6 +68,7 @@ module _ {L : Type 0} (old : ContextView L) (out : ℕ) (back : List RenderedFra
           accepted = accepts spent;
           number = r.number;
           journal = r.journal;
+          many = length_journal report.journal.items old.gathered r.journal;
           dropped = r.dropped;
           back = subst (MakesWay report.back old) (sym w.2) way;
           given = told ∙ sym is;
@@ -100,6 +102,7 @@ module _ {L : Type 0} (old : ContextView L) (out : ℕ) (back : List RenderedFra
           accepted = accepts spent;
           number = r.number;
           journal = r.journal;
+          many = length_journal report.journal.items old.gathered r.journal;
           dropped = r.dropped;
           back = way;
           given = told ∙ sym is;

@@ -5,5 +5,6 @@ pub mod Linked
 pub mod Lifted
 pub mod Gathers
 pub mod Openings
+pub mod Entries
 pub mod Finish
 pub mod Closings

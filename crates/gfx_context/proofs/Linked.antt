@@ -23,7 +23,7 @@ use Rattle.context_core.specs.Kept.{AreTargets, IsCore, KeepsUsable, KeepsOut}
 use Rattle.context_core.specs.Calls.{IsPlacedBy, Creates, Updates, Changes, Destroys, with_lent}
 use Rattle.context_core.specs.Ended.{Gives, ended_core}
 use Rattle.context_core.specs.States.{CoreView, own}
-use Rattle.context_core.proofs.Same.{same_after}
+use Rattle.resource_book.proofs.SameLaws.{same_law}
 use Rattle.gfx_context.specs.Kept.{AreOut, AreAdmitted, IsLinked, IsContext}
 use Rattle.gfx_context.specs.States.{context_of}
 use Rattle.gfx_context.proofs.OutStays.{out_stays}
@@ -99,25 +99,25 @@ module _ {T : TableId} {admits : ℕ → ℕ → List Item → ℕ → Type 0} {
 
   pub linked_creates : (call : ResourceCall) (result : Result Handle Refusal) → Creates own result call a b → KeepsUsable a.state b.state → IsLinked T admits views latency b given back
   linked_creates call (Ok h) m stays =
-      let same = same_after a.state.book.resources call in
+      let same = same_law a.state.book.resources call in
       moved (ap (λ (c : CoreView). c.table) m.after) (ap (λ (c : CoreView). view_count c.state.book.resources.views) m.after ∙ same.0) (ap (λ (c : CoreView). c.state.book.resources.latency) m.after ∙ same.1)
       (ap (λ (c : CoreView). c.state.gathered) m.after) (ap (λ (c : CoreView). c.state.out) m.after) (placed_frame (effect a.state.book.resources call).changes h a.state.seat b.state.seat m.placed) stays
   linked_creates call (Err r) m stays = same_as m.1
 
   pub linked_destroys : (h : Handle) (result : Result (Unit {0}) Refusal) → Destroys own result h a b → KeepsUsable a.state b.state → IsLinked T admits views latency b given back
   linked_destroys h (Ok u) m stays =
-      let same = same_after a.state.book.resources (destroy h) in
+      let same = same_law a.state.book.resources (destroy h) in
       moved (ap (λ (c : CoreView). c.table) m.1) (ap (λ (c : CoreView). view_count c.state.book.resources.views) m.1 ∙ same.0) (ap (λ (c : CoreView). c.state.book.resources.latency) m.1 ∙ same.1)
       (ap (λ (c : CoreView). c.state.gathered) m.1) (ap (λ (c : CoreView). c.state.out) m.1)
       (ap (λ (c : CoreView). c.state.seat.frame) m.1 ∙ died_frame (not (nat_lt 1 (references_of (find (is_at h.kind h.index) a.state.book.resources.things)))) h a.state.seat) stays
   linked_destroys h (Err r) m stays = same_as m.1
 
   pub linked_updates : (call : ResourceCall) (result : Result (Unit {0}) Refusal) → Updates own result call a b → IsLinked T admits views latency b given back
-  linked_updates call (Ok u) m = let same = same_after a.state.book.resources call in booked (after_in call None a.state.book) same.0 same.1 m.1
+  linked_updates call (Ok u) m = let same = same_law a.state.book.resources call in booked (after_in call None a.state.book) same.0 same.1 m.1
   linked_updates call (Err r) m = same_as m.1
 
   pub linked_changes : (call : ResourceCall) (result : Result (Unit {0}) Refusal) → Changes own result call a b → IsLinked T admits views latency b given back
-  linked_changes call (Ok u) m = let same = same_after a.state.book.resources call in booked (after_in call None a.state.book) same.0 same.1 m.1
+  linked_changes call (Ok u) m = let same = same_law a.state.book.resources call in booked (after_in call None a.state.book) same.0 same.1 m.1
   linked_changes call (Err r) m = same_as m.1
 
   -- a seat is lent

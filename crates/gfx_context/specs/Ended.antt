@@ -13,6 +13,7 @@ use Rattle.frame_record.specs.declared.frame.Frame.{Frame}
 use Rattle.frame_record.specs.declared.frame.RenderedFrame.{RenderedFrame}
 use Rattle.frame_record.specs.declared.frame.Outcome.{Outcome}
 use Rattle.frame_record.specs.declared.frame.Outcome.TheVariants as outcomes
+use Rattle.frame_record.specs.Kept.{numbers_in}
 use Rattle.frame_record.specs.Links.{frames_of, CameBack}
 use Rattle.frame_record.specs.Seen.{entry_seen, recordings_seen}
 use Rattle.gfx_context.specs.declared.report.BackNote.{BackNote}
@@ -94,6 +95,7 @@ pub record Ends {L : Type 0} (report : FrameReport) (old new : ContextView L) : 
   pub accepted : frame_refusal (state_of old) end_frame ≡ None
   pub number : report.number ≡ old.book.resources.frame
   pub journal : map entry_seen report.journal.items ≡ collected (recordings_seen old.gathered)
+  pub many : length report.journal.items ≡ length (numbers_in old.gathered)
   pub dropped : report.dropped ≡ dropped_in old.gathered
   pub back : MakesWay report.back old new.back
   pub given : report.given ≡ is_given (is_shown report.back) (state_of old)

@@ -15,6 +15,6 @@ mod updates;
 mod views;
 
 pub use context::Context;
-pub use context_core::{Start, TexSource, attached_law, items_law, targets_law};
+pub use context_core::{Start, TexSource, attached_law, items_law, stays_law, targets_law};
 pub use draw_encoder::{Encoder, Naming, Room, Shared};
 pub use report::{BackNote, Closed, FrameReport};

@@ -1,8 +1,13 @@
-use Rattle.std.proofs.Common.{◌≡◌, ℕ, ◌<◌, true, List, length, sym, ap, ◌∙◌, slice_index_or, Some, None, subst}
+use Rattle.std.proofs.Common.{◌≡◌, ℕ, ◌<◌, ◌≤◌, ◌==◌, true, List, length, refl, sym, ap, ◌∙◌, arith, slice_index_or, Option, Some, None, subst}
 use Rattle.std.specs.List.{find}
-use Rattle.gfx_model.specs.Words.{Handle, Kind, is_live_in}
+use Rattle.std.proofs.lemmas.Bool.{eqb-true}
+use Rattle.gfx_model.specs.Words.{Handle, Kind, is_live_in, kind_number, greatest}
 use Rattle.gfx_model.specs.Resources.{Thing, is_at, word_of_thing}
+use Rattle.resource_laws.proofs.AttachLaws.{all_found}
 use Rattle.resource_book.specs.Answered.{HasLiveThing}
+use Rattle.resource_book.specs.Tables.{StandApart}
+use Rattle.resource_book.proofs.Apartness.{both_true}
+use Rattle.resource_book.proofs.Rooms.{found_true, same_greatest}
 
 -- ---- the thing of a handle
 
@@ -22,3 +27,17 @@ live_found h k i ts n t ek ei f is live serial lives = (
   (λ d. subst (HasLiveThing h ts) (is d) (record { found = found_at h k i ts n t ek ei f.1 is; serial = serial; lives = lives })),
   ap (λ w. is_live_in w h.serial) (sym (word_found h k i ts n t ek ei f.1 is)) ∙ live,
 )
+
+-- ---- indices past the kind's
+
+-- nothing stands at an index that is not below the kind's greatest number
+pub none_past : (k : Kind) (i : ℕ) (ts : List Thing) → StandApart ts → greatest k ≤ i → find (is_at k i) ts ≡ None
+none_past k i ts apart le = by (find (is_at k i) ts) refl where
+  by : (o : Option Thing) → find (is_at k i) ts ≡ o → find (is_at k i) ts ≡ None
+  by None e = e
+  by (Some t) e =
+      let at = both_true (kind_number t.handle.kind == kind_number k) (t.handle.index == i) (found_true (is_at k i) ts t e) in
+      let kinds = same_greatest t.handle.kind k (eqb-true (kind_number t.handle.kind) (kind_number k) at.0) in
+      let index = eqb-true t.handle.index i at.1 in
+      let below = all_found (λ u. u.handle.index < greatest u.handle.kind) (is_at k i) ts t apart.fits e in
+      absurd (omega (arith, le, kinds, index, below))

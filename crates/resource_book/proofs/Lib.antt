@@ -25,3 +25,4 @@ pub mod Named
 pub mod Overs
 pub mod PlaceLaws
 pub mod GivesLaws
+pub mod SameLaws

@@ -3,17 +3,21 @@ ghost use Rattle.gfx_model.specs.Resources as model;
 ghost use Rattle.fix_math.specs.Seen.{rect_seen, affine_seen};
 ghost use Rattle.gfx_words.specs.Seen.{mode_seen, format_seen, program_seen, uniform_seen};
 ghost use Rattle.texture_store.specs.Seen.{own_source_seen};
-ghost use Rattle.std.specs.Prelude.{◌≡◌, ◌≤◌, [], None, IfOk, IfErr, MatchResult};
+ghost use Rattle.std.specs.Prelude.{◌≡◌, ◌≤◌, [], None, option_map, IfOk, IfErr, MatchResult};
+ghost use Rattle.std.specs.List.{find};
+ghost use Rattle.gfx_model.specs.Resources.{is_at};
+ghost use Rattle.gfx_words.specs.Kinds.{kind_seen};
 ghost use Rattle.gfx_model.specs.Views.{IsViewCount};
 ghost use Rattle.resource_book.specs.Opened.{opened};
 ghost use Rattle.resource_book.specs.Seen.{rows_seen};
 
 use crate::desk::Desk;
+use crate::find::handle_at;
 use crate::frames::Work;
 use crate::opening::Start;
 use crate::rows::Row;
 use fix_math::{Affine, Rect};
-use gfx_words::{Format, Handle, ProgramKind, Refusal, UniformKind, ViewMode};
+use gfx_words::{Format, Handle, Kind, ProgramKind, Refusal, UniformKind, ViewMode};
 use std::alloc::{AllocError, Global};
 use std::marker::Model;
 use texture_store::TexSource;
@@ -250,6 +254,13 @@ impl Book {
         ensures { rows_seen result.now ≡ self.now.resources.things }
     {
         self.desk.shelf.table.rows()
+    }
+
+    /// The handle of the thing at a kind's index, live or waiting.
+    pub fn handle_at(&self, kind: Kind, index: u16) -> Option<Handle>
+        ensures { result ≡ option_map (λ t. t.handle) (find (is_at (kind_seen kind) index) self.now.resources.things) }
+    {
+        handle_at(&self.desk.shelf.table, kind, index)
     }
 
     /// The number of the frame that is recorded.

@@ -1,5 +1,5 @@
 // Looking for things.
-ghost use Rattle.std.specs.Prelude.{◌≡◌, ◌<◌, ◌&&◌, map, filter, length, slice_index_or, Some, None, true, false, MatchResult};
+ghost use Rattle.std.specs.Prelude.{◌≡◌, ◌<◌, ◌&&◌, option_map, map, filter, length, slice_index_or, Some, None, true, false, MatchResult};
 ghost use Rattle.std.specs.List.{find};
 ghost use Rattle.gfx_model.specs.Words.{frame_buffer_kind, is_live_in, greatest};
 ghost use Rattle.gfx_model.specs.Resources.{Thing, is_at, is_live, holds_texture, word_of_thing, uniform_kind_in, byte_count, bytes_of_thing, least_index, can_attach, texture_sides, same_sides};
@@ -41,6 +41,20 @@ pub fn word_at(table: &ThingTable, kind: Kind, index: u16) -> u64
     match table.number_at(kind, index) {
         None => 0,
         Some(n) => word_of(table.row(n)),
+    }
+}
+
+/// The handle of the thing at a kind's index.
+pub fn handle_at(table: &ThingTable, kind: Kind, index: u16) -> Option<Handle>
+    ensures { result ≡ option_map (λ t. t.handle) (find (is_at (kind_seen kind) index) table.now.things) }
+{
+    table.facts();
+    if index >= kind.greatest() {
+        return None;
+    }
+    match table.number_at(kind, index) {
+        None => None,
+        Some(n) => Some(table.row(n).handle),
     }
 }
 

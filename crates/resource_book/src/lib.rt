@@ -20,7 +20,7 @@ mod tests;
 mod textures;
 mod updates;
 
-ghost use Rattle.resource_book.specs.Laws.{PlaceLaw, WrittenLaw};
+ghost use Rattle.resource_book.specs.Laws.{PlaceLaw, SameLaw, WrittenLaw};
 
 pub use book::Book;
 pub use calls::ResourceCalls;
@@ -36,4 +36,9 @@ pub fn written_law()
 /// What a call makes in a lawful state has a free place in the world that the state stands for.
 pub fn place_law()
     ensures { PlaceLaw }
+{}
+
+/// No call changes how many views there are, how many frames may be out, or the number of the frame.
+pub fn same_law()
+    ensures { SameLaw }
 {}
