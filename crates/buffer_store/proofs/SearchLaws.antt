@@ -1,13 +1,14 @@
--- One slot more of the search for the newest uniform of a name and a kind.
-use Rattle.std.proofs.Common.{◌≡◌, ℕ, ◌+◌, ◌<◌, ◌≤◌, ◌⊎◌, inl, inr, Bool, true, false, List, length, take, Option, Some, None, refl, sym, ap, subst, ◌∙◌, arith, length-take-le}
-use Rattle.std.specs.Prelude.{◌&&◌, nat_le}
+-- The search for the newest uniform of a name and a kind: one slot more, and slots that are empty from an end on.
+use Rattle.std.proofs.Common.{◌≡◌, ℕ, zero, suc, ◌+◌, ◌<◌, ◌≤◌, ◌⊎◌, inl, inr, Bool, true, false, List, length, set, take, replicate, Option, Some, None, refl, sym, ap, subst, ◌∙◌, arith, length-take-le}
+use Rattle.std.specs.Prelude.{◌&&◌, nat_le, MatchOption, option_map}
 use Rattle.std.proofs.lemmas.Bool.{cases_lt, leb-true}
-use Rattle.std.proofs.lemmas.List.{get_or-take, get_or_past}
+use Rattle.std.proofs.lemmas.List.{get_or-take, get_or_past, length-set}
 use Rattle.std.proofs.lemmas.Option.{none-some, same_Some, unwrap_or-slice_get}
-use Rattle.gfx_model.specs.Words.{UniformKind}
-use Rattle.store_model.specs.Slots.{at}
-use Rattle.store_model.specs.Buffers.{UniformSlot, is_named}
-use Rattle.buffer_store.specs.Search.{is_as_new, takes_over, found_at, IsFound}
+use Rattle.gfx_model.specs.Words.{UniformKind, uniform_kind, greatest}
+use Rattle.store_model.specs.Slots.{at, no_slots, filled_at, emptied_at, changed_at}
+use Rattle.store_model.specs.Buffers.{UniformSlot, is_named, IsNewest, HasNoneNamed}
+use Rattle.store_model.proofs.AttachLaws.{at_set}
+use Rattle.buffer_store.specs.Search.{is_as_new, takes_over, found_at, IsFound, IsEmptyFrom, HasEnd}
 
 -- what stands among the first slots
 at_taken : (slots : List (Option UniformSlot)) (n j : ℕ) → j < n → at (take n slots) j ≡ at slots j
@@ -114,3 +115,66 @@ found_next name kind slots n found lt takes before = by_slot (at slots n) refl
             let newer : f.uniform.serial ≤ u.serial = leb-true f.uniform.serial u.serial (sym (ap (λ o. is_as_new o u) here) ∙ new) in
             let le : s.serial ≤ f.uniform.serial = f.most j s x m in
             omega (arith, newer, le)
+
+-- ---- slots that are empty from an end on
+
+still_there : (slots : List (Option UniformSlot)) (n : ℕ) → IsEmptyFrom n slots → (j : ℕ) (s : UniformSlot) → at slots j ≡ Some s → at (take n slots) j ≡ Some s
+still_there slots n empty j s e = by_place (cases_lt j n)
+  where
+    by_place : (j < n) ⊎ (n ≤ j) → at (take n slots) j ≡ Some s
+    by_place (inl lt) = at_taken slots n j lt ∙ e
+    by_place (inr past) = absurd (none-some s (sym (empty j past) ∙ e))
+
+-- what is found among the first slots is found among all, where the others are empty
+pub found_all : (name : List ℕ) (kind : UniformKind) (slots : List (Option UniformSlot)) (n : ℕ) (found : Option ℕ) → n ≤ length slots → IsEmptyFrom n slots → IsFound name kind slots n found
+    → MatchOption found (HasNoneNamed name kind slots) (λ i. IsNewest name kind slots i)
+found_all name kind slots n None le empty none = λ j s e. none j s (still_there slots n empty j s e)
+found_all name kind slots n (Some i) le empty best = record {
+  uniform = best.uniform;
+  there = sym (at_taken slots n i (at_none slots n i best.uniform le best.there)) ∙ best.there;
+  named = best.named;
+  most = λ j s e m. best.most j s (still_there slots n empty j s e) m;
+  last = λ j s e m same. best.last j s (still_there slots n empty j s e) m same;
+}
+
+none_at : (n i : ℕ) → at {X = UniformSlot} (replicate n None) i ≡ None
+none_at zero i = refl
+none_at (suc n) zero = refl
+none_at (suc n) (suc i) = none_at n i
+
+pub new_empty : (slots : List (Option UniformSlot)) (n : ℕ) → slots ≡ no_slots n → IsEmptyFrom 0 slots
+unfolding no_slots
+new_empty slots n is j past = ap (λ xs. at xs j) is ∙ none_at n j
+
+pub filled_end : (end after i : ℕ) (u : UniformSlot) (slots : List (Option UniformSlot)) → i < after → end ≤ after → after ≤ greatest uniform_kind → HasEnd end slots → HasEnd after (filled_at i u slots)
+filled_end end after i u slots here more most h = record {
+  many = length-set slots i (Some u) ∙ h.many;
+  within = most;
+  empty = λ j past. by_place j past (at_set slots i j (Some u));
+}
+  where
+    by_place : (j : ℕ) → after ≤ j → ((j ≡ i) × (at (set slots i (Some u)) j ≡ Some u)) ⊎ (at (set slots i (Some u)) j ≡ at slots j) → at (set slots i (Some u)) j ≡ None
+    by_place j past (inl same) = absurd (omega (arith, same.0, here, past))
+    by_place j past (inr kept) = kept ∙ h.empty j (omega (arith, more, past))
+
+pub emptied_end : (end i : ℕ) (slots : List (Option UniformSlot)) → HasEnd end slots → HasEnd end (emptied_at i slots)
+emptied_end end i slots h = record {
+  many = length-set slots i None ∙ h.many;
+  within = h.within;
+  empty = λ j past. by_place j past (at_set slots i j None);
+}
+  where
+    by_place : (j : ℕ) → end ≤ j → ((j ≡ i) × (at (set slots i None) j ≡ None)) ⊎ (at (set slots i None) j ≡ at slots j) → at (set slots i None) j ≡ None
+    by_place j past (inl same) = same.1
+    by_place j past (inr kept) = kept ∙ h.empty j past
+
+pub changed_end : (change : UniformSlot → UniformSlot) (end i : ℕ) (slots : List (Option UniformSlot)) → HasEnd end slots → HasEnd end (changed_at change i slots)
+changed_end change end i slots h = record {
+  many = length-set slots i (option_map change (at slots i)) ∙ h.many;
+  within = h.within;
+  empty = λ j past. by_place j past (at_set slots i j (option_map change (at slots i)));
+}
+  where
+    by_place : (j : ℕ) → end ≤ j → ((j ≡ i) × (at (changed_at change i slots) j ≡ option_map change (at slots i))) ⊎ (at (changed_at change i slots) j ≡ at slots j) → at (changed_at change i slots) j ≡ None
+    by_place j past (inl same) = same.1 ∙ ap (option_map change) (ap (at slots) (sym same.0) ∙ h.empty j past)
+    by_place j past (inr kept) = kept ∙ h.empty j past

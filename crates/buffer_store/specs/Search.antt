@@ -1,6 +1,6 @@
 -- The search for the newest uniform of a name and a kind.
-use Rattle.std.specs.Prelude.{ℕ, true, false, Bool, ◌&&◌, nat_le, List, Option, Some, None, MatchOption, option_and_then, take}
-use Rattle.gfx_model.specs.Words.{UniformKind}
+use Rattle.std.specs.Prelude.{ℕ, ◌≡◌, ◌≤◌, true, false, Bool, ◌&&◌, nat_le, List, length, Option, Some, None, MatchOption, option_and_then, take}
+use Rattle.gfx_model.specs.Words.{UniformKind, uniform_kind, greatest}
 use Rattle.store_model.specs.Slots.{at}
 use Rattle.store_model.specs.Buffers.{UniformSlot, is_named, IsNewest, HasNoneNamed}
 
@@ -21,3 +21,13 @@ found_at slots i = option_and_then (at slots) i
 -- the newest among the slots below a number, or none
 abbrev pub IsFound : List ℕ → UniformKind → List (Option UniformSlot) → ℕ → Option ℕ → Type 0
 IsFound name kind slots n found = MatchOption found (HasNoneNamed name kind (take n slots)) (λ i. IsNewest name kind (take n slots) i)
+
+-- no slot from an end on has a uniform
+abbrev pub IsEmptyFrom : ℕ → List (Option UniformSlot) → Type 0
+IsEmptyFrom end slots = (i : ℕ) → end ≤ i → at slots i ≡ None
+
+-- a slot for each index that a uniform can have, and an end that no uniform lies behind
+pub record HasEnd (end : ℕ) (slots : List (Option UniformSlot)) : Type 0 where
+  pub many : length slots ≡ greatest uniform_kind
+  pub within : end ≤ greatest uniform_kind
+  pub empty : IsEmptyFrom end slots

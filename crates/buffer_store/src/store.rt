@@ -7,7 +7,7 @@ ghost use Rattle.store_model.specs.Slots.{at, filled_at, changed_at};
 ghost use Rattle.store_model.specs.Buffers.{no_buffers, bytes_at, layout_at, updated as updated_by, destroyed, new_vertices, new_uniform, with_slot_value, IsBuffers, IsNewest, HasNoneNamed, has_thing};
 
 use crate::bytes::{Bytes, write_indices};
-use crate::uniform::{Uniform, newest, set_value};
+use crate::uniform::{Uniform, Uniforms};
 use crate::vertices::{VertexBuffer, write_vertices};
 use gfx_words::{Kind, Refusal, UniformKind, UniformValue};
 use slot_row::Row;
@@ -21,7 +21,7 @@ pub struct BufferStore {
     layouts: Row<VertexLayout>,
     vertices: Row<VertexBuffer>,
     indices: Row<Bytes>,
-    uniforms: Row<Uniform>,
+    uniforms: Uniforms,
 }
 
 impl Model for BufferStore {
@@ -45,7 +45,7 @@ impl BufferStore {
             layouts: Row::new(alloc, Kind::Layout.greatest())?,
             vertices: Row::new(alloc, Kind::VertexBuffer.greatest())?,
             indices: Row::new(alloc, Kind::IndexBuffer.greatest())?,
-            uniforms: Row::new(alloc, Kind::Uniform.greatest())?,
+            uniforms: Uniforms::new(alloc)?,
         })
     }
 
@@ -160,7 +160,7 @@ impl BufferStore {
                 let _ = self.indices.take(index);
             }
             Kind::Uniform => {
-                let _ = self.uniforms.take(index);
+                self.uniforms.remove(index);
             }
             _ => {}
         }
@@ -202,7 +202,7 @@ impl BufferStore {
         ensures set { self.new ≡ record self.old { uniforms = changed_at (with_slot_value (value_seen value)) index self.old.uniforms } }
         ensures nothing { at self.old.uniforms index ≡ None → self.new ≡ self.old }
     {
-        set_value(&mut self.uniforms, index, value);
+        self.uniforms.set(index, value);
     }
 
     /// The value of a uniform. None exactly where it is not there.
@@ -220,6 +220,6 @@ impl BufferStore {
     pub fn newest_named(&self, name: &[u8], kind: UniformKind) -> Option<u16>
         ensures { MatchOption result (HasNoneNamed name.now (uniform_seen kind) self.now.uniforms) (λ index. IsNewest name.now (uniform_seen kind) self.now.uniforms index) }
     {
-        newest(&self.uniforms, name, kind)
+        self.uniforms.newest(name, kind)
     }
 }

@@ -1,14 +1,15 @@
-// A uniform.
-ghost use Rattle.std.specs.Prelude.{◌≡◌, length, MatchOption};
+// Uniforms by index.
+ghost use Rattle.std.specs.Prelude.{◌≡◌, ◌<◌, ◌≤◌, length, MatchOption, IfOk, option_map};
 ghost use Rattle.gfx_model.specs.Words.{uniform_kind, greatest, value_kind, is_uniform_kind};
 ghost use Rattle.gfx_model.specs.Resources.{zero_value};
 ghost use Rattle.gfx_words.specs.Seen.{uniform_seen, value_seen};
-ghost use Rattle.store_model.specs.Slots.{at, changed_at};
+ghost use Rattle.store_model.specs.Slots.{at, no_slots, filled_at, emptied_at, changed_at};
 ghost use Rattle.store_model.specs.Buffers.{new_uniform, with_slot_value, is_named as is_named_of, IsNewest, HasNoneNamed};
-ghost use Rattle.buffer_store.specs.Search.{found_at, is_as_new as is_as_new_of, takes_over as takes_over_of};
+ghost use Rattle.buffer_store.specs.Search.{found_at, is_as_new as is_as_new_of, takes_over as takes_over_of, IsEmptyFrom};
 
 use gfx_words::{Kind, UniformKind, UniformValue};
 use slot_row::Row;
+use std::alloc::{AllocError, Global};
 use std::marker::Model;
 
 /// A uniform's name and value, and the serial by which the newest is told.
@@ -84,7 +85,7 @@ impl Uniform {
 }
 
 /// Gives the uniform at an index, if there is one, a value.
-pub(crate) fn set_value(uniforms: &mut Row<Uniform>, index: u16, value: UniformValue)
+fn set_value(uniforms: &mut Row<Uniform>, index: u16, value: UniformValue)
     ensures { uniforms.new ≡ changed_at (with_slot_value (value_seen value)) index uniforms.old }
 {
     if let Some(mut uniform) = uniforms.take(index) {
@@ -93,18 +94,85 @@ pub(crate) fn set_value(uniforms: &mut Row<Uniform>, index: u16, value: UniformV
     }
 }
 
-/// The uniform of a name and a kind with the greatest serial.
-pub(crate) fn newest(uniforms: &Row<Uniform>, name: &[u8], kind: UniformKind) -> Option<u16>
-    requires { length uniforms.now ≡ greatest uniform_kind }
+/// The uniform of a name and a kind with the greatest serial, where the slots from an end on are empty.
+fn newest(uniforms: &Row<Uniform>, end: u16, name: &[u8], kind: UniformKind) -> Option<u16>
+    requires within { end ≤ length uniforms.now }
+    requires empty { IsEmptyFrom end uniforms.now }
     ensures { MatchOption result (HasNoneNamed name.now (uniform_seen kind) uniforms.now) (λ i. IsNewest name.now (uniform_seen kind) uniforms.now i) }
 {
     let mut best = None;
-    for index in 0..Kind::Uniform.greatest() {
+    for index in 0..end {
         if takes_over(uniforms, name, kind, best, index) {
             best = Some(index);
         }
     }
     best
+}
+
+/// A slot for each uniform, and an end behind the last slot that ever had one, so that a search need not look at all slots.
+#[derive(Drop)]
+pub(crate) struct Uniforms {
+    row: Row<Uniform>,
+    end: u16,
+}
+
+impl Model for Uniforms {
+    ghost use Rattle.std.specs.Prelude.{List, Option};
+    ghost use Rattle.store_model.specs.Buffers.{UniformSlot};
+    ghost use Rattle.buffer_store.specs.Search.{HasEnd};
+
+    ghost Value = { List (Option UniformSlot) };
+
+    ghost view = { λ s. s.row };
+
+    ghost invariant = { λ s. HasEnd s.end s.row };
+}
+
+impl Uniforms {
+    /// No uniforms, with a slot for each index.
+    pub(crate) fn new(alloc: Global) -> Result<Uniforms, AllocError>
+        ensures { IfOk result (λ uniforms. uniforms ≡ no_slots (greatest uniform_kind)) }
+    {
+        let row = Row::new(alloc, Kind::Uniform.greatest())?;
+        Ok(Uniforms { row, end: 0 })
+    }
+
+    /// The uniform at an index. None where there is none, and past the last index.
+    pub(crate) fn get(&self, index: u16) -> Option<&Uniform>
+        ensures { option_map (λ uniform. uniform.now) result ≡ at self.now index }
+    {
+        self.row.get(index)
+    }
+
+    /// Puts a uniform at an index, which is below 256.
+    pub(crate) fn put(&mut self, index: u16, uniform: Uniform)
+        requires { index < greatest uniform_kind }
+        ensures { self.new ≡ filled_at index uniform self.old }
+    {
+        self.row.put(index, uniform);
+        self.end = self.end.max(index + 1);
+    }
+
+    /// Takes the uniform at an index out, where there is one.
+    pub(crate) fn remove(&mut self, index: u16)
+        ensures { self.new ≡ emptied_at index self.old }
+    {
+        let _ = self.row.take(index);
+    }
+
+    /// Gives the uniform at an index, if there is one, a value.
+    pub(crate) fn set(&mut self, index: u16, value: UniformValue)
+        ensures { self.new ≡ changed_at (with_slot_value (value_seen value)) index self.old }
+    {
+        set_value(&mut self.row, index, value);
+    }
+
+    /// The uniform of a name and a kind with the greatest serial.
+    pub(crate) fn newest(&self, name: &[u8], kind: UniformKind) -> Option<u16>
+        ensures { MatchOption result (HasNoneNamed name.now (uniform_seen kind) self.now) (λ i. IsNewest name.now (uniform_seen kind) self.now i) }
+    {
+        newest(&self.row, self.end, name, kind)
+    }
 }
 
 // Whether the uniform at an index takes the place of the best so far.

@@ -8,5 +8,5 @@ use Rattle.buffer_store.proofs.store.BufferStore.set_uniform.Goals as goal
 pub returns-clause-nothing : goal.returns-clause-nothing
 returns-clause-nothing c none =
     ap (λ x. record { layouts = c.self.inside.layouts; vertices = c.self.inside.vertices; indices = c.self.inside.indices; uniforms = x })
-    (c.set_value.ensures ∙ changed_none (with_slot_value (value_seen c.args.value)) c.self.inside.uniforms c.args.index (ap (λ s. at s.uniforms c.args.index) c.self.view_is ∙ none))
+    (c.set.ensures ∙ changed_none (with_slot_value (value_seen c.args.value)) c.self.inside.uniforms c.args.index (ap (λ s. at s.uniforms c.args.index) c.self.view_is ∙ none))
     ∙ c.self.view_is
