@@ -1,12 +1,12 @@
 -- An attribute's components, and that they lie within a vertex.
-use Rattle.std.proofs.Common.{◌≡◌, ℕ, ◌+◌, ◌*◌, ◌<◌, ◌≤◌, ℤ, pos, Bool, true, false, cond, List, [], ◌∷◌, length, Option, Some, None, refl, sym, ap, subst, arith}
+use Rattle.std.proofs.Common.{◌≡◌, ℕ, ◌+◌, ◌*◌, ◌<◌, ◌≤◌, ℤ, pos, Bool, true, false, cond, List, [], ◌∷◌, length, Option, Some, None, refl, sym, ap, subst, ◌∙◌, arith}
 use Rattle.std.specs.Prelude.{◌&&◌, nat_le, ◌==◌, option_map, IfSome}
 use Rattle.std.specs.List.{list_all}
 use Rattle.std.proofs.lemmas.Bool.{leb-true, lt-ltb, le-ltb}
 use Rattle.std.proofs.lemmas.List.{get_or_past}
 use Rattle.std.proofs.lemmas.List.FromFn.{get_or-map-range_with_len, length-map-range_with_len}
-use Rattle.gfx_model.specs.Number.{int_at}
-use Rattle.gfx_model.specs.Vertex.{Attribute, attribute_number, PlacedAttribute, Layout, component_size, fixed_at, components_at, byte_of_fixed, byte_or, find_attribute, has_good_attributes}
+use Rattle.gfx_model.specs.Number.{int_at, i32_at}
+use Rattle.gfx_model.specs.Vertex.{Attribute, attribute_number, PlacedAttribute, Layout, u8_type, fixed_type, component_size, fixed_at, components_at, byte_of_fixed, byte_or, find_attribute, has_good_attributes}
 use Rattle.vertex_layout.specs.declared.attributes.PlacedAttr.{PlacedAttr}
 use Rattle.vertex_layout.specs.Placed.{placed_seen, end_of, ends_within}
 use Rattle.vertex_layout.specs.Layouts.{is_layout}
@@ -30,6 +30,29 @@ byte_there missing a bytes at k lt =
 pub byte_gone : (missing : ℕ) (a : PlacedAttribute) (bytes : List ℕ) (at k : ℕ) → a.count ≤ k → byte_or missing (components_at a bytes at) k ≡ missing
 byte_gone missing a bytes at k le =
     ap (λ b. cond b (byte_of_fixed (int_at (components_at a bytes at) k)) missing) (le-ltb k (length (components_at a bytes at)) (omega (arith, le, length_components a bytes at)))
+
+-- ---- components of one type
+
+-- a component that is a fixed number
+pub fixed_there : (a : PlacedAttribute) (bytes : List ℕ) (at k : ℕ) → a.component ≡ fixed_type → k < a.count → int_at (components_at a bytes at) k ≡ i32_at bytes (at + a.offset + 4 * k)
+fixed_there a bytes at k kind lt = component_there a bytes at k lt ∙ ap (λ t. fixed_at t bytes (at + a.offset + component_size t * k)) kind
+
+-- a component that is a byte, as a byte
+pub byte_is : (missing : ℕ) (a : PlacedAttribute) (bytes : List ℕ) (at k place : ℕ) → a.component ≡ u8_type → k < a.count → at + a.offset + k ≡ place → byte_of_fixed (fixed_at u8_type bytes place) ≡ byte_or missing (components_at a bytes at) k
+byte_is missing a bytes at k place kind lt here =
+    let one : at + a.offset + component_size u8_type * k ≡ place = omega (arith, here) in
+    sym (byte_there missing a bytes at k lt
+    ∙ ap byte_of_fixed (component_there a bytes at k lt ∙ ap (λ t. fixed_at t bytes (at + a.offset + component_size t * k)) kind ∙ ap (λ p. fixed_at u8_type bytes p) one))
+
+pub fixed_end : (a : PlacedAttribute) (at k len : ℕ) → a.component ≡ fixed_type → k < a.count → at + (a.offset + component_size a.component * a.count) ≤ len → at + a.offset + 4 * k + 3 < len
+fixed_end a at k len kind lt le =
+    let size : component_size a.component * a.count ≡ 4 * a.count = ap (λ t. component_size t * a.count) kind in
+    omega (arith, size, lt, le)
+
+pub bytes_end : (a : PlacedAttribute) (at len : ℕ) → a.component ≡ u8_type → a.count ≡ 4 → at + (a.offset + component_size a.component * a.count) ≤ len → at + a.offset + 4 ≤ len
+bytes_end a at len kind four le =
+    let size : component_size a.component * a.count ≡ 1 * a.count = ap (λ t. component_size t * a.count) kind in
+    omega (arith, size, four, le)
 
 -- ---- within a vertex
 

@@ -1,5 +1,5 @@
 // From bytes to vertices.
-ghost use Rattle.std.specs.Prelude.{◌≡◌, ◌+◌, ◌*◌, ◌<◌, ◌≤◌, ◌/◌, ◌%◌, min, pos, ◌*ℤ◌, length, option_map, IfSome, slice_index};
+ghost use Rattle.std.specs.Prelude.{◌≡◌, ◌+◌, ◌*◌, ◌<◌, ◌≤◌, ◌/◌, ◌%◌, min, pos, ◌*ℤ◌, length, option_map, Some, IfSome, IsTrue, slice_index};
 ghost use Rattle.gfx_model.specs.Number.{at_least_zero, int_at, u16_at as u16_of, i16_at as i16_of, i32_at as i32_of};
 ghost use Rattle.gfx_model.specs.Vertex as model;
 ghost use Rattle.fix_math.specs.Seen.{point_seen};
@@ -102,18 +102,111 @@ pub fn byte_of_fixed(value: i32) -> u8
     ((share.min(65536) * 255 + 32768) / 65536) as u8
 }
 
+/// Whether the components of an attribute are fixed numbers.
+fn is_fixed(placed: &PlacedAttr) -> bool
+    ensures { IsTrue result → component_seen placed.now.kind ≡ model.fixed_type }
+{
+    match placed.kind {
+        AttrType::Fixed => true,
+        _ => false,
+    }
+}
+
+/// The component of a number of an attribute of fixed numbers, or 0 where it has fewer.
+fn fixed_or_zero(placed: &PlacedAttr, bytes: &[u8], at: usize, number: u8) -> i32
+    requires kind { component_seen placed.now.kind ≡ model.fixed_type }
+    requires within { at + end_of placed.now ≤ length bytes.now }
+    ensures { result ≡ int_at (model.components_at (placed_seen placed.now) bytes.now at) number }
+{
+    if number < placed.count {
+        i32_at(bytes, at + placed.offset as usize + 4 * number as usize)
+    } else {
+        0
+    }
+}
+
+fn position_in(placed: &PlacedAttr, bytes: &[u8], at: usize) -> Point
+    requires { at + end_of placed.now ≤ length bytes.now }
+    ensures { point_seen result ≡ model.position_of (components_in (Some placed.now) bytes.now at) }
+{
+    if is_fixed(placed) {
+        return Point {
+            x: fixed_or_zero(placed, bytes, at, 0),
+            y: fixed_or_zero(placed, bytes, at, 1),
+            z: fixed_or_zero(placed, bytes, at, 2),
+        };
+    }
+    Point {
+        x: component_or_zero(placed, bytes, at, 0),
+        y: component_or_zero(placed, bytes, at, 1),
+        z: component_or_zero(placed, bytes, at, 2),
+    }
+}
+
 pub(crate) fn position_of(placed: &Option<PlacedAttr>, bytes: &[u8], at: usize) -> Point
     requires { IfSome placed.now (λ p. at + end_of p ≤ length bytes.now) }
     ensures { point_seen result ≡ model.position_of (components_in placed.now bytes.now at) }
 {
     match placed {
-        Some(placed) => Point {
-            x: component_or_zero(placed, bytes, at, 0),
-            y: component_or_zero(placed, bytes, at, 1),
-            z: component_or_zero(placed, bytes, at, 2),
-        },
+        Some(placed) => position_in(placed, bytes, at),
         None => Point { x: 0, y: 0, z: 0 },
     }
+}
+
+/// Whether an attribute has four components of a byte each.
+fn is_four_bytes(placed: &PlacedAttr) -> bool
+    ensures kind { IsTrue result → component_seen placed.now.kind ≡ model.u8_type }
+    ensures four { IsTrue result → placed.now.count ≡ 4 }
+{
+    match placed.kind {
+        AttrType::U8 => placed.count == 4,
+        _ => false,
+    }
+}
+
+/// A byte as a share of 65536, and that as a byte again.
+fn byte_again(byte: u8) -> u8
+    ensures { result ≡ model.byte_of_fixed (pos (byte * 65536 / 255)) }
+{
+    byte
+}
+
+fn byte_at(bytes: &[u8], at: usize) -> u8
+    requires { at < length bytes.now }
+    ensures { result ≡ model.byte_of_fixed (model.fixed_at model.u8_type bytes.now at) }
+{
+    byte_again(bytes[at])
+}
+
+/// The colour of an attribute of four bytes: the bytes as they stand.
+fn four_bytes(placed: &PlacedAttr, bytes: &[u8], at: usize) -> [u8; 4]
+    requires kind { component_seen placed.now.kind ≡ model.u8_type }
+    requires four { placed.now.count ≡ 4 }
+    requires within { at + placed.now.offset + 4 ≤ length bytes.now }
+    ensures { result ≡ model.color_of (components_in (Some placed.now) bytes.now at) }
+{
+    let first = at + placed.offset as usize;
+    [
+        byte_at(bytes, first),
+        byte_at(bytes, first + 1),
+        byte_at(bytes, first + 2),
+        byte_at(bytes, first + 3),
+    ]
+}
+
+fn color_in(placed: &PlacedAttr, bytes: &[u8], at: usize) -> [u8; 4]
+    requires { at + end_of placed.now ≤ length bytes.now }
+    ensures { result ≡ model.color_of (components_in (Some placed.now) bytes.now at) }
+{
+    if is_four_bytes(placed) {
+        return four_bytes(placed, bytes, at);
+    }
+    [
+        byte_or(0, placed, bytes, at, 0),
+        byte_or(0, placed, bytes, at, 1),
+        byte_or(0, placed, bytes, at, 2),
+        byte_or(255, placed, bytes, at, 3),
+    ]
 }
 
 pub(crate) fn color_of(placed: &Option<PlacedAttr>, bytes: &[u8], at: usize) -> [u8; 4]
@@ -121,14 +214,25 @@ pub(crate) fn color_of(placed: &Option<PlacedAttr>, bytes: &[u8], at: usize) -> 
     ensures { result ≡ model.color_of (components_in placed.now bytes.now at) }
 {
     match placed {
-        Some(placed) => [
-            byte_or(0, placed, bytes, at, 0),
-            byte_or(0, placed, bytes, at, 1),
-            byte_or(0, placed, bytes, at, 2),
-            byte_or(255, placed, bytes, at, 3),
-        ],
+        Some(placed) => color_in(placed, bytes, at),
         None => [255; 4],
     }
+}
+
+fn texcoord_in(placed: &PlacedAttr, bytes: &[u8], at: usize) -> [i32; 2]
+    requires { at + end_of placed.now ≤ length bytes.now }
+    ensures { result ≡ model.texcoord_of (components_in (Some placed.now) bytes.now at) }
+{
+    if is_fixed(placed) {
+        return [
+            fixed_or_zero(placed, bytes, at, 0),
+            fixed_or_zero(placed, bytes, at, 1),
+        ];
+    }
+    [
+        component_or_zero(placed, bytes, at, 0),
+        component_or_zero(placed, bytes, at, 1),
+    ]
 }
 
 pub(crate) fn texcoord_of(placed: &Option<PlacedAttr>, bytes: &[u8], at: usize) -> [i32; 2]
@@ -136,10 +240,7 @@ pub(crate) fn texcoord_of(placed: &Option<PlacedAttr>, bytes: &[u8], at: usize) 
     ensures { result ≡ model.texcoord_of (components_in placed.now bytes.now at) }
 {
     match placed {
-        Some(placed) => [
-            component_or_zero(placed, bytes, at, 0),
-            component_or_zero(placed, bytes, at, 1),
-        ],
+        Some(placed) => texcoord_in(placed, bytes, at),
         None => [0; 2],
     }
 }

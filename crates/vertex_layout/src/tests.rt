@@ -55,6 +55,23 @@ fn texcoords_behind_a_gap(rt: HostRuntime) -> Result<(), Fail> {
     Ok(())
 }
 
+#[test]
+fn positions_of_one_to_three_numbers(rt: HostRuntime) -> Result<(), Fail> {
+    let bytes = [0, 0, 1, 0, 0, 0, 0xff, 0xff, 1, 0, 0, 0];
+    for (count, y, z) in [(1, 0, 0), (2, -65536, 0), (3, -65536, 1)] {
+        let mut builder = LayoutBuilder::new();
+        builder.add(Attr::Position, AttrType::Fixed, count);
+        let layout = builder.end()?;
+        let vertex = Vertex {
+            position: Point { x: 65536, y, z },
+            color: [255; 4],
+            texcoord: [0; 2],
+        };
+        assert_eq!(rt; layout.fetch(&bytes, 0), Some(vertex), "of {count}");
+    }
+    Ok(())
+}
+
 fn is_refused(builder: LayoutBuilder) -> bool {
     match builder.end() {
         Ok(_) => false,
