@@ -10,3 +10,4 @@ pub mod Grown
 pub mod Held
 pub mod Colored
 pub mod Level
+pub mod Rowed

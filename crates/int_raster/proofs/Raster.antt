@@ -12,8 +12,6 @@ use Rattle.gfx_model.proofs.PixelLaws.{map_from-map_from, fold-map_from}
 use Rattle.int_raster.specs.Drawing.{PreparedDraw, facing_shown, covered_step, facing_step, prepared_step}
 use Rattle.tri_cover.specs.Shown.{setup_seen}
 use Rattle.tri_cover.specs.declared.triangles.Setup.{Setup}
-use Rattle.tri_cover.specs.declared.sides.Sides.{Sides}
-use Rattle.tri_cover.specs.Walked.{AreSides}
 use Rattle.std.proofs.lemmas.List.Folds.{fold-map}
 use Rattle.int_raster.specs.declared.lists.Prepared.{Prepared}
 use Rattle.int_raster.specs.Seen.{prepared_seen, facing_seen, change_seen}
@@ -183,10 +181,6 @@ setups_in_turn d w top ps ss =
     same : (ts : List Setup) → map (facing_seen d) ts ≡ map (facing_shown d.front d.back) (map setup_seen ts)
     same [] = refl
     same (t ∷ ts) = ap (λ fs. facing_seen d t ∷ fs) (same ts)
-
--- the sides of a triangle one row on, the rows counted from a band's first
-pub next_row : (sides : Sides) (s : Setup) (top row : ℕ) → AreSides sides s (top + row + 1) → AreSides sides s (top + (row + 1))
-next_row sides s top row h = let e : top + row + 1 ≡ top + (row + 1) = omega arith in subst (λ n. AreSides sides s n) e h
 
 -- a column between the ends of a row is covered
 pub drawn_column : (cut : Rect) (f : Facing) (first after x y : ℕ) → is_drawn cut f x y ≡ (nat_le first x && nat_lt x after) → first ≤ x → x < after → covers f.triangle x y ≡ true

@@ -7,3 +7,4 @@ pub mod Bands
 pub mod Listing
 pub mod Cuts
 pub mod Sampled
+pub mod Filled

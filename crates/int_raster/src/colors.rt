@@ -1,15 +1,18 @@
 // Draws on colours alone: on surfaces without depth, and where depths are neither tested nor stored.
-ghost use Rattle.std.specs.Prelude.{◌≡◌, ◌≤◌, ◌<◌, ◌+◌, ◌*◌, ℕ, true, length, IfSome, IsTrue};
+ghost use Rattle.std.specs.Prelude.{◌≡◌, ◌≤◌, ◌<◌, ◌+◌, ◌*◌, ℕ, true, List, length, IfSome, IsTrue};
 ghost use Rattle.gfx_model.specs.Number.{map_from};
 ghost use Rattle.gfx_model.specs.Raster.{covers, fragment_at};
+ghost use Rattle.gfx_model.specs.Vertex.{Color};
 ghost use Rattle.gfx_model.specs.World.{painted};
 ghost use Rattle.tri_cover.specs.Shown.{setup_seen};
+ghost use Rattle.tri_cover.specs.Bounded.{HoldsSpans};
 ghost use Rattle.pixel_ops.specs.Blended.{IsBlending};
-ghost use Rattle.int_raster.specs.Places.{below, spanned, in_row, by_place};
+ghost use Rattle.int_raster.specs.Places.{above, below, spanned, in_row, by_place};
+ghost use Rattle.int_raster.specs.Filled.{AreLimits, AreInCut};
 ghost use Rattle.int_raster.specs.Painted.{shade_at, PaintsSpan, Paints, IsOpaque, HoldsPiece};
 ghost use Rattle.int_raster.specs.Seen.{paint_seen, color_seen, color_change};
 
-use crate::columns::{drawn_columns, drawn_rows};
+use crate::columns::{drawn_columns, drawn_limits, drawn_rows};
 use crate::lists::Prepared;
 use crate::painters::{Painter, Shade, is_opaque, packed, value_at, whole};
 use crate::painting::stepped;
@@ -199,6 +202,45 @@ fn draw_span(
     }
 }
 
+/// Draws a triangle's colours in so many rows, whose columns a list has.
+fn rows_colors(
+    colors: &mut [[u8; 4]],
+    rows: &Rows,
+    from: u16,
+    count: u16,
+    spans: &[(u16, u16)],
+    limits: (u16, u16),
+    painter: &Option<Painter>,
+    opaque: bool,
+    blending: &Blending,
+    setup: &Setup,
+    draw: &Prepared,
+)
+    requires whole { length colors.old ≡ rows.now.width * rows.now.count }
+    requires opaque { IsTrue opaque → IsOpaque draw.now.state }
+    requires blending { IsBlending blending.now draw.now.state }
+    requires paints { IfSome painter.now (λ p. Paints p draw.now setup.now rows.now.width (rows.now.top + rows.now.count)) }
+    requires inside { from + count ≤ rows.now.count }
+    requires cut { AreInCut rows.now draw.now.cut from (from + count) }
+    requires limits { AreLimits limits draw.now.cut rows.now.width }
+    requires room { count ≤ length spans.now }
+    requires held { HoldsSpans spans.now (setup_seen setup.now).triangle limits.0 limits.1 (rows.now.top + from) count }
+    ensures { (start : List Color) → colors.old ≡ map_from (above rows.now.width from (below rows.now.top (color_change draw.now setup.now))) 0 start → colors.new ≡ map_from (above rows.now.width (from + count) (below rows.now.top (color_change draw.now setup.now))) 0 start }
+{
+    for k in 0..count {
+        let row = from + k;
+        let y = rows.top + row;
+        let (first, after) = drawn_columns(spans, k, limits, setup, &draw.cut, y, rows.width);
+        let span = Span {
+            start: row as usize * rows.width as usize,
+            y,
+            first,
+            after,
+        };
+        draw_span(colors, &span, painter, opaque, blending, setup, draw);
+    }
+}
+
 /// Draws a triangle's colours, with a painter where there is one.
 pub(crate) fn triangle_colors(
     colors: &mut [[u8; 4]],
@@ -214,17 +256,15 @@ pub(crate) fn triangle_colors(
     let opaque = is_opaque(&draw.state);
     let blending = Blending::new(&draw.state);
     let (top, bottom) = drawn_rows(setup, &draw.cut, rows);
-    let mut sides = setup.sides(rows.top + top);
-    for row in top..bottom {
-        let y = rows.top + row;
-        let (first, after) = drawn_columns(setup, &sides, &draw.cut, y, rows.width);
-        let span = Span {
-            start: row as usize * rows.width as usize,
-            y,
-            first,
-            after,
-        };
-        draw_span(colors, &span, painter, opaque, &blending, setup, draw);
-        sides = setup.next_sides(sides, y);
+    let limits = drawn_limits(&draw.cut, rows.width);
+    let mut spans = [(0, 0); 32];
+    let mut row = top;
+    while row < bottom {
+        let count = (bottom - row).min(32);
+        setup.spans(&mut spans, rows.top + row, count, limits.0, limits.1);
+        rows_colors(
+            colors, rows, row, count, &spans, limits, painter, opaque, &blending, setup, draw,
+        );
+        row += count;
     }
 }

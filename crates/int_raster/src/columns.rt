@@ -1,13 +1,14 @@
 // The rows and columns of a surface that a triangle may change.
-ghost use Rattle.std.specs.Prelude.{◌≡◌, ◌≤◌, ◌<◌, ◌+◌, ℕ, min, true, false, ◌&&◌, nat_le, nat_lt};
+ghost use Rattle.std.specs.Prelude.{◌≡◌, ◌≤◌, ◌<◌, ◌+◌, ℕ, length, slice_index_or, min, true, false, ◌&&◌, nat_le, nat_lt};
 ghost use Rattle.gfx_model.specs.Raster.{contains, covers};
 ghost use Rattle.fix_math.specs.Seen.{rect_seen};
 ghost use Rattle.tri_cover.specs.Shown.{setup_seen};
-ghost use Rattle.tri_cover.specs.Walked.{AreSides};
+ghost use Rattle.tri_cover.specs.Bounded.{IsSpan};
+ghost use Rattle.int_raster.specs.Filled.{AreLimits};
 
 use crate::rows::Rows;
 use fix_math::Rect;
-use tri_cover::{Setup, Sides};
+use tri_cover::Setup;
 
 /// The end of a side that begins at a place, within a limit.
 #[inline(always)]
@@ -43,28 +44,32 @@ pub(crate) fn meets(setup: &Setup, cut: &Rect, rows: &Rows) -> bool
     first < after
 }
 
-/// The columns of a row of the cut that a triangle changes, by its sides in the row.
+/// The columns of a cut on a surface of a width, from the first up to the second number.
+pub(crate) fn drawn_limits(cut: &Rect, width: u16) -> (u16, u16)
+    ensures { AreLimits result cut.now width }
+{
+    (cut.x, end_within(cut.x, cut.w, width))
+}
+
+/// The columns of a row of the cut that a triangle changes, from a list of rows' columns.
 #[inline(always)]
 pub(crate) fn drawn_columns(
+    spans: &[(u16, u16)],
+    place: u16,
+    limits: (u16, u16),
     setup: &Setup,
-    sides: &Sides,
     cut: &Rect,
     y: u16,
     width: u16,
 ) -> (u16, u16)
-    requires sides { AreSides sides.now setup.now y }
+    requires room { place < length spans.now }
+    requires limits { AreLimits limits cut.now width }
+    requires held { IsSpan (slice_index_or spans.now place (0, 0)) (setup_seen setup.now).triangle limits.0 limits.1 y }
     requires upper { cut.now.y ≤ y }
     requires lower { y < cut.now.y + cut.now.h }
     ensures columns { (x : ℕ) → x < width → (contains (rect_seen cut.now) x y && covers (setup_seen setup.now).triangle x y) ≡ (nat_le result.0 x && nat_lt x result.1) }
     ensures order { result.0 ≤ result.1 }
     ensures within { result.1 ≤ width }
 {
-    let (first, after) = setup.columns_of(sides, y, width);
-    let first = first.max(cut.x);
-    let after = after.min(end_within(cut.x, cut.w, width));
-    if first < after {
-        (first, after)
-    } else {
-        (0, 0)
-    }
+    spans[place as usize]
 }

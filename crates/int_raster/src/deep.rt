@@ -1,17 +1,20 @@
 // Draws on a surface with depth.
-ghost use Rattle.std.specs.Prelude.{◌≡◌, ◌≤◌, ◌<◌, ◌+◌, ◌*◌, ℕ, true, length, map, IfSome, IsTrue};
+ghost use Rattle.std.specs.Prelude.{◌≡◌, ◌≤◌, ◌<◌, ◌+◌, ◌*◌, ℕ, true, List, length, map, IfSome, IsTrue};
 ghost use Rattle.gfx_model.specs.Number.{map_from};
 ghost use Rattle.gfx_model.specs.Raster.{covers, fragment_at};
+ghost use Rattle.gfx_model.specs.Pixel.{Pixel};
 ghost use Rattle.gfx_model.specs.World.{painted};
 ghost use Rattle.tri_cover.specs.Shown.{setup_seen};
+ghost use Rattle.tri_cover.specs.Bounded.{HoldsSpans};
 ghost use Rattle.int_raster.specs.Drawing.{prepared_step};
-ghost use Rattle.int_raster.specs.Places.{deep_pixels, spanned, by_place, below, in_row};
+ghost use Rattle.int_raster.specs.Places.{above, deep_pixels, spanned, by_place, below, in_row};
+ghost use Rattle.int_raster.specs.Filled.{AreLimits, AreInCut};
 ghost use Rattle.int_raster.specs.Painted.{PaintsSpan, Paints, HoldsPiece, HoldsDepths, AreDepths, HasDepths, HasWideDepths, HasSpanDepths, HasWideSpanDepths};
 ghost use Rattle.int_raster.specs.Rules.{IsPlain, IsMix, IsLevel, IsOver, IsFree};
 ghost use Rattle.int_raster.specs.Seen.{paint_seen, prepared_seen, step_seen, change_seen};
 
 use crate::colors::triangle_colors;
-use crate::columns::{drawn_columns, drawn_rows, meets};
+use crate::columns::{drawn_columns, drawn_limits, drawn_rows, meets};
 use crate::deep_spans::{fill, step, step_exactly, store, store_level, store_shade};
 use crate::lists::Prepared;
 use crate::opaque::{Level, Mix, Rule, rule_of};
@@ -279,6 +282,53 @@ fn brush_unless<'x>(
     brush_of(setup, draw, width, height)
 }
 
+/// Draws a triangle with its depth in so many rows, whose columns a list has.
+fn rows_tested(
+    colors: &mut [[u8; 4]],
+    depths: &mut [[u8; 4]],
+    rows: &Rows,
+    from: u16,
+    count: u16,
+    spans: &[(u16, u16)],
+    limits: (u16, u16),
+    level: &Option<Level>,
+    brush: &Option<Brush>,
+    rule: &Option<Rule>,
+    mixing: &Option<Mix>,
+    setup: &Setup,
+    draw: &Prepared,
+)
+    requires whole { length colors.old ≡ rows.now.width * rows.now.count }
+    requires same { length depths.old ≡ length colors.old }
+    requires level { IfSome level.now (λ l. IsLevel l draw.now setup.now) }
+    requires paints { IfSome brush.now (λ b. Paints b.painter draw.now setup.now rows.now.width (rows.now.top + rows.now.count)) }
+    requires depths { IfSome brush.now (λ b. HasWideDepths b.depth setup.now rows.now.width (rows.now.top + rows.now.count)) }
+    requires short { IfSome brush.now (λ b. IfSome b.short (λ r. HasDepths r setup.now rows.now.width (rows.now.top + rows.now.count))) }
+    requires rule { IfSome rule.now (λ r. IsPlain r draw.now setup.now) }
+    requires mixing { IfSome mixing.now (λ m. IsMix m draw.now setup.now) }
+    requires inside { from + count ≤ rows.now.count }
+    requires cut { AreInCut rows.now draw.now.cut from (from + count) }
+    requires limits { AreLimits limits draw.now.cut rows.now.width }
+    requires room { count ≤ length spans.now }
+    requires held { HoldsSpans spans.now (setup_seen setup.now).triangle limits.0 limits.1 (rows.now.top + from) count }
+    ensures { (start : List Pixel) → deep_pixels colors.old depths.old ≡ map_from (above rows.now.width from (below rows.now.top (change_seen draw.now setup.now))) 0 start → deep_pixels colors.new depths.new ≡ map_from (above rows.now.width (from + count) (below rows.now.top (change_seen draw.now setup.now))) 0 start }
+{
+    for k in 0..count {
+        let row = from + k;
+        let y = rows.top + row;
+        let (first, after) = drawn_columns(spans, k, limits, setup, &draw.cut, y, rows.width);
+        let span = Span {
+            start: row as usize * rows.width as usize,
+            y,
+            first,
+            after,
+        };
+        draw_span(
+            colors, depths, &span, level, brush, rule, mixing, setup, draw,
+        );
+    }
+}
+
 /// Draws a triangle pixel by pixel with its depth.
 fn triangle_tested(
     colors: &mut [[u8; 4]],
@@ -296,20 +346,17 @@ fn triangle_tested(
     let level = level_of(setup, draw, &rule);
     let brush = brush_unless(&level, setup, draw, rows.width, rows.bottom());
     let (top, bottom) = drawn_rows(setup, &draw.cut, rows);
-    let mut sides = setup.sides(rows.top + top);
-    for row in top..bottom {
-        let y = rows.top + row;
-        let (first, after) = drawn_columns(setup, &sides, &draw.cut, y, rows.width);
-        let span = Span {
-            start: row as usize * rows.width as usize,
-            y,
-            first,
-            after,
-        };
-        draw_span(
-            colors, depths, &span, &level, &brush, &rule, &mixing, setup, draw,
+    let limits = drawn_limits(&draw.cut, rows.width);
+    let mut spans = [(0, 0); 32];
+    let mut row = top;
+    while row < bottom {
+        let count = (bottom - row).min(32);
+        setup.spans(&mut spans, rows.top + row, count, limits.0, limits.1);
+        rows_tested(
+            colors, depths, rows, row, count, &spans, limits, &level, &brush, &rule, &mixing,
+            setup, draw,
         );
-        sides = setup.next_sides(sides, y);
+        row += count;
     }
 }
 

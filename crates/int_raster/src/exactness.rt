@@ -1,7 +1,10 @@
 // Draws by painters and ramps beside the same draws by the exact means at each pixel.
-ghost use Rattle.std.specs.Prelude.{◌≡◌, ◌≤◌, ◌*◌, length};
+ghost use Rattle.std.specs.Prelude.{◌≡◌, ◌≤◌, ◌<◌, ◌+◌, ◌*◌, ℕ, length, ◌&&◌, nat_le, nat_lt};
+ghost use Rattle.gfx_model.specs.Raster.{contains, covers};
+ghost use Rattle.fix_math.specs.Seen.{rect_seen};
+ghost use Rattle.tri_cover.specs.Shown.{setup_seen};
 
-use crate::columns::{drawn_columns, drawn_rows};
+use crate::columns::{drawn_limits, drawn_rows};
 use crate::rows::Rows;
 use crate::spans::Span;
 use crate::tests::{blank, setups, state, stencil, vertex};
@@ -14,13 +17,32 @@ use std::thread::Threads;
 use tri_cover::Setup;
 use vertex_layout::Vertex;
 
+/// The columns of a row of the cut that a triangle changes, by its sides in this row alone.
+fn columns_exactly(setup: &Setup, cut: &Rect, y: u16, width: u16) -> (u16, u16)
+    requires upper { cut.now.y ≤ y }
+    requires lower { y < cut.now.y + cut.now.h }
+    ensures columns { (x : ℕ) → x < width → (contains (rect_seen cut.now) x y && covers (setup_seen setup.now).triangle x y) ≡ (nat_le result.0 x && nat_lt x result.1) }
+    ensures order { result.0 ≤ result.1 }
+    ensures within { result.1 ≤ width }
+{
+    let (from, to) = setup.span(y, width);
+    let (first, after) = drawn_limits(cut, width);
+    let first = first.max(from);
+    let after = after.min(to);
+    if first < after {
+        (first, after)
+    } else {
+        (0, 0)
+    }
+}
+
 fn flat_exactly(colors: &mut [[u8; 4]], rows: &Rows, setup: &Setup, draw: &Prepared)
     requires whole { length colors.old ≡ rows.now.width * rows.now.count }
 {
     let (top, bottom) = drawn_rows(setup, &draw.cut, rows);
     for row in top..bottom {
         let y = rows.top + row;
-        let (first, after) = drawn_columns(setup, &setup.sides(y), &draw.cut, y, rows.width);
+        let (first, after) = columns_exactly(setup, &draw.cut, y, rows.width);
         let span = Span {
             start: row as usize * rows.width as usize,
             y,
@@ -44,7 +66,7 @@ fn deep_exactly(
     let (top, bottom) = drawn_rows(setup, &draw.cut, rows);
     for row in top..bottom {
         let y = rows.top + row;
-        let (first, after) = drawn_columns(setup, &setup.sides(y), &draw.cut, y, rows.width);
+        let (first, after) = columns_exactly(setup, &draw.cut, y, rows.width);
         let span = Span {
             start: row as usize * rows.width as usize,
             y,

@@ -33,6 +33,10 @@ covered_columns e f g a b c x y w he hf hg h =
     all_three (is_on_side e y x) (is_on_side f y x) (is_on_side g y x) (is_between (pos 0) (pos w) x) (in_row x w h)
     ∙ (λ i. (side_is e a b x y he i && side_is f b c x y hf i) && side_is g c a x y hg i)
 
+-- three sides leave the covered columns
+pub covered_sides : (e f g : Edge) (a b c : ScreenVertex) (x y : ℕ) → IsEdge e a b → IsEdge f b c → IsEdge g c a → (((true && is_on_side e y x) && is_on_side f y x) && is_on_side g y x) ≡ covers (triangle_seen a b c) x y
+covered_sides e f g a b c x y he hf hg i = (side_is e a b x y he i && side_is f b c x y hf i) && side_is g c a x y hg i
+
 -- what each cut keeps, kept by all three
 pub cut_thrice : (w f1 f2 f3 a1 a2 a3 : ℤ) → f1 ≤ℤ f2 → f2 ≤ℤ f3 → (f1 <ℤ a1 → a1 ≤ℤ w) → (f2 <ℤ a2 → a2 ≤ℤ a1) → (f3 <ℤ a3 → a3 ≤ℤ a2) → f3 <ℤ a3 → a3 ≤ℤ w
 cut_thrice w f1 f2 f3 a1 a2 a3 g2 g3 h1 h2 h3 h =

@@ -13,3 +13,5 @@ pub mod Aligned
 pub mod Raised
 pub mod Widened
 pub mod Walks
+pub mod Ends
+pub mod Rowed

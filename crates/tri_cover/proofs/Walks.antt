@@ -36,7 +36,7 @@ rest_high (negsuc a) (pos n) h =
     omega (arith, ints, b)
 rest_high z (negsuc n) h = absurd (omega (arith, ints, h))
 
-floor_near : (z n : ℤ) → pos 0 <ℤ n → unsigned_abs (int_div_euclid z n) ≤ unsigned_abs z
+pub floor_near : (z n : ℤ) → pos 0 <ℤ n → unsigned_abs (int_div_euclid z n) ≤ unsigned_abs z
 floor_near (pos a) (pos n) h = div-le_self a n
 floor_near (negsuc a) (pos n) h = omega (arith, div-le_self a n)
 floor_near z (negsuc n) h = absurd (omega (arith, ints, h))

@@ -5,3 +5,4 @@ pub mod Slope
 pub mod Stepped
 pub mod Widened
 pub mod Walked
+pub mod Bounded

@@ -2,6 +2,7 @@
 #![tactic(auto)]
 
 mod averages;
+mod bounds;
 mod corners;
 mod edges;
 mod inverses;

@@ -140,6 +140,49 @@ fn sides_are_stepped_over_rows(rt: HostRuntime) {
     }
 }
 
+// The columns of rows in lists, beside those of each row by itself.
+fn list_rows<R: Abort>(rt: &R, setup: &Setup, first: u16, after: u16) {
+    let (top, bottom) = setup.rows(100);
+    let mut spans = [(0, 0); 32];
+    let mut row = top;
+    while row < bottom {
+        let count = (bottom - row).min(32);
+        setup.spans(&mut spans, row, count, first, after);
+        for k in 0..count {
+            let (from, to) = setup.span(row + k, after);
+            let from = from.max(first);
+            let want = if from < to { (from, to) } else { (0, 0) };
+            assert_eq!(rt; spans[k as usize], want, "row {row} and {k}");
+        }
+        row += count;
+    }
+}
+
+#[test]
+fn lists_of_rows_have_their_columns(rt: HostRuntime) {
+    for (a, b, c) in [
+        // a sliver, level edges, one of them through pixel centres, and corners on all sides of the surface
+        (corner(700, 3), corner(901, 25021), corner(690, 9000)),
+        (corner(130, 300), corner(9001, 300), corner(4007, 25345)),
+        (corner(100, 100), corner(4000, 1408), corner(50, 1408)),
+        (
+            corner(5000, -7001),
+            corner(16001, 4096),
+            corner(-3001, 16300),
+        ),
+        (
+            corner(-32000, -31000),
+            corner(32001, 1001),
+            corner(-1777, 32111),
+        ),
+    ] {
+        if let Some(setup) = Setup::new(a, b, c, 0) {
+            list_rows(&rt, &setup, 0, 64);
+            list_rows(&rt, &setup, 5, 17);
+        }
+    }
+}
+
 #[test]
 fn ramps_are_there_and_exact(rt: HostRuntime) -> Result<(), Fail> {
     let setup = Setup::new(corner(13, 5), corner(4000, 900), corner(-700, 4099), 0).expect(

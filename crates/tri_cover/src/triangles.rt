@@ -7,6 +7,7 @@ ghost use Rattle.tri_cover.specs.Stepped.{AreSteps, IsNearby};
 ghost use Rattle.tri_cover.specs.Seen.{screen_seen, triangle_seen, IsEdge, IsNear, fragment_seen};
 
 use crate::averages::{Weights, mean_channel, mean_depth, mean_place};
+use crate::bounds::{Bounds, cuts, no_bounds, with_edge};
 use crate::corners::{Fragment, ScreenVertex};
 use crate::edges::{Edge, edge_between, gained_by_row};
 use crate::inverses::Inverse;
@@ -121,6 +122,20 @@ fn keeps(front: bool, back: bool, cull: u8) -> bool
     (front && cull != 1) || (back && cull != 2)
 }
 
+/// The columns of a span that are not before a column.
+fn columns_from(columns: (u16, u16), first: u16) -> (u16, u16)
+    ensures columns { (x : ℕ) → (nat_le result.0 x && nat_lt x result.1) ≡ (nat_le first x && (nat_le columns.0 x && nat_lt x columns.1)) }
+    ensures order { result.0 ≤ result.1 }
+    ensures within { result.1 ≤ columns.1 }
+{
+    let first = first.max(columns.0);
+    if first < columns.1 {
+        (first, columns.1)
+    } else {
+        (0, 0)
+    }
+}
+
 /// The triangle that is the clockwise way round already.
 fn clockwise(a: ScreenVertex, b: ScreenVertex, c: ScreenVertex, is_front: bool) -> Setup
     requires turned { pos 0 <ℤ area_spec (triangle_seen a b c) }
@@ -145,6 +160,8 @@ impl Setup {
     ghost use Rattle.std.specs.Prelude.{option_map};
     ghost use Rattle.tri_cover.specs.Shown.{setup_seen, shown_unless_culled};
     ghost use Rattle.tri_cover.specs.Walked.{AreSides};
+    ghost use Rattle.tri_cover.specs.Bounded.{AreTame, is_let, HoldsSpans};
+    ghost use Rattle.std.specs.Prelude.{length};
 
     /// The triangle, the clockwise way round. `None` exactly where it has no area or is culled: by 1 where it faces the
     /// front, by 2 where it faces the back.
@@ -370,6 +387,49 @@ impl Setup {
         let (first, after) = cut(first, after, &sides.bc, &self.bc, row);
         let (first, after) = cut(first, after, &sides.ca, &self.ca, row);
         ends(first, after, width)
+    }
+
+    /// The bounds of so many rows from a row on, where the sides' numbers are not too large.
+    #[inline(always)]
+    fn bounds(&self, row: u16, count: u16) -> Option<Bounds>
+        requires few { count ≤ 32 }
+        ensures tame { IfSome result (λ b. AreTame b) }
+        ensures columns { IfSome result (λ b. (k x : ℕ) → k < count → x < 65536 → is_let b k x ≡ covers (triangle_seen self.now.a self.now.b self.now.c) x (row + k)) }
+    {
+        let bounds = with_edge(&no_bounds(), &self.ab, row, count)?;
+        let bounds = with_edge(&bounds, &self.bc, row, count)?;
+        let bounds = with_edge(&bounds, &self.ca, row, count)?;
+        Some(bounds)
+    }
+
+    /// The covered columns of so many rows from a row on, by sides that are stepped.
+    fn stepped_spans(&self, spans: &mut [(u16, u16)], row: u16, count: u16, first: u16, after: u16)
+        requires room { count ≤ length spans.old }
+        requires rows { row + count ≤ 65535 }
+        ensures same { length spans.new ≡ length spans.old }
+        ensures spans { HoldsSpans spans.new (triangle_seen self.now.a self.now.b self.now.c) first after row count }
+    {
+        let mut sides = self.sides(row);
+        for k in 0..count {
+            let columns = self.columns_of(&sides, row + k, after);
+            spans[k as usize] = columns_from(columns, first);
+            sides = self.next_sides(sides, row + k);
+        }
+    }
+
+    /// The columns from first up to after that are covered in so many rows from a row on, into the front of a list: each
+    /// from its first up to its second number.
+    pub fn spans(&self, spans: &mut [(u16, u16)], row: u16, count: u16, first: u16, after: u16)
+        requires room { count ≤ length spans.old }
+        requires few { count ≤ 32 }
+        requires rows { row + count ≤ 65535 }
+        ensures same { length spans.new ≡ length spans.old }
+        ensures spans { HoldsSpans spans.new (triangle_seen self.now.a self.now.b self.now.c) first after row count }
+    {
+        match self.bounds(row, count) {
+            Some(bounds) => cuts(spans, &bounds, count, first, after),
+            None => self.stepped_spans(spans, row, count, first, after),
+        }
     }
 
     /// The covered columns of a row, from the first up to the second number.

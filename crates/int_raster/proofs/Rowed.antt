@@ -1,0 +1,20 @@
+-- Rows whose columns a list has.
+use Rattle.std.proofs.Common.{◌≡◌, ℕ, ◌+◌, ◌<◌, ◌≤◌, ◌&&◌, nat_le, nat_lt, List, slice_index_or, ap, sym, subst, ◌∙◌, arith}
+use Rattle.gfx_model.specs.Raster.{contains, covers}
+use Rattle.fix_math.specs.Seen.{rect_seen}
+use Rattle.fix_math.specs.declared.geometry.Rect.{Rect}
+use Rattle.tri_cover.specs.Bounded.{IsSpan, HoldsSpans}
+use Rattle.tri_cover.specs.Shown.{setup_seen}
+use Rattle.tri_cover.specs.declared.triangles.Setup.{Setup}
+use Rattle.int_raster.specs.Filled.{AreLimits}
+
+-- the columns between limits that a triangle covers are those of the cut
+pub drawn_here : (s : Setup) (span limits : ℕ × ℕ) (cut : Rect) (y width x : ℕ) → IsSpan span (setup_seen s).triangle limits.0 limits.1 y → AreLimits limits cut width → cut.y ≤ y → y < cut.y + cut.h → x < width →
+    (contains (rect_seen cut) x y && covers (setup_seen s).triangle x y) ≡ (nat_le span.0 x && nat_lt x span.1)
+drawn_here s span limits cut y width x h l up lo b = ap (λ v. v && covers (setup_seen s).triangle x y) (l.columns x y b up lo) ∙ sym (h.columns x)
+
+-- the columns of a row, the rows counted from a band's first
+pub span_here : (spans : List (ℕ × ℕ)) (s : Setup) (limits : ℕ × ℕ) (top from k count : ℕ) → HoldsSpans spans (setup_seen s).triangle limits.0 limits.1 (top + from) count → k < count → IsSpan (slice_index_or spans k (0, 0)) (setup_seen s).triangle limits.0 limits.1 (top + (from + k))
+span_here spans s limits top from k count h l =
+    let e : top + from + k ≡ top + (from + k) = omega arith in
+    subst (λ y. IsSpan (slice_index_or spans k (0, 0)) (setup_seen s).triangle limits.0 limits.1 y) e (h k l)
