@@ -1,5 +1,5 @@
 -- A row of commands of which the first ones are executed.
-use Rattle.std.proofs.Common.{◌≡◌, ℕ, zero, suc, true, List, [], ◌∷◌, ◌++◌, take, drop, Some, Result, Ok, Err, OnErr, refl, sym, ap, ◌∙◌}
+use Rattle.std.proofs.Common.{◌≡◌, ◌≢◌, ℕ, zero, suc, true, List, [], ◌∷◌, ◌++◌, take, drop, Some, Result, Ok, Err, OnErr, refl, sym, ap, ◌∙◌}
 use Rattle.std.specs.List.{slice_get}
 use Rattle.std.proofs.lemmas.List.Sums.{fold-append}
 use Rattle.gfx_model.specs.Commands.{Command}
@@ -52,11 +52,12 @@ on_err_holds (Err e) p = p
 
 -- the next command takes memory, and it was not there
 pub begun_stopped : (payloads : List (List ℕ)) (first : Stores) (row rest rest' : List Command) (now now' : Stores) (c : Command) → HasBegun payloads first row rest now
-    → rest ≡ c ∷ rest' → takes_memory c ≡ true → now' ≡ now → IsStopped payloads row first now'
-begun_stopped payloads first row rest rest' now now' c b e takes kept = record {
+    → rest ≡ c ∷ rest' → takes_memory c ≡ true → after_command payloads now c ≢ now → now' ≡ now → IsStopped payloads row first now'
+begun_stopped payloads first row rest rest' now now' c b e takes changes kept = record {
   before = b.0;
   command = c;
   there = there_of b.0 row c rest' (sym b.1 ∙ e);
   takes = takes;
+  changes = λ same. changes (ap (λ (h : Stores). after_command payloads h c) (sym kept) ∙ same ∙ kept);
   executed = kept ∙ b.2;
 }

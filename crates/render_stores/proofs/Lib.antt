@@ -1,3 +1,4 @@
 mod Frees
 mod Makes
+mod Changes
 mod Begun

@@ -1,5 +1,5 @@
 // What commands do to layouts, buffers and uniforms; each passes over what cannot be.
-ghost use Rattle.std.specs.Prelude.{◌≡◌, Some, OnOk, OnErr, IsSome, length, option_map, slice_get, is_some};
+ghost use Rattle.std.specs.Prelude.{◌≡◌, ◌≢◌, Some, OnOk, OnErr, IsSome, length, option_map, slice_get, is_some};
 ghost use Rattle.gfx_words.specs.Seen.{kind_seen, uniform_seen};
 ghost use Rattle.store_model.specs.Slots.{at};
 ghost use Rattle.store_model.specs.Buffers.{bytes_at};
@@ -31,6 +31,7 @@ fn put_vertices(
 ) -> Result<(), AllocError>
     ensures made { OnOk result (buffers.new ≡ vertices_made index (at buffers.old.layouts layout) (Some bytes.now) buffers.old) }
     ensures kept { OnErr result (buffers.new ≡ buffers.old) }
+    ensures changes { OnErr result (vertices_made index (at buffers.old.layouts layout) (Some bytes.now) buffers.old ≢ buffers.old) }
 {
     if buffers.layout_of(Kind::Layout, layout).is_none() {
         return Ok(());
@@ -53,6 +54,7 @@ pub(crate) fn make_vertices(
 ) -> Result<(), AllocError>
     ensures made { OnOk result (buffers.new ≡ vertices_made index (at buffers.old.layouts layout) (slice_get (payloads_seen payloads.now) payload) buffers.old) }
     ensures kept { OnErr result (buffers.new ≡ buffers.old) }
+    ensures changes { OnErr result (vertices_made index (at buffers.old.layouts layout) (slice_get (payloads_seen payloads.now) payload) buffers.old ≢ buffers.old) }
 {
     match payload_at(payloads, payload) {
         Some(bytes) => {
@@ -71,6 +73,7 @@ fn put_indices(
 ) -> Result<(), AllocError>
     ensures made { OnOk result (buffers.new ≡ indices_made index (Some bytes.now) buffers.old) }
     ensures kept { OnErr result (buffers.new ≡ buffers.old) }
+    ensures changes { OnErr result (indices_made index (Some bytes.now) buffers.old ≢ buffers.old) }
 {
     if is_index_buffer_free(buffers, index) {
         let bytes = bytes.to_vec(alloc)?;
@@ -89,6 +92,7 @@ pub(crate) fn make_indices(
 ) -> Result<(), AllocError>
     ensures made { OnOk result (buffers.new ≡ indices_made index (slice_get (payloads_seen payloads.now) payload) buffers.old) }
     ensures kept { OnErr result (buffers.new ≡ buffers.old) }
+    ensures changes { OnErr result (indices_made index (slice_get (payloads_seen payloads.now) payload) buffers.old ≢ buffers.old) }
 {
     match payload_at(payloads, payload) {
         Some(bytes) => {
@@ -109,6 +113,7 @@ fn put_uniform(
 ) -> Result<(), AllocError>
     ensures made { OnOk result (buffers.new ≡ uniform_made index serial (Some (uniform_seen kind)) (Some name.now) buffers.old) }
     ensures kept { OnErr result (buffers.new ≡ buffers.old) }
+    ensures changes { OnErr result (uniform_made index serial (Some (uniform_seen kind)) (Some name.now) buffers.old ≢ buffers.old) }
 {
     if is_uniform_free(buffers, index) {
         let name = name.to_vec(alloc)?;
@@ -129,6 +134,7 @@ pub(crate) fn make_uniform(
 ) -> Result<(), AllocError>
     ensures made { OnOk result (buffers.new ≡ uniform_made index serial (option_map uniform_seen kind) (slice_get (payloads_seen payloads.now) payload) buffers.old) }
     ensures kept { OnErr result (buffers.new ≡ buffers.old) }
+    ensures changes { OnErr result (uniform_made index serial (option_map uniform_seen kind) (slice_get (payloads_seen payloads.now) payload) buffers.old ≢ buffers.old) }
 {
     match (kind, payload_at(payloads, payload)) {
         (Some(kind), Some(name)) => {

@@ -1,5 +1,5 @@
 // Executes the commands of a frame on the stores.
-ghost use Rattle.std.specs.Prelude.{◌≡◌, true, Some, OnOk, OnErr, option_map};
+ghost use Rattle.std.specs.Prelude.{◌≡◌, ◌≢◌, true, Some, OnOk, OnErr, option_map};
 ghost use Rattle.gfx_words.specs.Seen.{kind_seen, program_seen};
 ghost use Rattle.cmd_buffer.specs.Seen.{command_seen};
 ghost use Rattle.store_laws.specs.ByIndex.{after_command, all_commanded, program_made, destroyed_by};
@@ -61,7 +61,8 @@ fn destroy_where(stores: &mut RenderStores, kind: Option<Kind>, index: u16)
     }
 }
 
-/// Executes a command. Where memory is missing, it changes nothing; that comes only of a command that takes it.
+/// Executes a command. Where memory is missing, it changes nothing; that comes only of a command that takes it, and that would have
+/// changed the stores.
 fn execute(
     alloc: Global,
     stores: &mut RenderStores,
@@ -71,6 +72,7 @@ fn execute(
     ensures done { OnOk result (stores_seen stores.new ≡ after_command (payloads_seen payloads.now) (stores_seen stores.old) (command_seen command)) }
     ensures kept { OnErr result (stores_seen stores.new ≡ stores_seen stores.old) }
     ensures needs { OnErr result (takes_memory (command_seen command) ≡ true) }
+    ensures changes { OnErr result (after_command (payloads_seen payloads.now) (stores_seen stores.old) (command_seen command) ≢ stores_seen stores.old) }
 {
     match command {
         Command::CreateLayout { index, layout } => make_layout(&mut stores.buffers, index, layout),
@@ -153,7 +155,8 @@ fn execute(
 }
 
 /// Executes a row of commands in order. Creates of buffers, of textures and of uniforms take memory, for what payloads are copied to and
-/// for texels, and no other command does. Where memory is missing, the commands before the one that needed it are executed, and no other.
+/// for texels, and no other command does; nor does a create that is passed over. Where memory is missing, the commands before the one that
+/// needed it are executed, and no other.
 pub fn execute_all(
     alloc: Global,
     stores: &mut RenderStores,

@@ -1,5 +1,5 @@
 // What commands do to textures and frame buffers; each passes over what cannot be.
-ghost use Rattle.std.specs.Prelude.{◌≡◌, Some, OnOk, OnErr, option_map, slice_get, is_none};
+ghost use Rattle.std.specs.Prelude.{◌≡◌, ◌≢◌, Some, OnOk, OnErr, option_map, slice_get, is_none};
 ghost use Rattle.gfx_words.specs.Seen.{format_seen, refusal_seen};
 ghost use Rattle.fix_math.specs.Seen.{rect_seen};
 ghost use Rattle.texture_store.specs.Seen.{source_seen};
@@ -48,6 +48,7 @@ fn put_texture(
 ) -> Result<(), AllocError>
     ensures made { OnOk result (textures.new ≡ texture_made index width height (Some (format_seen format)) (Some (source_seen source.entry)) textures.old) }
     ensures kept { OnErr result (textures.new ≡ textures.old) }
+    ensures changes { OnErr result (texture_made index width height (Some (format_seen format)) (Some (source_seen source.entry)) textures.old ≢ textures.old) }
 {
     if !is_texture_free(textures, index) {
         return Ok(());
@@ -75,6 +76,7 @@ pub(crate) fn make_texture(
 ) -> Result<(), AllocError>
     ensures made { OnOk result (textures.new ≡ texture_made index width height (option_map format_seen format) (option_map source_seen source.entry) textures.old) }
     ensures kept { OnErr result (textures.new ≡ textures.old) }
+    ensures changes { OnErr result (texture_made index width height (option_map format_seen format) (option_map source_seen source.entry) textures.old ≢ textures.old) }
 {
     match (format, source) {
         (Some(format), Some(source)) => {

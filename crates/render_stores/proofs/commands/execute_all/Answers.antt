@@ -10,4 +10,4 @@ returns-clause-done c = begun_all _ _ _ _ _ c.loop-command.invariant c.in_defaul
 pub returns-in_err-execute-clause-begun : goal.returns-in_err-execute-clause-begun
 returns-in_err-execute-clause-begun c =
     on_err_holds c.from_residual.result
-    (begun_stopped _ _ _ _ _ _ _ _ c.loop-command.invariant c.in-Some.ensures c.in_err-execute.ensures.needs c.in_err-execute.ensures.kept)
+    (begun_stopped _ _ _ _ _ _ _ _ c.loop-command.invariant c.in-Some.ensures c.in_err-execute.ensures.needs c.in_err-execute.ensures.changes c.in_err-execute.ensures.kept)
