@@ -1,6 +1,6 @@
 -- The draws of a view on its target, taken out once.
-use Rattle.std.proofs.Common.{◌≡◌, ◌≢◌, ℕ, ◌+◌, ◌<◌, true, List, [], ◌∷◌, length, get_or, take, Option, Some, None, refl, sym, ap, ◌∙◌, arith}
-use Rattle.std.proofs.lemmas.List.{take-map, take_all}
+use Rattle.std.proofs.Common.{◌≡◌, ◌≢◌, ℕ, ◌+◌, ◌<◌, true, List, [], ◌∷◌, length, get_or, take, Option, Some, None, refl, sym, ap, subst, ◌∙◌, inl, inr, arith}
+use Rattle.std.proofs.lemmas.List.{take-map}
 use Rattle.std.proofs.lemmas.Option.{none-some, same_Some}
 use Rattle.std.specs.Prelude.{fold, map, ◌++◌, IfSome}
 use Rattle.std.proofs.lemmas.List.Sums.{fold-append}
@@ -16,7 +16,8 @@ use Rattle.store_model.proofs.AttachLaws.{apart_of}
 use Rattle.store_laws.specs.ByIndex.{Stores, with_buffers, with_textures, on_target, textures_out, do_by_index}
 use Rattle.store_laws.specs.Listed.{Drawing, drawn_in, values_after, listed, IsApartTarget}
 use Rattle.int_raster.specs.Drawing.{PreparedDraw, drawn_prepared}
-use Rattle.view_drawing.specs.Entered.{blit_in, AreSomeBlits, AreSomeGiven, HaveGiven, IsBegun}
+use Rattle.view_drawing.specs.Entered.{blit_in, StopsAtBlit, StopsAtDraw, HaveGiven, IsBegun}
+use Rattle.view_drawing.specs.Memory.{CanDraw}
 use Rattle.view_drawing.specs.Prepared.{DoAllTo}
 use Rattle.view_drawing.proofs.Folds.{fold_more}
 use Rattle.view_drawing.proofs.TargetLaws.{surface_with, put_changed, not_taken}
@@ -102,10 +103,10 @@ after_blits view h blits items textures e =
 -- ---- where memory was wanting
 
 -- the values of one item more, where it wants memory
-pub some_given : {X : Type 0} (width height : ℕ) (out : Textures) (programs : List (Option ProgramKind)) (view : View) (g : X → Item) (xs : List X) (i : ℕ) (d : X) (b c e : Buffers) (l m : List PreparedDraw) → i < length xs
-    → d ≡ get_or xs i d → DoAllTo width height out programs view (map g (take i xs)) b l c m → e ≡ values_after c (g d) → AreSomeGiven (map g xs) b e
-some_given width height out programs view g xs i d b c e l m lt same all is =
-    (i + 1, is ∙ ap (λ x. values_after c (g x)) same ∙ ap (λ x. values_after x (g (get_or xs i d))) before ∙ sym (fold_more values_after g b xs i d lt) ∙ ap (fold values_after b) (sym (take-map g (i + 1) xs)))
+pub values_given : {X : Type 0} (width height : ℕ) (out : Textures) (programs : List (Option ProgramKind)) (view : View) (g : X → Item) (xs : List X) (i : ℕ) (d : X) (b c e : Buffers) (l m : List PreparedDraw) → i < length xs
+    → d ≡ get_or xs i d → DoAllTo width height out programs view (map g (take i xs)) b l c m → e ≡ values_after c (g d) → e ≡ fold values_after b (take (i + 1) (map g xs))
+values_given width height out programs view g xs i d b c e l m lt same all is =
+    is ∙ ap (λ x. values_after c (g x)) same ∙ ap (λ x. values_after x (g (get_or xs i d))) before ∙ sym (fold_more values_after g b xs i d lt) ∙ ap (fold values_after b) (sym (take-map g (i + 1) xs))
   where
     s : Surface
     s = record { color = record { width = width; height = height; texels = [] }; depth = None }
@@ -113,25 +114,45 @@ some_given width height out programs view g xs i d b c e l m lt same all is =
     before : c ≡ fold values_after b (map g (take i xs))
     before = sym (ap (λ (x : Drawing). x.buffers) (all s refl refl)) ∙ values_drawn out programs view (record { buffers = b; surface = fold drawn_prepared s l }) (map g (take i xs))
 
-pub begun_by_blits : (view : View) (blits : List Blit) (items : List Item) (old c : Stores) (textures : Textures) → c ≡ on_target old view.target (clear_surface view) → AreSomeBlits blits c.textures textures
+pub begun_by_blits : (view : View) (blits : List Blit) (items : List Item) (old c : Stores) (textures : Textures) → c ≡ on_target old view.target (clear_surface view) → StopsAtBlit blits c.textures textures
     → IsBegun view blits items old (with_textures c textures)
-begun_by_blits view blits items old c textures e some =
-    (some.0, (0, ap (with_textures c) some.1 ∙ sym (blits_in view c (take some.0 blits)) ∙ ap (λ x. fold (do_by_index view) x (map blit_item (take some.0 blits))) e))
+begun_by_blits view blits items old c textures e stops = inl (record {
+  before = stops.before;
+  blit = stops.blit;
+  there = stops.there;
+  within = stops.within;
+  done =
+      ap (with_textures c) stops.done ∙ sym (blits_in view c (take stops.before blits))
+      ∙ ap (λ x. fold (do_by_index view) x (map blit_item (take stops.before blits))) e;
+})
+
+-- a changed target leaves the programs
+programs_kept : (h : Stores) (target : Option Handle) (change : Surface → Surface) → (on_target h target change).programs ≡ h.programs
+programs_kept h None change = refl
+programs_kept h (Some t) change = refl
 
 pub begun_by_items : (view : View) (blits : List Blit) (items : List Item) (old c new : Stores) (textures : Textures) → c ≡ on_target old view.target (clear_surface view) → textures ≡ fold blit_in c.textures blits
     → HaveGiven items (with_textures c textures) new → IsBegun view blits items old new
 begun_by_items view blits items old c new textures e f given =
-    (length blits, (given.0, given.1 ∙ (λ j. with_buffers (step j) (fold values_after (step j).buffers (take given.0 items)))))
+    let stops : StopsAtDraw c.programs items c.buffers given.0 = given.1.0 in inr (record {
+      before = stops.before;
+      item = stops.item;
+      there = stops.there;
+      draws = subst (λ (ps : List (Option ProgramKind)). CanDraw ps stops.item) (ap (λ (h : Stores). h.programs) e ∙ programs_kept old view.target (clear_surface view)) stops.draws;
+      done =
+          given.1.1
+          ∙ ap (with_buffers (with_textures c textures)) stops.given
+          ∙ (λ j. with_buffers (step j) (fold values_after (step j).buffers (take (stops.before + 1) items)));
+    })
   where
-    step : with_textures c textures ≡ fold (do_by_index view) (on_target old view.target (clear_surface view)) (map blit_item (take (length blits) blits))
+    step : with_textures c textures ≡ fold (do_by_index view) (on_target old view.target (clear_surface view)) (map blit_item blits)
     step =
         ap (with_textures c) f ∙ sym (blits_in view c blits)
         ∙ ap (λ x. fold (do_by_index view) x (map blit_item blits)) e
-        ∙ ap (λ bs. fold (do_by_index view) (on_target old view.target (clear_surface view)) (map blit_item bs)) (sym (take_all (length blits) blits (omega arith)))
 
 -- a target that is put back as it was
 pub given_on_target : (h : Stores) (items : List Item) (i : ℕ) (p : Texels × Option Texels) (s : Surface) (b : Buffers) (textures : Textures) → IsTextures h.textures → PutBackLaw → target_texels h.textures i ≡ Some p
-    → s ≡ surface_with p → textures ≡ target_back i s.color s.depth (target_out i h.textures) → AreSomeGiven items h.buffers b
+    → s ≡ surface_with p → textures ≡ target_back i s.color s.depth (target_out i h.textures) → StopsAtDraw h.programs items h.buffers b
     → HaveGiven items h (record { back = h.back; buffers = b; textures = textures; programs = h.programs })
 given_on_target h items i p s b textures facts law there same is given =
-    (given.0, (λ j. record { back = h.back; buffers = given.1 j; textures = (is ∙ (λ k. target_back i (same k).color (same k).depth (target_out i h.textures)) ∙ law h.textures i p.0 p.1 facts there) j; programs = h.programs }))
+    (b, (given, (λ j. record { back = h.back; buffers = b; textures = (is ∙ (λ k. target_back i (same k).color (same k).depth (target_out i h.textures)) ∙ law h.textures i p.0 p.1 facts there) j; programs = h.programs })))

@@ -6,8 +6,7 @@ ghost use Rattle.texture_store.specs.Seen.{sides_seen};
 ghost use Rattle.store_laws.specs.Listed.{drawn_in, listed, values_after};
 ghost use Rattle.render_stores.specs.Seen.{stores_seen};
 ghost use Rattle.view_drawing.specs.Recorded.{recorded_seen};
-ghost use Rattle.view_drawing.specs.Entered.{AreSomeGiven, HaveGiven};
-ghost use Rattle.view_drawing.specs.Memory.{HasDraw};
+ghost use Rattle.view_drawing.specs.Entered.{StopsAtDraw, HaveGiven};
 
 use crate::items::{Recorded, do_items, give_values};
 use crate::preparing::Stage;
@@ -33,8 +32,7 @@ fn draw_surface<D: Rasterizer>(
     requires wide { stage.now.width ≡ surface.old.color.width }
     requires high { stage.now.height ≡ surface.old.color.height }
     ensures drawn { OnOk result (fold (drawn_in stage.now.textures.now stage.now.programs.now (view_seen stage.now.view.now)) (record { buffers = buffers.old; surface = surface_seen surface.old }) (map recorded_seen items.now) ≡ record { buffers = buffers.new; surface = surface_seen surface.new }) }
-    ensures begun { OnErr result ((surface.new ≡ surface.old) × AreSomeGiven (map recorded_seen items.now) buffers.old buffers.new) }
-    ensures needs { OnErr result (HasDraw (map recorded_seen items.now)) }
+    ensures begun { OnErr result ((surface.new ≡ surface.old) × StopsAtDraw stage.now.programs.now (map recorded_seen items.now) buffers.old buffers.new) }
     ensures color { sides_seen surface.new.color ≡ sides_seen surface.old.color }
     ensures depth { option_map sides_seen surface.new.depth ≡ option_map sides_seen surface.old.depth }
 {
@@ -66,7 +64,6 @@ fn draw_target<D: Rasterizer>(
     requires { view.now.target ≡ Some target }
     ensures drawn { OnOk result (stores_seen stores.new ≡ listed (view_seen view.now) (stores_seen stores.old) (map recorded_seen items.now)) }
     ensures begun { OnErr result (HaveGiven (map recorded_seen items.now) (stores_seen stores.old) (stores_seen stores.new)) }
-    ensures needs { OnErr result (HasDraw (map recorded_seen items.now)) }
 {
     stores.textures.tell_facts();
     put_back_law();
@@ -111,7 +108,6 @@ fn draw_back<D: Rasterizer>(
     requires { view.now.target ≡ None }
     ensures drawn { OnOk result (stores_seen stores.new ≡ listed (view_seen view.now) (stores_seen stores.old) (map recorded_seen items.now)) }
     ensures begun { OnErr result (HaveGiven (map recorded_seen items.now) (stores_seen stores.old) (stores_seen stores.new)) }
-    ensures needs { OnErr result (HasDraw (map recorded_seen items.now)) }
 {
     let stage = Stage {
         textures: &stores.textures,
@@ -141,7 +137,6 @@ pub(crate) fn draw_listed<D: Rasterizer>(
 ) -> Result<(), AllocError>
     ensures drawn { OnOk result (stores_seen stores.new ≡ listed (view_seen view.now) (stores_seen stores.old) (map recorded_seen items.now)) }
     ensures begun { OnErr result (HaveGiven (map recorded_seen items.now) (stores_seen stores.old) (stores_seen stores.new)) }
-    ensures needs { OnErr result (HasDraw (map recorded_seen items.now)) }
 {
     match view.target {
         Some(target) => draw_target(rasterizer, stores, target, view, items, room),

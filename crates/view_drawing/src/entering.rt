@@ -1,5 +1,5 @@
 // A view that is entered.
-ghost use Rattle.std.specs.Prelude.{◌≡◌, ◌⊎◌, false, map, fold, OnOk, OnErr};
+ghost use Rattle.std.specs.Prelude.{◌≡◌, false, map, fold, OnOk, OnErr};
 ghost use Rattle.std.specs.List.{AllByRecursion};
 ghost use Rattle.gfx_model.specs.World.{is_blit};
 ghost use Rattle.view_table.specs.Seen.{view_seen};
@@ -8,7 +8,6 @@ ghost use Rattle.store_laws.specs.ByIndex.{do_by_index};
 ghost use Rattle.render_stores.specs.Seen.{stores_seen};
 ghost use Rattle.view_drawing.specs.Recorded.{recorded_seen};
 ghost use Rattle.view_drawing.specs.Entered.{entered, HaveGiven, IsBegun};
-ghost use Rattle.view_drawing.specs.Memory.{HasBlitWithin, HasDraw};
 
 use crate::blits::blit_all;
 use crate::drawing::draw_listed;
@@ -33,17 +32,18 @@ fn draw_items<D: Rasterizer>(
     requires { AllByRecursion (λ i. is_blit i ≡ false) (map recorded_seen items.now) }
     ensures done { OnOk result (stores_seen stores.new ≡ fold (do_by_index (view_seen view.now)) (stores_seen stores.old) (map recorded_seen items.now)) }
     ensures begun { OnErr result (HaveGiven (map recorded_seen items.now) (stores_seen stores.old) (stores_seen stores.new)) }
-    ensures needs { OnErr result (HasDraw (map recorded_seen items.now)) }
 {
     stores.textures.tell_facts();
     list_law();
     draw_listed(rasterizer, stores, view, items, room)
 }
 
-/// Enters a view: clears its rectangle of its target, then copies its blits, then does its draws and touches, each in
-/// the order of its list; the rasterizer makes the draws. No item of the second list is a blit. Only want of memory refuses, of a draw or of a blit within one texture; then the clear is done, some
-/// of the first blits, and the values of some of the first items, and nothing is drawn. The target is in its place in
-/// either case.
+/// Enters a view: clears its rectangle of its target, then copies its blits, then does its draws and touches, each in the order of its list;
+/// the rasterizer makes the draws. No item of the second list is a blit.
+///
+/// Only want of memory refuses, at a blit within one texture of whose region something is left, or at a draw whose program is there. At a
+/// blit the clear is done and the blits before it; at a draw the clear and all blits, and the values of the items up to it are given, and
+/// nothing is drawn. The target is in its place in either case.
 pub fn enter_view<D: Rasterizer>(
     rasterizer: &mut D,
     stores: &mut RenderStores,
@@ -55,7 +55,6 @@ pub fn enter_view<D: Rasterizer>(
     requires { AllByRecursion (λ i. is_blit i ≡ false) (map recorded_seen items.now) }
     ensures entered { OnOk result (stores_seen stores.new ≡ entered (view_seen view.now) (map blit_seen blits.now) (map recorded_seen items.now) (stores_seen stores.old)) }
     ensures begun { OnErr result (IsBegun (view_seen view.now) (map blit_seen blits.now) (map recorded_seen items.now) (stores_seen stores.old) (stores_seen stores.new)) }
-    ensures needs { OnErr result (HasBlitWithin (map blit_seen blits.now) ⊎ HasDraw (map recorded_seen items.now)) }
 {
     clear_target(stores, view);
     blit_all(&mut stores.textures, blits)?;

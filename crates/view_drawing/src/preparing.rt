@@ -1,5 +1,5 @@
 // Makes draws ready for the rasteriser.
-ghost use Rattle.std.specs.Prelude.{◌≡◌, List, Some, map, option_map, OnOk};
+ghost use Rattle.std.specs.Prelude.{◌≡◌, ◌≢◌, List, Some, None, map, option_map, OnOk, OnErr};
 ghost use Rattle.gfx_model.specs.Vertex.{triangles_of as triangles_of_vertices};
 ghost use Rattle.gfx_model.specs.World.{draw_vertices};
 ghost use Rattle.gfx_model.specs.Words.{cull_of, primitive_of};
@@ -112,7 +112,7 @@ fn add_painted<'x>(
     Ok(())
 }
 
-/// Puts a draw into the list, where its program is there.
+/// Puts a draw into the list, where its program is there, which alone takes memory.
 pub(crate) fn add_draw<'x>(
     stage: &Stage<'x>,
     buffers: &BufferStore,
@@ -121,7 +121,8 @@ pub(crate) fn add_draw<'x>(
     list: &mut DrawList<'x>,
     room: &mut DrawingRoom,
 ) -> Result<(), AllocError>
-    ensures { OnOk result ((sets : List UniformSet) → AddsTo stage.now.width stage.now.height (painted_in (view_seen stage.now.view.now) (draw_seen recorded.now sets draw.now) buffers.now (paint_at buffers.now stage.now.textures.now (draw_seen recorded.now sets draw.now) (at stage.now.programs.now draw.now.program.index))) list.old list.new) }
+    ensures adds { OnOk result ((sets : List UniformSet) → AddsTo stage.now.width stage.now.height (painted_in (view_seen stage.now.view.now) (draw_seen recorded.now sets draw.now) buffers.now (paint_at buffers.now stage.now.textures.now (draw_seen recorded.now sets draw.now) (at stage.now.programs.now draw.now.program.index))) list.old list.new) }
+    ensures needs { OnErr result (at stage.now.programs.now draw.now.program.index ≢ None) }
 {
     let program = stage.programs.get(draw.program.index());
     match paint_of(buffers, stage.textures, draw, program) {

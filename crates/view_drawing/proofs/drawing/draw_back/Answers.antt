@@ -16,5 +16,5 @@ returns-clause-drawn g c =
 pub returns-clause-begun : goal.returns-clause-begun
 returns-clause-begun g c =
     on_err_weaker c.draw_surface-done.result
-    (λ e. (e.1.0, (λ j. record { back = surface_seen (e.0 j); buffers = e.1.1 j; textures = c.args.stores.now.textures; programs = c.args.stores.now.programs })))
+    (λ e. (c.draw_surface-done.new.buffers, (e.1, (λ j. record { back = surface_seen (e.0 j); buffers = c.draw_surface-done.new.buffers; textures = c.args.stores.now.textures; programs = c.args.stores.now.programs }))))
     c.draw_surface-done.ensures.begun

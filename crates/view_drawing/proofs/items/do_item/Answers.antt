@@ -7,4 +7,4 @@ pub returns-in_err-add_draw-in-Draw-clause-needs : goal.returns-in_err-add_draw-
 returns-in_err-add_draw-in-Draw-clause-needs c =
     let bytes = c.args.recording.now.bytes in
     let sets = c.args.recording.now.uniforms in
-    on_err_holds c.from_residual.result (draw_seen bytes sets c.in-Draw.draw, ap (item_seen bytes sets) c.in-Draw.is)
+    on_err_holds c.from_residual.result (draw_seen bytes sets c.in-Draw.draw, (ap (item_seen bytes sets) c.in-Draw.is, c.in_err-add_draw-in-Draw.ensures.needs))

@@ -1,4 +1,4 @@
-use Rattle.std.proofs.Common.{◌≡◌, sym, ap, ◌∙◌, Some, None}
+use Rattle.std.proofs.Common.{◌≡◌, [], sym, ap, ◌∙◌, Some, None}
 use Rattle.std.specs.Prelude.{fold}
 use Rattle.int_raster.specs.Drawing.{drawn_prepared}
 use Rattle.int_raster.specs.Seen.{paint_seen}
@@ -7,10 +7,12 @@ use Rattle.store_model.specs.Slots.{at}
 use Rattle.store_laws.specs.ByIndex.{paint_at}
 use Rattle.store_laws.specs.Listed.{painted_in}
 use Rattle.draw_encoder.specs.Seen.{draw_seen}
+use Rattle.view_drawing.proofs.Folds.{on_err_holds}
+use Rattle.view_drawing.proofs.Needs.{program_there}
 use Rattle.view_drawing.proofs.preparing.add_draw.Goals as goal
 
-pub returns-in_ok-add_painted-in-Some : goal.returns-in_ok-add_painted-in-Some
-returns-in_ok-add_painted-in-Some c sets s ew eh =
+pub returns-in_ok-add_painted-in-Some-clause-adds : goal.returns-in_ok-add_painted-in-Some-clause-adds
+returns-in_ok-add_painted-in-Some-clause-adds c sets s ew eh =
     let d = draw_seen c.args.recorded.now sets c.args.draw.now in
     let view = view_seen c.args.stage.now.view.now in
     let b = c.args.buffers.now in
@@ -21,8 +23,8 @@ returns-in_ok-add_painted-in-Some c sets s ew eh =
     sym (λ j. painted_in view d b (paint j) (fold drawn_prepared s c.args.list.now))
     ∙ c.in_ok-add_painted-in-Some.ensures sets s ew eh
 
-pub returns-in-None : goal.returns-in-None
-returns-in-None c sets s ew eh =
+pub returns-in-None-clause-adds : goal.returns-in-None-clause-adds
+returns-in-None-clause-adds c sets s ew eh =
     let d = draw_seen c.args.recorded.now sets c.args.draw.now in
     let view = view_seen c.args.stage.now.view.now in
     let b = c.args.buffers.now in
@@ -31,3 +33,13 @@ returns-in-None c sets s ew eh =
     let paint : None ≡ paint_at b textures d (at programs d.program.index) =
     c.in-None.ensures c.args.recorded.now sets ∙ ap (paint_at b textures d) (c.get-program.ensures ∙ ap (at programs) c.index.ensures.same) in
     sym (λ j. painted_in view d b (paint j) (fold drawn_prepared s c.args.list.now))
+
+pub returns-in_err-add_painted-in-Some-clause-needs : goal.returns-in_err-add_painted-in-Some-clause-needs
+returns-in_err-add_painted-in-Some-clause-needs c =
+    let d = draw_seen c.args.recorded.now [] c.args.draw.now in
+    let b = c.args.buffers.now in
+    let textures = c.args.stage.now.textures.now in
+    let programs = c.args.stage.now.programs.now in
+    on_err_holds c.from_residual.result
+    (program_there b textures d (paint_seen c.in-Some.paint) (at programs d.program.index)
+    (c.in-Some.ensures c.args.recorded.now [] ∙ ap (paint_at b textures d) (c.get-program.ensures ∙ ap (at programs) c.index.ensures.same)))
