@@ -2,6 +2,7 @@
 use Rattle.std.specs.Prelude.{◌≡◌, ℕ, ◌<◌, ◌≤◌, ◌||◌, not, List, [], ◌∷◌, ◌++◌, length, Option}
 use Rattle.scene_model.specs.Output.{picture_text}
 use Rattle.store_laws.specs.ByIndex.{Stores}
+use Rattle.frame_record.specs.declared.frame.Frame.{Frame}
 use Rattle.frame_record.specs.declared.frame.Outcome.{Outcome}
 use Rattle.frame_record.specs.declared.frame.RenderedFrame.{RenderedFrame}
 use Rattle.render_stores.specs.Seen.{stores_seen}
@@ -35,6 +36,10 @@ pub record IsRendered (old : Rendering) (r : RenderedFrame) (new : Rendering) : 
   pub sure : new.sure ≡ old.sure
   pub ended : has_ended new.outcomes ≡ (has_ended old.outcomes || not (is_shown r.outcome))
   pub added : length old.outcomes < 18446744073709551615 → new.outcomes ≡ old.outcomes ++ r.outcome ∷ []
+
+-- a frame is rendered, and the list of the frames that were has it more, with its outcome
+abbrev pub AddsRendered : (frame : Frame) → (before : List RenderedFrame) → (old : Rendering) → (after : List RenderedFrame) → (new : Rendering) → Type 0
+AddsRendered frame before old after new = (r : RenderedFrame) × ((r.frame ≡ frame) × ((after ≡ before ++ r ∷ []) × IsRendered old r new))
 
 -- frames are rendered one after another
 pub data AreRendered (old : Rendering) : List RenderedFrame → Rendering → Type 0 where

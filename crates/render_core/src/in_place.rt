@@ -3,7 +3,7 @@ ghost use Rattle.std.specs.Prelude.{◌≡◌, ◌+◌, ◌-◌, ◌%◌, [], �
 ghost use Rattle.std.specs.Thread.{IsSync};
 ghost use Rattle.frame_record.specs.Links.{frames_of, CameBack};
 ghost use Rattle.frame_swap.specs.Views.{api, later_of, empty_slots};
-ghost use Rattle.render_core.specs.Rendered.{AreRendered, seen_by};
+ghost use Rattle.render_core.specs.Rendered.{AddsRendered, AreRendered, seen_by};
 
 use crate::renderer::Renderer;
 use atomic_table::{Seat, Table};
@@ -92,6 +92,7 @@ impl<P: Sink, D: Rasterizer + Drop> InPlaceLink<P, D> {
     pub fn render(&mut self, frame: Frame)
         requires room { length self.old.seat.me.0.given < length self.old.seat.me.0.back + self.old.latency }
         ensures lists { (self.new.seat.me.0.given ≡ self.old.seat.me.0.given ++ frame ∷ []) × (self.new.seat.me.0.back ≡ self.old.seat.me.0.back) }
+        ensures rendered { AddsRendered frame self.old.seat.me.0.returned (seen_by P.held P.tally P.faults P.sure self.old.renderer) self.new.seat.me.0.returned (seen_by P.held P.tally P.faults P.sure self.new.renderer) }
         ensures same { (self.new.opening ≡ self.old.opening) × (self.new.latency ≡ self.old.latency) }
     {
         let table = &self.table;
@@ -134,6 +135,7 @@ impl<P: Sink, D: Rasterizer + Drop> FrameLink for InPlaceLink<P, D> {
         requires room { length self.old.seat.me.0.given < length self.old.seat.me.0.back + self.old.latency }
         requires sync { IsSync R.row }
         ensures lists { (self.new.seat.me.0.given ≡ self.old.seat.me.0.given ++ frame ∷ []) × (self.new.seat.me.0.back ≡ self.old.seat.me.0.back) }
+        ensures rendered { AddsRendered frame self.old.seat.me.0.returned (seen_by P.held P.tally P.faults P.sure self.old.renderer) self.new.seat.me.0.returned (seen_by P.held P.tally P.faults P.sure self.new.renderer) }
         ensures same { (self.new.opening ≡ self.old.opening) × (self.new.latency ≡ self.old.latency) }
     {
         self.render(frame);
@@ -143,6 +145,7 @@ impl<P: Sink, D: Rasterizer + Drop> FrameLink for InPlaceLink<P, D> {
         requires some_out { length self.old.seat.me.0.back < length self.old.seat.me.0.given }
         ensures given { (self.new.seat.me.0.given ≡ self.old.seat.me.0.given) × (self.new.seat.me.0.returned ≡ self.old.seat.me.0.returned) }
         ensures back { IsSomeAnd result (λ r. CameBack self.old.seat.me.0.given self.old.seat.me.0.back self.new.seat.me.0.back r) }
+        ensures outcome { IsSomeAnd result (λ r. self.old.seat.me.0.returned ≡ self.old.seat.me.0.back ++ r ∷ later_of self.old.seat.me.0.returned self.new.seat.me.0.back) }
         ensures same { (self.new.opening ≡ self.old.opening) × (self.new.latency ≡ self.old.latency) }
     {
         Some(self.take_oldest())

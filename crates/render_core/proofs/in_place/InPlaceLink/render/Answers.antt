@@ -50,3 +50,11 @@ invariant_of-self g c =
           subst (λ (rs : List RenderedFrame). ∥ AreRendered (seen_by g.P.Sink.held g.P.Sink.tally g.P.Sink.faults g.P.Sink.sure a.opening.value) rs (seen_by g.P.Sink.held g.P.Sink.tally g.P.Sink.faults g.P.Sink.sure c.render-rendered.new.self) ∥₁)
           (sym (ap (λ (v : SwapView). v.returned) view)) (∥∥₁_map a.frames_are (λ k. rendered_more r k c.render-rendered.ensures.rendered));
     }
+
+pub returns-clause-rendered : goal.returns-clause-rendered
+returns-clause-rendered g c =
+    let r = c.render-rendered.result in
+    let f = c.args.frame in
+    let after : c.return_here.new.seat.me ≡ (gave_back r (took f (gave f c.args.self.now.seat.me.0)), rest c.args.self.now.seat.me.1) =
+    c.return_here.ensures.me ∙ ap (λ (m : Mine). (gave_back r m.0, rest m.1)) c.give_here-taken.ensures.me in
+    (r, (c.render-rendered.ensures.frame ∙ c.give_here-taken.ensures.same.1, (ap (λ (m : Mine). m.0.returned) after, c.render-rendered.ensures.rendered)))
