@@ -1,7 +1,7 @@
 mod Counts
 mod EndedFrames
 mod Found
-mod OneItem
+mod OneRecording
 mod OneWay
 mod Parts
 mod Pieces

@@ -16,6 +16,8 @@ pub use int_raster::{BandRasterizer, Rasterizer, SerialRasterizer};
 pub use renderer::Renderer;
 
 #[cfg(test)]
+mod frame_tests;
+#[cfg(test)]
 mod stray_tests;
 #[cfg(test)]
 mod tests;

@@ -43,7 +43,7 @@ fn small(seed: u64, shift: u32) -> u16
 }
 
 // Positions of two numbers.
-fn positions() -> Result<VertexLayout, Fail> {
+pub(crate) fn positions() -> Result<VertexLayout, Fail> {
     let mut builder = LayoutBuilder::new();
     builder.add(Attr::Position, AttrType::Fixed, 2);
     builder.end().map_err(|_| "layout".into())

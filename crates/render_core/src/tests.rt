@@ -1,5 +1,7 @@
 // Frames rendered, with pictures from outside.
-ghost use Rattle.std.specs.Prelude.{◌≡◌, ◌≤◌, ◌<◌, ◌∷◌, [], IfOk};
+ghost use Rattle.std.specs.Prelude.{◌≡◌, ◌≤◌, ◌<◌, ◌+◌, ◌∷◌, [], length, IfOk, OnOk};
+ghost use Rattle.schedule_model.specs.Held.{Ascends};
+ghost use Rattle.draw_encoder.specs.Seen.{numbers_of};
 ghost use Rattle.frame_record.specs.Links.{frames_of};
 ghost use Rattle.frame_swap.specs.Ends.{api_table, api_knows, render_table, render_knows};
 
@@ -10,7 +12,7 @@ use draw_encoder::{
     VertexSet,
 };
 use fix_math::{Affine, Rect};
-use frame_record::{Frame, FrameLink, Outcome, collect};
+use frame_record::{Frame, FrameLink, Outcome, RenderedFrame, collect};
 use frame_swap::{ApiEnd, RenderEnd, swap_pair};
 use gfx_words::{Handle, Info, Kind, StateWord, StencilWord};
 use int_raster::{BandRasterizer, SerialRasterizer};
@@ -34,21 +36,19 @@ type Parts = (
     BlitCall,
 );
 
-fn recording(alloc: Global, item: Item) -> Result<Recording, AllocError>
-    ensures { IfOk result (λ r. r.items ≡ item ∷ []) }
+fn recording(alloc: Global, items: Vec<Item>) -> Recording
+    ensures { result.items ≡ items.items }
 {
     // The check asks that the types of an item's parts are seen where it is stored.
     let _parts: Option<Parts> = None;
-    let mut items = Vec::new(alloc);
-    items.push(item)?;
-    Ok(Recording {
+    Recording {
         encoder: 0,
         frame: 0,
         items: Items::from_vec(items),
         bytes: Bytes::from_vec(Vec::new(alloc)),
         uniforms: UniformSets::from_vec(Vec::new(alloc)),
         dropped: 0,
-    })
+    }
 }
 
 // Three vertices of two numbers of 1/65536 each, little endian: (-1, 1), (3, 1), (-1, -3).
@@ -76,6 +76,25 @@ fn payloads(alloc: Global) -> Result<Vec<Vec<u8>>, AllocError> {
     Ok(payloads)
 }
 
+// A frame of one encoder's items.
+pub(crate) fn recorded(
+    alloc: Global,
+    number: u32,
+    views: ViewTable,
+    pre: CmdBytes,
+    post: CmdBytes,
+    items: Vec<Item>,
+) -> Result<Frame, AllocError>
+    requires few { length (numbers_of items.items) ≤ 65528 }
+    requires ascend { Ascends (numbers_of items.items) }
+{
+    let mut recordings = Vec::new(alloc);
+    recordings.push(recording(alloc, items))?;
+    let journal = collect(alloc, &recordings)?;
+    let payloads = payloads(alloc)?;
+    Ok(Frame::new(number, views, pre, post, payloads, recordings, journal))
+}
+
 // A frame of one item.
 pub(crate) fn framed(
     alloc: Global,
@@ -85,11 +104,9 @@ pub(crate) fn framed(
     post: CmdBytes,
     item: Item,
 ) -> Result<Frame, AllocError> {
-    let mut recordings = Vec::new(alloc);
-    recordings.push(recording(alloc, item)?)?;
-    let journal = collect(alloc, &recordings)?;
-    let payloads = payloads(alloc)?;
-    Ok(Frame::new(number, views, pre, post, payloads, recordings, journal))
+    let mut items = Vec::new(alloc);
+    items.push(item)?;
+    recorded(alloc, number, views, pre, post, items)
 }
 
 fn touch(view: u16) -> Item {
@@ -109,8 +126,8 @@ pub(crate) fn row(alloc: Global, commands: &[Command]) -> Result<CmdBytes, Alloc
     row.finish()
 }
 
-// View 0 with a rectangle that is cleared to green, and a touch.
-fn cleared(alloc: Global) -> Result<Frame, Fail> {
+// View 0 with a rectangle that is cleared to some green, and a touch.
+fn shaded(alloc: Global, number: u32, green: u8) -> Result<Frame, Fail> {
     let mut views = ViewTable::new(alloc, 256)?;
     let right = Rect {
         x: 1,
@@ -120,16 +137,20 @@ fn cleared(alloc: Global) -> Result<Frame, Fail> {
     };
     views.set_rect(0, right).map_err(|_| "rect")?;
     views
-        .set_clear(0, 1, [0, 255, 0, 255], 0, 0)
+        .set_clear(0, 1, [0, green, 0, 255], 0, 0)
         .map_err(|_| "clear")?;
     Ok(framed(
         alloc,
-        3,
+        number,
         views,
         row(alloc, &[])?,
         row(alloc, &[])?,
         touch(0),
     )?)
+}
+
+fn cleared(alloc: Global) -> Result<Frame, Fail> {
+    shaded(alloc, 3, 255)
 }
 
 const GREEN: &[u8] = b"P6\n2 1\n255\n\0\0\0\0\xff\0";
@@ -162,29 +183,82 @@ fn a_fault_and_what_follows(rt: HostRuntime) -> Result<(), Fail> {
     Ok(())
 }
 
-// The number of a frame that comes back, and whether it was shown.
+type Link = InPlaceLink<MemSink, SerialRasterizer>;
+
+// Gives as many frames as may be out, with the greens 0, 1 ..
+fn fill<R: Threads + Wait + Sync>(
+    rt: &R,
+    alloc: Global,
+    link: &mut Link,
+    latency: u8,
+) -> Result<(), Fail>
+    requires empty { (length link.old.seat.me.0.given ≡ 0) × (length link.old.seat.me.0.back ≡ 0) × (link.old.latency ≡ latency) }
+    ensures full { OnOk result ((length link.new.seat.me.0.given ≡ latency) × (length link.new.seat.me.0.back ≡ 0) × (link.new.latency ≡ latency)) }
+{
+    for number in 0..latency {
+        link.give(rt, shaded(alloc, number as u32, number)?);
+    }
+    Ok(())
+}
+
+// Notes the number of a frame that was shown.
+fn note(numbers: &mut Vec<u32>, back: &RenderedFrame) -> Result<(), AllocError> {
+    if back.outcome == Outcome::Shown {
+        numbers.push(back.frame.number)?;
+    }
+    Ok(())
+}
+
+// Takes back as many frames as are out, and notes the numbers of those that were shown.
+fn drain<R: Threads + Wait + Sync>(
+    rt: &R,
+    link: &mut Link,
+    latency: u8,
+    numbers: &mut Vec<u32>,
+) -> Result<(), AllocError>
+    requires { length link.old.seat.me.0.given ≡ length link.old.seat.me.0.back + latency }
+{
+    for _ in 0..latency {
+        let back = link.take_back(rt);
+        note(numbers, &back)?;
+    }
+    Ok(())
+}
+
+// One frame more is given than may be out: the numbers of the shown frames that come back, and the pictures.
 fn through<R: Threads + Wait + Sync>(
     rt: &R,
     alloc: Global,
     latency: u8,
-) -> Result<(u32, bool), Fail>
+) -> Result<(Vec<u32>, MemSink), Fail>
     requires { 1 ≤ latency }
 {
-    let sink = MemSink::new(alloc, 64, 64, Vec::new(alloc))?;
+    let sink = MemSink::new(alloc, 256, 64, Vec::new(alloc))?;
     let renderer = Renderer::new(alloc, 2, 1, sink).map_err(|_| "memory")?;
     let mut link = InPlaceLink::new(alloc, renderer, SerialRasterizer, latency).map_err(
         |_| "memory",
     )?;
-    link.give(rt, cleared(alloc)?);
-    let back = link.take_back(rt);
-    let sink = link.into_renderer().into_sink();
-    Ok((back.frame.number, sink.bytes() == GREEN))
+    let mut numbers = Vec::new(alloc);
+    fill(rt, alloc, &mut link, latency)?;
+    let oldest = link.take_back(rt);
+    note(&mut numbers, &oldest)?;
+    link.give(rt, shaded(alloc, latency as u32, latency)?);
+    drain(rt, &mut link, latency, &mut numbers)?;
+    Ok((numbers, link.into_renderer().into_sink()))
 }
+
+// The pictures of four frames, of which a shorter latency has the first ones.
+const SHADES: &[u8] =
+    b"P6\n2 1\n255\n\0\0\0\0\0\0P6\n2 1\n255\n\0\0\0\0\x01\0P6\n2 1\n255\n\0\0\0\0\x02\0P6\n2 1\n255\n\0\0\0\0\x03\0";
 
 #[test]
 fn a_link_of_each_latency(rt: HostRuntime) -> Result<(), Fail> {
-    for latency in 1..4 {
-        assert_eq!(rt; through(&rt, rt.alloc(), latency)?, (3, true));
+    for latency in 1..4u8 {
+        let (numbers, sink) = through(&rt, rt.alloc(), latency)?;
+        let frames = latency as usize + 1;
+        assert_eq!(rt; (numbers.len(), sink.bytes().len()), (frames, 17 * frames));
+        assert!(rt; [0u32, 1, 2, 3].starts_with(numbers.as_slice()));
+        assert!(rt; SHADES.starts_with(sink.bytes()));
     }
     Ok(())
 }
