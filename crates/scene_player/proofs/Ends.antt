@@ -43,7 +43,7 @@ same-scene : (x y : Scene × ℕ) → ◌≡◌ {A = Result (Scene × ℕ) Fault
 same-scene x y e = let same : x ≡ y = cc in ap (λ (p : Scene × ℕ). p.0) same
 
 -- bytes that were told are those that were left
-told-is : (before : Option (List ℕ)) (bytes other : List ℕ) → before ≡ Some bytes → AreLeft before other → other ≡ bytes
+pub told-is : (before : Option (List ℕ)) (bytes other : List ℕ) → before ≡ Some bytes → AreLeft before other → other ≡ bytes
 told-is before bytes other e left = let same : AreLeft (Some bytes) other = subst (λ (o : Option (List ℕ)). AreLeft o other) e left in sym same
 
 -- ---- a run over a source

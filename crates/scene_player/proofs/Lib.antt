@@ -8,3 +8,4 @@ pub mod Reports
 pub mod Refused
 pub mod Answered
 pub mod Ends
+pub mod Counts

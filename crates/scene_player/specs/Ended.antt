@@ -1,6 +1,6 @@
 -- What is known after a run, for each status with which it may end.
 use Rattle.std.specs.Prelude.{◌≡◌, ◌⊎◌, ℕ, ◌≤◌, false, List, [], length, take, Option, Some, None, Ok, ⊤}
-use Rattle.io_edge.specs.Edge.{IsSpent}
+use Rattle.io_edge.specs.Edge.{IsSpent, counted}
 use Rattle.scene_model.specs.Scene.{Scene}
 use Rattle.scene_model.specs.Grammar.{scene_of, front_of, whole_language}
 use Rattle.scene_model.specs.Journal.{Journal, IsLawful, IsLawfulFront, shares_key, serial}
@@ -145,3 +145,11 @@ AreTaken (Some c) pictures notes = (ReadsAndShows c.mode → HasFailedToTake pic
 -- the run ends as the definition says, or for want of memory
 abbrev pub EndsAs : Ending → Status → Type 0
 EndsAs ending st = (ending_of st ≡ Some ending) ⊎ (st ≡ status.OutOfMemory)
+
+-- ---- a sink of pictures that counts
+
+-- where all pictures were put, the sink counted their texts
+abbrev pub CountsPictures : Status → Scene → Journal → (old new : Option (ℕ × ℕ)) → Type 0
+CountsPictures status.Done s journal old new = new ≡ counted old (pictures_text s journal)
+CountsPictures status.NoteFault s journal old new = new ≡ counted old (pictures_text s journal)
+CountsPictures _ s journal old new = ⊤

@@ -6,7 +6,7 @@ ghost use Rattle.scene_model.specs.Run.{all_done};
 ghost use Rattle.scene_text.specs.Seen.{journal_seen};
 ghost use Rattle.command_line_model.specs.Taken.{Command, taken};
 ghost use Rattle.command_line_model.specs.Answer.{answer};
-ghost use Rattle.scene_player.specs.Ended.{AreTaken, Ends, EndsAs, IsGiven, IsReadAndAnswered, IsSceneOf, IsToldIn};
+ghost use Rattle.scene_player.specs.Ended.{AreTaken, CountsPictures, Ends, EndsAs, IsGiven, IsReadAndAnswered, IsSceneOf, IsToldIn, ReadsAndShows};
 ghost use Rattle.scene_player.specs.Io.{putting, reading};
 ghost use Rattle.scene_player.specs.Parts.{showing_command};
 
@@ -37,6 +37,8 @@ fn show_source<R: Threads + Wait + Sync, S: Source, P: Sink + Send + Drop, N: Si
         (journal_seen result.journal)
         (putting (P.held pictures) (P.held result.pictures) (P.faults pictures) (P.faults result.pictures))
         (putting (N.held notes.old) (N.held notes.new) (N.faults notes.old) (N.faults notes.new)) }
+    ensures counted { (count : ℕ) (bytes : List ℕ) (s : model.Scene) → S.left source.old ≡ Some bytes → IsSceneOf (showing_command is_replay with_journal count) bytes s
+        → CountsPictures result.status s (journal_seen result.journal) (P.tally pictures) (P.tally result.pictures) }
     ensures sure { (P.sure result.pictures ≡ P.sure pictures) × (N.sure notes.new ≡ N.sure notes.old) }
     ensures no_fewer { (S.faults source.old ≤ S.faults source.new) × (P.faults pictures ≤ P.faults result.pictures) × (N.faults notes.old ≤ N.faults notes.new) }
 {
@@ -68,6 +70,10 @@ fn run<R: Threads + Wait + Sync, S: Source, P: Sink + Send + Drop, N: Sink, G: G
         (journal_seen result.journal)
         (putting (P.held pictures) (P.held result.pictures) (P.faults pictures) (P.faults result.pictures))
         (putting (N.held notes.old) (N.held notes.new) (N.faults notes.old) (N.faults notes.new)) }
+    ensures counted { (c : Command) (bytes : List ℕ) (s : model.Scene) → taken (map string_bytes words.now) ≡ Some c → ReadsAndShows c.mode
+        → IsToldIn c.mode (reading (S.left source.old) (S.left source.new) (S.faults source.old) (S.faults source.new)) bytes
+        → IsSceneOf c bytes s
+        → CountsPictures result.status s (journal_seen result.journal) (P.tally pictures) (P.tally result.pictures) }
     ensures sure { (P.sure result.pictures ≡ P.sure pictures) × (N.sure notes.new ≡ N.sure notes.old) }
     ensures no_fewer { (S.faults source.old ≤ S.faults source.new) × (P.faults pictures ≤ P.faults result.pictures) × (N.faults notes.old ≤ N.faults notes.new) }
 {
@@ -120,6 +126,11 @@ pub fn play<R: Threads + Wait + Sync, S: Source, P: Sink + Send + Drop, N: Sink,
         → IsToldIn c.mode (reading (S.left source.old) (S.left source.new) (S.faults source.old) (S.faults source.new)) bytes
         → IsSceneOf c bytes s → result.status ≡ Status.Done → journals.shares_key s ≡ false
         → journals.pictures s (journal_seen result.journal) ≡ journals.pictures s (journals.serial s) }
+    // Where all pictures were put, the sink that counts has counted them, whether or not it tells what it holds.
+    ensures counted { (c : Command) (bytes : List ℕ) (s : model.Scene) → taken (map string_bytes words.now) ≡ Some c → ReadsAndShows c.mode
+        → IsToldIn c.mode (reading (S.left source.old) (S.left source.new) (S.faults source.old) (S.faults source.new)) bytes
+        → IsSceneOf c bytes s
+        → CountsPictures result.status s (journal_seen result.journal) (P.tally pictures) (P.tally result.pictures) }
     // Where the definition refuses the run and the source does not fail, the run ends so, or for want of memory.
     ensures refused { (bytes : List ℕ)
         → IsGiven (taken (map string_bytes words.now)) (reading (S.left source.old) (S.left source.new) (S.faults source.old) (S.faults source.new)) bytes

@@ -1,10 +1,11 @@
 // The three modes, each over what it shows.
 ghost use Rattle.std.specs.Prelude.{◌≡◌, ◌≤◌, true, false, ℕ, Bool, [], length};
 ghost use Rattle.scene_model.specs.JournalText.{journal_of};
+ghost use Rattle.scene_model.specs.Scene as model;
 ghost use Rattle.spelling_model.specs.Readable.{IsReadable};
 ghost use Rattle.scene_text.specs.Bounds.{IsBounded};
 ghost use Rattle.scene_text.specs.Seen.{journal_seen, scene_seen};
-ghost use Rattle.scene_player.specs.Ended.{IsAnswered};
+ghost use Rattle.scene_player.specs.Ended.{CountsPictures, IsAnswered, IsSceneOf};
 ghost use Rattle.scene_player.specs.Io.{putting};
 ghost use Rattle.scene_player.specs.Parts.{ReadsLawful, making_command, showing_command};
 ghost use Rattle.scene_player.specs.Words.{IsCount};
@@ -37,6 +38,8 @@ pub(crate) fn play_bytes<R: Threads + Wait + Sync, P: Sink + Send + Drop, N: Sin
     ensures answered { (count : ℕ) → IsAnswered result.status (showing_command false with_journal count) bytes.now (journal_seen result.journal)
         (putting (P.held pictures) (P.held result.pictures) (P.faults pictures) (P.faults result.pictures))
         (putting (N.held notes.old) (N.held notes.new) (N.faults notes.old) (N.faults notes.new)) }
+    ensures counted { (count : ℕ) (s : model.Scene) → IsSceneOf (showing_command false with_journal count) bytes.now s
+        → CountsPictures result.status s (journal_seen result.journal) (P.tally pictures) (P.tally result.pictures) }
     ensures sure { (P.sure result.pictures ≡ P.sure pictures) × (N.sure notes.new ≡ N.sure notes.old) }
     ensures no_fewer { (P.faults pictures ≤ P.faults result.pictures) × (N.faults notes.old ≤ N.faults notes.new) }
 {
@@ -89,6 +92,8 @@ pub(crate) fn replay_bytes<
     ensures answered { (count : ℕ) → IsAnswered result.status (showing_command true with_journal count) bytes.now (journal_seen result.journal)
         (putting (P.held pictures) (P.held result.pictures) (P.faults pictures) (P.faults result.pictures))
         (putting (N.held notes.old) (N.held notes.new) (N.faults notes.old) (N.faults notes.new)) }
+    ensures counted { (count : ℕ) (s : model.Scene) → IsSceneOf (showing_command true with_journal count) bytes.now s
+        → CountsPictures result.status s (journal_seen result.journal) (P.tally pictures) (P.tally result.pictures) }
     ensures sure { (P.sure result.pictures ≡ P.sure pictures) × (N.sure notes.new ≡ N.sure notes.old) }
     ensures no_fewer { (P.faults pictures ≤ P.faults result.pictures) × (N.faults notes.old ≤ N.faults notes.new) }
 {

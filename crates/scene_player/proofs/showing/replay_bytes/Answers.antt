@@ -12,6 +12,7 @@ use Rattle.scene_player.specs.declared.status.Status.TheVariants as status
 use Rattle.scene_player.specs.Parts.{place_of, showing_command, FailsLawful}
 use Rattle.scene_player.proofs.Answered.{shows-scene}
 use Rattle.scene_player.proofs.Refused.{judges, may-refuse, misreads-front, replays}
+use Rattle.scene_player.proofs.Counts.{counts-front, counts-nothing, counts-refused}
 use Rattle.scene_player.proofs.showing.replay_bytes.Goals as goal
 
 pub returns-in-Err-At-clause-answered : goal.returns-in-Err-At-clause-answered
@@ -41,3 +42,20 @@ returns-in-Err-At-read_lawful-clause-answered g c = λ count.
     let place = ap (λ bytes. place_of scene (journal_of bytes (length scene.frames))) (sym (take_rest c.args.bytes.now c.in-Ok.front.1)) ∙ fault in
     may-refuse (showing_command true c.args.with_journal count) c.args.bytes.now _ _ _ (status.Journal c.in-Err-At-read_lawful.place) _ (unlawful _) tt
     (judges c.args.with_journal count c.args.bytes.now (journal_seen c.refuse_journal.result.journal) scene c.in-Ok.front.1 _ c.requires c.in-Ok.ensures.exact place) refl c.refuse_journal.ensures.refused
+
+pub returns-in-Ok-read_lawful-clause-counted : goal.returns-in-Ok-read_lawful-clause-counted
+returns-in-Ok-read_lawful-clause-counted g c = λ count s is.
+    let shown = c.replay_scene-showing in
+    let front = c.in-Ok.front in
+    let journal = journal_seen shown.result.journal in
+    rw (c.finish.ensures.journal, c.finish.ensures.pictures)
+    (counts-front c.finish.result.status shown.result.end (scene_seen front.0, front.1) (s, is.1) (front_of whole_language c.args.bytes.now) journal (map note_seen shown.result.notes.items) _ _ _ _
+    c.in-Ok.ensures.exact is.2 shown.ensures.counted c.finish.ensures.noted)
+
+pub returns-in-Err-At-clause-counted : goal.returns-in-Err-At-clause-counted
+returns-in-Err-At-clause-counted g c = λ count s is.
+    counts-refused _ (status.Scene c.in-Err-At.line c.in-Err-At.cause) _ _ _ _ c.refuse_scene.ensures.refused (λ s i old new. tt) s _ _ _
+
+pub returns-in-Err-At-read_lawful-clause-counted : goal.returns-in-Err-At-read_lawful-clause-counted
+returns-in-Err-At-read_lawful-clause-counted g c = λ count s is.
+    counts-refused _ (status.Journal c.in-Err-At-read_lawful.place) _ _ _ _ c.refuse_journal.ensures.refused (λ s i old new. tt) s _ _ _
