@@ -33,7 +33,16 @@ abbrev note_of : Result Scene Fault → List ℕ
 note_of (Ok s) = make_note s (serial s)
 note_of (Err f) = []
 
+-- one clear and two touches
+abbrev two_touches : List ℕ
+two_touches = codes "scene 1\nsize 1 1\nencoders 1\nframe\nview 0 clear 1 ff0000ff 0 0\nencoder 0\ntouch 0\ntouch 0\ndone\n"
+
 -- one frame of one item, whose picture is `P6`, `1 1` and `255` in 11 bytes with the sum 450, and a red pixel
 one_frame : note_of (scene_of whole_language one_clear) ≡ codes "frames 1 items 1 sum 705\n"
 unfolding digits after_word after_resource after_encoder_line word_in hex_value hex_byte
 one_frame = refl
+
+-- the same picture with a second touch: the note counts items, not frames
+two_items : note_of (scene_of whole_language two_touches) ≡ codes "frames 1 items 2 sum 705\n"
+unfolding digits after_word after_resource after_encoder_line word_in hex_value hex_byte
+two_items = refl
