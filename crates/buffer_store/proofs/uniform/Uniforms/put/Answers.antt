@@ -5,4 +5,5 @@ use Rattle.buffer_store.proofs.uniform.Uniforms.put.Goals as goal
 pub invariant_of-self : goal.invariant_of-self
 invariant_of-self c =
     rw c.put.ensures
-    (filled_end c.self.inside.end c.max.result c.args.index c.args.uniform c.self.inside.row (omega (arith, c.max.ensures)) (omega (arith, c.max.ensures)) (omega (arith, c.max.ensures, c.self.invariant.within, c.requires)) c.self.invariant)
+    (filled_end c.self.inside.end c.max-self-inside.result c.args.index c.args.uniform c.self.inside.row
+    (omega (arith, c.max-self-inside.ensures)) (omega (arith, c.max-self-inside.ensures)) (omega (arith, c.max-self-inside.ensures, c.self.invariant.within, c.requires)) c.self.invariant)
