@@ -1,4 +1,4 @@
-use Rattle.std.proofs.Common.{arith, subst, sym, ◌∙◌, ◌<◌, ◌≡◌, ap, length, Option, true, false}
+use Rattle.std.proofs.Common.{arith, subst, sym, ◌∙◌, ◌<◌, ◌≡◌, length}
 use Rattle.gfx_words.specs.Seen.{uniform_seen}
 use Rattle.buffer_store.specs.Search.{IsFound}
 use Rattle.buffer_store.proofs.SearchLaws.{found_kept, found_next, found_all}
