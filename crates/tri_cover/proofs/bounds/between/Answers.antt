@@ -7,6 +7,10 @@ use Rattle.tri_cover.proofs.bounds.between.Goals as goal
 
 pub returns-clause-columns : goal.returns-clause-columns
 returns-clause-columns c x =
+    let a1 : FitsSigned w64 c.args.left = c.ranges.left in
+    let a2 : FitsSigned w64 c.args.other_left = c.ranges.other_left in
+    let a3 : FitsSigned w64 c.args.right = c.ranges.right in
+    let a4 : FitsSigned w64 c.args.other_right = c.ranges.other_right in
     let l : FitsSigned w64 c.left_end.result = search rules in
     let r : FitsSigned w64 c.right_end.result = search rules in
     let f : FitsSigned w64 c.max-from.result = search rules in

@@ -7,6 +7,8 @@ use Rattle.tri_cover.proofs.bounds.bound_by.Goals as goal
 
 pub returns-clause-floors : goal.returns-clause-floors
 returns-clause-floors c k h =
+    let z : FitsSigned w64 c.args.z = c.ranges.z in
+    let d : FitsSigned w64 c.args.d = c.ranges.d in
     let e = c.inverse_of-inverse.ensures in
     let f1 : FitsSigned w64 c.scaled.result = search rules in
     let f2 : FitsSigned w64 c.scaled-2.result = search rules in
@@ -17,6 +19,8 @@ returns-clause-floors c k h =
 
 pub returns-clause-tame : goal.returns-clause-tame
 returns-clause-tame c k h =
+    let z : FitsSigned w64 c.args.z = c.ranges.z in
+    let d : FitsSigned w64 c.args.d = c.ranges.d in
     let e = c.inverse_of-inverse.ensures in
     let f1 : FitsSigned w64 c.scaled.result = search rules in
     let f2 : FitsSigned w64 c.scaled-2.result = search rules in

@@ -1,4 +1,4 @@
-use Rattle.std.proofs.Common.{rules, ◌≡◌, ◌<◌, ◌+◌, ℕ, pos, ◌-ℤ◌, ◌<ℤ◌, unsigned_abs, ◌&&◌, true, FitsSigned, w64, ap, sym, ◌∙◌, arith}
+use Rattle.std.proofs.Common.{rules, ◌≡◌, ◌<◌, ◌+◌, ℕ, pos, ◌-ℤ◌, ◌<ℤ◌, unsigned_abs, ◌&&◌, true, FitsSigned, w64, refl, ap, sym, ◌∙◌, arith}
 use Rattle.std.proofs.lemmas.Int.{ints, to_z-of_z}
 use Rattle.std.proofs.lemmas.Option.{IfSome_then}
 use Rattle.std.specs.Int.{int_div_euclid}
@@ -11,19 +11,21 @@ use Rattle.tri_cover.proofs.bounds.with_edge.Goals as goal
 pub returns-then-stays-clause-columns : goal.returns-then-stays-clause-columns
 returns-then-stays-clause-columns c k x h b =
     let e = c.args.edge.now in
+    let rise : FitsSigned w64 e.rise = search rules in
     let fall : FitsSigned w64 e.fall = search rules in
     let z : FitsSigned w64 c.lowered-z.result = search rules in
-    let value : c.lowered-z.result ≡ int_div_euclid (reached_at e c.args.row) (pos 256) = simp to_z-of_z at c.lowered-z.ensures in
+    let value : c.lowered-z.result ≡ int_div_euclid (reached_at e c.args.row) (pos 256) = c.lowered-z.ensures in
     let size : c.unsigned_abs-n.result ≡ unsigned_abs e.fall = simp to_z-of_z at c.unsigned_abs-n.ensures.value in
     let level : e.fall ≡ pos 0 = omega (arith, ints, size) in
-    and_all (is_let c.args.bounds.now k x) (is_on_side e (c.args.row + k) x) (level_is e c.args.row k x c.lowered-z.result level value (simp to_z-of_z at (c.if-stays.ensures k h)))
+    and_all (is_let c.args.bounds.now k x) (is_on_side e (c.args.row + k) x) (level_is e c.args.row k x c.lowered-z.result level value (simp to_z-of_z at (c.if-stays.ensures refl k h)))
 
 pub returns-then-edge-gt0-clause-columns : goal.returns-then-edge-gt0-clause-columns
 returns-then-edge-gt0-clause-columns c =
     let e = c.args.edge.now in
+    let rise : FitsSigned w64 e.rise = search rules in
     let fall : FitsSigned w64 e.fall = search rules in
     let z : FitsSigned w64 c.lowered-z.result = search rules in
-    let value : c.lowered-z.result ≡ int_div_euclid (reached_at e c.args.row) (pos 256) = simp to_z-of_z at c.lowered-z.ensures in
+    let value : c.lowered-z.result ≡ int_div_euclid (reached_at e c.args.row) (pos 256) = c.lowered-z.ensures in
     let size : c.unsigned_abs-n.result ≡ unsigned_abs e.fall = simp to_z-of_z at c.unsigned_abs-n.ensures.value in
     let above : pos 0 <ℤ e.fall = omega (arith, ints) in
     let n : e.fall ≡ pos c.unsigned_abs-n.result = omega (arith, ints, size, above) in
@@ -35,9 +37,10 @@ returns-then-edge-gt0-clause-columns c =
 pub returns-else-edge-gt0-clause-columns : goal.returns-else-edge-gt0-clause-columns
 returns-else-edge-gt0-clause-columns c =
     let e = c.args.edge.now in
+    let rise : FitsSigned w64 e.rise = search rules in
     let fall : FitsSigned w64 e.fall = search rules in
     let z : FitsSigned w64 c.lowered-z.result = search rules in
-    let value : c.lowered-z.result ≡ int_div_euclid (reached_at e c.args.row) (pos 256) = simp to_z-of_z at c.lowered-z.ensures in
+    let value : c.lowered-z.result ≡ int_div_euclid (reached_at e c.args.row) (pos 256) = c.lowered-z.ensures in
     let size : c.unsigned_abs-n.result ≡ unsigned_abs e.fall = simp to_z-of_z at c.unsigned_abs-n.ensures.value in
     let some : 0 < c.unsigned_abs-n.result = omega arith in
     let n : pos 0 -ℤ e.fall ≡ pos c.unsigned_abs-n.result = omega (arith, ints, size, some) in
