@@ -1,13 +1,13 @@
 -- Bounds in fixed point are the sides' floors.
-use Rattle.std.proofs.Common.{◌≡◌, ℕ, zero, suc, ◌+◌, ◌-◌, ◌*◌, ◌^◌, ◌<◌, ◌≤◌, Bool, true, false, refl, ap, sym, subst, ◌∙◌, arith}
-use Rattle.std.specs.Prelude.{ℤ, pos, negsuc, ◌+ℤ◌, ◌-ℤ◌, ◌*ℤ◌, ◌<ℤ◌, ◌≤ℤ◌, int_le, int_lt, ◌&&◌, nat_le, nat_lt, unsigned_abs, IsTrue}
+use Rattle.std.proofs.Common.{◌≡◌, ℕ, suc, ◌+◌, ◌-◌, ◌*◌, ◌^◌, ◌<◌, ◌≤◌, Bool, true, false, refl, ap, sym, subst, ◌∙◌, arith}
+use Rattle.std.specs.Prelude.{ℤ, pos, negsuc, ◌+ℤ◌, ◌-ℤ◌, ◌*ℤ◌, ◌≤ℤ◌, int_le, int_lt, ◌&&◌, nat_le, nat_lt, unsigned_abs, IsTrue}
 use Rattle.std.specs.Int.{int_div_euclid, int_min, int_max}
 use Rattle.std.specs.Cmp.{both_ways}
 use Rattle.std.proofs.lemmas.Int.{ints, clamps, unsigned_abs-mul}
 use Rattle.std.proofs.lemmas.Bool.Decides.{nat_tests}
 use Rattle.std.proofs.Math.Nat.{mul-le-mul_left, mul-le-mul_right}
 use borrow.Author.Differences.{product_is, true_is_le}
-use lib.IntN.{neg_ℤ, *ℤ-zero}
+use lib.IntN.{neg_ℤ}
 use Rattle.tri_cover.specs.Columns.{is_between, is_reached}
 use Rattle.tri_cover.specs.Slope.{IsFloor, IsNearly}
 use Rattle.tri_cover.specs.Seen.{is_on_side}

@@ -1,5 +1,5 @@
 -- The ends of rows by bounds in fixed point.
-use Rattle.std.specs.Prelude.{ℕ, ℤ, pos, ◌≡◌, ◌≤◌, ◌<◌, ◌+◌, ◌*◌, ◌^◌, ◌+ℤ◌, ◌-ℤ◌, ◌*ℤ◌, unsigned_abs, int_le, Bool, ◌&&◌, nat_le, nat_lt, List, slice_index_or}
+use Rattle.std.specs.Prelude.{ℕ, ℤ, pos, ◌≡◌, ◌≤◌, ◌<◌, ◌+◌, ◌*◌, ◌^◌, ◌+ℤ◌, ◌*ℤ◌, unsigned_abs, int_le, Bool, ◌&&◌, nat_le, nat_lt, List, slice_index_or}
 use Rattle.gfx_model.specs.Vertex.{Triangle}
 use Rattle.gfx_model.specs.Raster.{ScreenVertex, covers}
 use Rattle.tri_cover.specs.declared.bounds.Bound.{Bound}

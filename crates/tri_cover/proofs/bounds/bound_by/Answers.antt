@@ -1,7 +1,6 @@
-use Rattle.std.proofs.Common.{rules, ◌≡◌, ◌≤◌, ◌^◌, ℕ, pos, ◌+ℤ◌, ◌*ℤ◌, FitsSigned, w64, arith}
+use Rattle.std.proofs.Common.{rules, ◌≡◌, ◌^◌, pos, ◌+ℤ◌, ◌*ℤ◌, FitsSigned, w64, arith}
 use Rattle.std.specs.Int.{int_div_euclid}
 use Rattle.std.proofs.lemmas.Int.{ints, to_z-of_z}
-use Rattle.tri_cover.specs.Slope.{IsFloor}
 use Rattle.tri_cover.proofs.Ends.{floor_at, tame_at}
 use Rattle.tri_cover.proofs.bounds.bound_by.Goals as goal
 

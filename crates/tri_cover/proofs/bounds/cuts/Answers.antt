@@ -1,6 +1,6 @@
-use Rattle.std.proofs.Common.{rules, ◌≡◌, ◌<◌, ◌&&◌, nat_le, nat_lt, length, FitsSigned, w64, refl, sym, ◌∙◌, arith}
+use Rattle.std.proofs.Common.{rules, ◌<◌, ◌&&◌, nat_le, nat_lt, length, FitsSigned, w64, ◌∙◌, arith}
 use Rattle.std.proofs.lemmas.Int.{to_z-of_z}
-use Rattle.tri_cover.specs.Bounded.{is_within, IsCut, IsMoved}
+use Rattle.tri_cover.specs.Bounded.{is_within, IsCut}
 use Rattle.tri_cover.proofs.Ends.{not_moved}
 use Rattle.tri_cover.proofs.Rowed.{entries_more}
 use Rattle.tri_cover.proofs.bounds.cuts.Goals as goal

@@ -1,6 +1,6 @@
-use Rattle.std.proofs.Common.{rules, ◌≡◌, ◌+◌, pos, ◌+ℤ◌, FitsSigned, w64, ◌∙◌, arith}
+use Rattle.std.proofs.Common.{rules, ◌≡◌, ◌+◌, ◌+ℤ◌, FitsSigned, w64, arith}
 use Rattle.std.proofs.lemmas.Int.{ints, to_z-of_z}
-use Rattle.tri_cover.specs.Bounded.{bound_at, IsMoved}
+use Rattle.tri_cover.specs.Bounded.{bound_at}
 use Rattle.tri_cover.proofs.Ends.{moved_on}
 use Rattle.tri_cover.proofs.bounds.stepped.Goals as goal
 

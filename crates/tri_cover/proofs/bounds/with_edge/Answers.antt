@@ -1,8 +1,8 @@
-use Rattle.std.proofs.Common.{rules, ◌≡◌, ◌<◌, ◌+◌, ℕ, pos, ◌-ℤ◌, ◌<ℤ◌, unsigned_abs, ◌&&◌, true, FitsSigned, w64, refl, ap, sym, ◌∙◌, arith}
+use Rattle.std.proofs.Common.{rules, ◌≡◌, ◌<◌, ◌+◌, pos, ◌-ℤ◌, ◌<ℤ◌, unsigned_abs, ◌&&◌, FitsSigned, w64, refl, ap, ◌∙◌, arith}
 use Rattle.std.proofs.lemmas.Int.{ints, to_z-of_z}
 use Rattle.std.proofs.lemmas.Option.{IfSome_then}
 use Rattle.std.specs.Int.{int_div_euclid}
-use Rattle.tri_cover.specs.Bounded.{bound_at, is_let, is_not_before, is_not_behind}
+use Rattle.tri_cover.specs.Bounded.{bound_at, is_let}
 use Rattle.tri_cover.specs.Seen.{is_on_side}
 use Rattle.tri_cover.specs.Walked.{reached_at}
 use Rattle.tri_cover.proofs.Ends.{left_is, right_is, level_is, and_all}

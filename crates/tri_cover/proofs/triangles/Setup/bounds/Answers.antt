@@ -1,5 +1,4 @@
-use Rattle.std.proofs.Common.{◌≡◌, ◌+◌, ◌&&◌, true, ap, ◌∙◌}
-use Rattle.tri_cover.specs.Bounded.{is_let}
+use Rattle.std.proofs.Common.{◌+◌, ◌&&◌, ap, ◌∙◌}
 use Rattle.tri_cover.specs.Seen.{is_on_side}
 use Rattle.tri_cover.proofs.Cover.{covered_sides}
 use Rattle.tri_cover.proofs.triangles.Setup.bounds.Goals as goal

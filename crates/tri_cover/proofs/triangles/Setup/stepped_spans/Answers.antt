@@ -1,4 +1,4 @@
-use Rattle.std.proofs.Common.{◌≡◌, ◌+◌, ◌<◌, length, subst, sym, arith}
+use Rattle.std.proofs.Common.{◌≡◌, ◌+◌, ◌<◌, length, subst, arith}
 use Rattle.tri_cover.specs.Seen.{triangle_seen}
 use Rattle.tri_cover.specs.Walked.{AreSides}
 use Rattle.tri_cover.specs.Bounded.{IsSpan}
