@@ -2,6 +2,7 @@ pub mod Counted
 pub mod Ended
 pub mod Found
 pub mod Laws
+pub mod Lending
 pub mod Lists
 pub mod Outcomes
 pub mod Put
