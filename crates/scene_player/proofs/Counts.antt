@@ -68,7 +68,7 @@ counts-read c s st j old new before bytes read told left counts is = counts (sub
 
 module _ (st : Status) (j : Journal) (old new : Option (ℕ × ℕ)) (source : Reading) (o : Option Command) (own : Command) (taken : o ≡ Some own) where
   -- of a command of its own
-  CountsFor : Command → Type 0
+  abbrev pub CountsFor : Command → Type 0
   CountsFor c = (bytes : List ℕ) (s : Scene) → ReadsAndShows c.mode → IsToldIn c.mode source bytes → IsSceneOf c bytes s → CountsPictures st s j old new
 
   pub counts-taken : CountsFor own → (c : Command) → o ≡ Some c → CountsFor c

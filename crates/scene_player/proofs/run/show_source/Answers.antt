@@ -1,4 +1,4 @@
-use Rattle.std.proofs.Common.{ap, refl, Err}
+use Rattle.std.proofs.Common.{true, false, ap, refl, Err}
 use Rattle.scene_player.proofs.Ends.{are-left, long-read, read-answered, starved-read}
 use Rattle.scene_player.specs.Parts.{showing_command}
 use Rattle.scene_player.proofs.Counts.{counts-nothing, counts-read}

@@ -43,4 +43,4 @@ returns-in-Err-At-clause-counted g c = λ count s is.
 
 pub returns-in-Err-OutOfMemory-clause-counted : goal.returns-in-Err-OutOfMemory-clause-counted
 returns-in-Err-OutOfMemory-clause-counted g c = λ count s is.
-    counts-nothing _ status.OutOfMemory c.blank-in-Err-OutOfMemory.ensures.status (λ s i old new. tt) s _ _ _
+    counts-nothing _ status.OutOfMemory c.blank.ensures.status (λ s i old new. tt) s _ _ _
