@@ -1,7 +1,6 @@
-use Rattle.std.proofs.Common.{◌≡◌, true, false, Some, Option, map, string_bytes, ◌∙◌, ap, refl, sym}
+use Rattle.std.proofs.Common.{◌≡◌, true, false, Some, ◌∙◌, ap, refl, sym}
 use Rattle.std.specs.Prelude.{option_map}
-use Rattle.command_line_model.specs.Taken as model
-use Rattle.scene_player.specs.Words.{mode_seen, command_seen}
+use Rattle.scene_player.specs.Words.{command_seen}
 use Rattle.scene_player.specs.Parts.{showing_command}
 use Rattle.scene_player.specs.declared.words.Mode.{Mode}
 use Rattle.scene_player.proofs.Counts.{counts-taken}
@@ -21,14 +20,14 @@ pub returns-in-Play-clause-counted : goal.returns-in-Play-clause-counted
 returns-in-Play-clause-counted g c = λ c' bytes s also shows told is.
     let command = c.in-Ok-Some.command in
     let own = showing_command false command.journal command.count in
-    let seen = ap (λ (m : Mode). Some (record model.Command { mode = mode_seen m; journal = command.journal; count = command.count })) c.in-Play.is in
-    let is-own = sym c.in-Ok-Some.ensures.taken ∙ (ap (option_map command_seen) c.in-Ok-Some.field-0-is ∙ seen) in
+    let seen : command_seen command ≡ own = ap (λ (m : Mode). command_seen (record command { mode = m })) c.in-Play.is in
+    let is-own = sym c.in-Ok-Some.ensures.taken ∙ (ap (option_map command_seen) c.in-Ok-Some.field-0-is ∙ ap Some seen) in
     counts-taken c.show_source.result.status _ _ _ _ _ own is-own (λ bytes s shows told is. c.show_source.ensures.counted command.count bytes s told is) c' also bytes s shows told is
 
 pub returns-in-Replay-clause-counted : goal.returns-in-Replay-clause-counted
 returns-in-Replay-clause-counted g c = λ c' bytes s also shows told is.
     let command = c.in-Ok-Some.command in
     let own = showing_command true command.journal command.count in
-    let seen = ap (λ (m : Mode). Some (record model.Command { mode = mode_seen m; journal = command.journal; count = command.count })) c.in-Replay.is in
-    let is-own = sym c.in-Ok-Some.ensures.taken ∙ (ap (option_map command_seen) c.in-Ok-Some.field-0-is ∙ seen) in
+    let seen : command_seen command ≡ own = ap (λ (m : Mode). command_seen (record command { mode = m })) c.in-Replay.is in
+    let is-own = sym c.in-Ok-Some.ensures.taken ∙ (ap (option_map command_seen) c.in-Ok-Some.field-0-is ∙ ap Some seen) in
     counts-taken c.show_source-in-Replay.result.status _ _ _ _ _ own is-own (λ bytes s shows told is. c.show_source-in-Replay.ensures.counted command.count bytes s told is) c' also bytes s shows told is

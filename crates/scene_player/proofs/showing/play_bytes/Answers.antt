@@ -1,4 +1,4 @@
-use Rattle.std.proofs.Common.{inl, false, subst, length, map, sym, refl, arith}
+use Rattle.std.proofs.Common.{false, subst, length, map, sym, refl, arith}
 use Rattle.std.proofs.lemmas.List.{take_all}
 use Rattle.scene_model.specs.Grammar.{scene_of, whole_language}
 use Rattle.scene_model.specs.Run.{misread}
