@@ -10,3 +10,4 @@ pub mod Run
 pub mod Runs
 pub mod Seen
 pub mod Shown
+pub mod Lending

@@ -179,6 +179,24 @@ impl<P: Sink> Renderer<P> {
     }
 
     /// The sink.
+    pub fn sink(&self) -> &P
+        ensures { result.now ≡ self.now.sink }
+    {
+        &self.sink
+    }
+
+    ghost use Rattle.std.specs.Borrow.{sem};
+    ghost use Rattle.render_core.specs.Lending.{LendsSink};
+
+    /// The sink, to be emptied or replaced between frames. All else is kept.
+    pub fn sink_mut(&mut self) -> &mut P
+        ensures* writes_back { sem 𝓛 (LendsSink P.row self.entry result) }
+        ensures value { result.now ≡ self.old.sink }
+    {
+        &mut self.sink
+    }
+
+    /// The sink.
     pub fn into_sink(self) -> P
         ensures { result ≡ self.sink }
     {
