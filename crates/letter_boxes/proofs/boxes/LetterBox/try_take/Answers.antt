@@ -1,4 +1,4 @@
-use Rattle.std.proofs.Common.{rules, ap, ◌∙◌, sym, Some, None}
+use Rattle.std.proofs.Common.{rules, ap, ◌∙◌, Some, None}
 use Rattle.letter_boxes.proofs.MailKeeps.{enters_keep, grabs_keep, clears_keep, filled, held_slot}
 use Rattle.letter_boxes.proofs.boxes.LetterBox.try_take.Goals as goal
 
