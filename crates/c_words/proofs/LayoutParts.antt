@@ -1,9 +1,20 @@
 -- Parts of layouts, one after another.
-use Rattle.std.proofs.Common.{◌≡◌, ℕ, zero, suc, ◌+◌, ◌<◌, List, [], ◌∷◌, ◌++◌, length, take, slice_index_or, Option, Some, None, refl, sym, ap, ◌∙◌, subst, arith}
+use Rattle.std.proofs.Common.{◌≡◌, ◌≢◌, ◌==◌, if◌then◌else◌, Bool, ℕ, zero, suc, ◌+◌, ◌<◌, List, [], ◌∷◌, ◌++◌, length, take, slice_index_or, Option, Some, None, refl, sym, ap, ◌∙◌, arith}
 use Rattle.std.proofs.lemmas.List.{take_more}
-use Rattle.gfx_model.specs.Vertex.{LayoutPart}
+use Rattle.std.proofs.lemmas.Bool.{ne_eqb}
+use Rattle.gfx_model.specs.Vertex.{Attribute, ComponentType, LayoutPart, attribute_part, skip_part}
 use Rattle.c_words.specs.declared.layouts.Part.{Part}
-use Rattle.c_words.specs.Layouts.{part_of, parts_of, with_part}
+use Rattle.c_words.specs.Layouts.{attribute_of_number, attribute_with, component_of_number, part_of, parts_of, with_part}
+
+-- bytes that are passed over
+pub part_skips : (p : Part) → p.attribute ≡ 255 → part_of p ≡ Some (skip_part p.count)
+part_skips p e = ap (λ (n : ℕ). if n == 255 then Some (skip_part p.count) else attribute_with (attribute_of_number p.attribute) (component_of_number p.component) p.count) e
+
+-- an attribute
+pub part_is : (p : Part) (a : Attribute) (t : ComponentType) → p.attribute ≢ 255 → Some a ≡ attribute_of_number p.attribute → Some t ≡ component_of_number p.component → part_of p ≡ Some (attribute_part a t p.count)
+part_is p a t ne is of =
+    ap (λ (b : Bool). if b then Some (skip_part p.count) else attribute_with (attribute_of_number p.attribute) (component_of_number p.component) p.count) (ne_eqb p.attribute 255 ne)
+    ∙ (λ i. attribute_with (sym is i) (sym of i) p.count)
 
 with_snoc : (o : Option LayoutPart) (q r : Option (List LayoutPart)) (p : LayoutPart) (ps : List LayoutPart) → ((qs : List LayoutPart) → q ≡ Some qs → r ≡ Some (qs ++ p ∷ [])) → with_part o q ≡ Some ps → with_part o r ≡ Some (ps ++ p ∷ [])
 with_snoc (Some a) (Some qs) r p ps tail e = let is : a ∷ qs ≡ ps = cc e in ap (with_part (Some a)) (tail qs refl) ∙ ap (λ l. Some (l ++ p ∷ [])) is
