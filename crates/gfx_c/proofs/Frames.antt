@@ -1,5 +1,5 @@
 -- The end of a frame, step by step.
-use Rattle.std.proofs.Common.{◌≡◌, ℕ, ◌+◌, ◌-◌, ◌<◌, ◌≤◌, Bool, true, false, List, [], map, length, drop, ◌++◌, Option, Some, None, Result, Ok, Err, refl, sym, ap, ◌∙◌, subst, arith}
+use Rattle.std.proofs.Common.{◌≡◌, ℕ, ◌+◌, ◌-◌, ◌<◌, ◌≤◌, ◌||◌, inl, inr, Bool, true, false, List, [], map, length, drop, ◌++◌, Option, Some, None, Result, Ok, Err, refl, sym, ap, ◌∙◌, subst, arith}
 use Rattle.std.proofs.lemmas.List.{length-map}
 use Rattle.scene_model.specs.Output.{picture_text}
 use Rattle.gfx_model.specs.Frames.{collected}
@@ -20,7 +20,10 @@ use Rattle.context_core.specs.declared.ending.Prepared.{Prepared}
 use Rattle.render_core.specs.Outcomes.{is_shown}
 use Rattle.render_core.specs.Rendered.{Rendering, IsRendered}
 use Rattle.render_core.specs.Shown.{HeldAfter}
-use Rattle.gfx_c.specs.Frames.{Shows, HandsOut, came_back, emptied, picture_of}
+use Rattle.c_words.specs.declared.faults.Fault.{Fault}
+use Rattle.gfx_c.specs.declared.frame.Framed.{Framed}
+use Rattle.gfx_c.specs.Calls.{is_over}
+use Rattle.gfx_c.specs.Frames.{Shows, HandsOut, Delivers, IsDelivered, IsMade, FramesHere, came_back, emptied, picture_of}
 use Rattle.gfx_c.specs.Views.{ContextView, IsOn}
 use Rattle.gfx_c.proofs.Told.{context_with}
 
@@ -39,6 +42,9 @@ module _ (p : Prepared) (mid now : CoreView) (r : IsReady p mid now) where
   pub same_views : p.work.views ≡ now.state.book.resources.views
   same_views = r.prepared.work.views ∙ sym (ap (λ (c : CoreView). c.state.book.resources.views) r.after)
 
+  pub runs_still : mid.state.is_ended ≡ false → now.state.is_ended ≡ false
+  runs_still e = ap (λ (c : CoreView). c.state.is_ended) r.after ∙ e
+
   pub same_journal : map entry_seen p.journal.items ≡ collected (recordings_seen now.state.gathered)
   same_journal = r.prepared.journal ∙ sym (ap (λ (c : CoreView). collected (recordings_seen c.state.gathered)) r.after)
 
@@ -56,6 +62,14 @@ module _ (work : Work) (f : Frame) (now made : CoreView) (none : now.state.out �
 
   pub some_out : 0 < made.state.out
   some_out = let n = one_out in omega (arith, n)
+
+  -- it is the oldest that is out, since no other is
+  pub is_oldest : f.number + made.state.out ≡ made.state.book.resources.frame
+  is_oldest =
+      let n = one_out in
+      let number = g.is_of.number in
+      let next : made.state.book.resources.frame ≡ now.state.book.resources.frame + 1 = ap (λ (c : CoreView). c.state.book.resources.frame) g.same in
+      omega (arith, n, number, next, none)
 
   none_left : made.state.out - 1 ≡ 0
   none_left = let n = one_out in omega (arith, n, none)
@@ -93,3 +107,30 @@ handed f old new n before after s shown out =
 -- the room of a sink stays
 pub same_most : (a b : ℕ) → Some a ≡ Some b → a ≡ b
 same_most a b e = cc e
+
+-- a renderer with an empty sink is as emptied
+pub emptied_is : (a old : Rendering) → a.stores ≡ old.stores → a.outcomes ≡ old.outcomes → a.held ≡ Some [] → a.tally ≡ old.tally → a.faults ≡ 0 → a.sure ≡ old.sure → a ≡ emptied old
+emptied_is a old stores outcomes held tally faults sure j = record { stores = stores j; outcomes = outcomes j; held = held j; tally = tally j; faults = faults j; sure = sure j }
+
+-- ---- a frame ends
+
+-- of two that are both false the first is
+pub first_false : (a b : Bool) → (a || b) ≡ false → a ≡ false
+first_false true b e = absurd (cc e)
+first_false false b e = refl
+
+-- a frame that was made is delivered, or not
+module _ (frame : Frame) (dropped : ℕ) (before after : List ℕ) (old mid new : ContextView) (runs : is_over old ≡ false) (enough : old.most ≤ length before) (made : IsMade frame dropped old mid) where
+  pub delivered_told : (result : Result Framed Fault) → Delivers result frame dropped before after mid new → FramesHere result before after old new
+  delivered_told (Ok framed) d = record {
+    runs = runs;
+    mid = mid;
+    frame = frame;
+    made = subst (λ (n : ℕ). IsMade frame n old mid) (sym d.dropped_is) made;
+    delivered = subst (λ (n : ℕ). IsDelivered framed frame n before after mid new) (sym d.dropped_is) d;
+  }
+  delivered_told (Err f) d = inr (runs, inr (enough, inr (record { mid = mid; frame = frame; dropped = dropped; made = made; not_shown = d })))
+
+  -- its buffer is as long as a picture can be
+  pub enough_still : mid.most ≤ length before
+  enough_still = subst (λ (n : ℕ). n ≤ length before) (sym (ap (λ (c : ContextView). c.most) made.after)) enough

@@ -1,3 +1,4 @@
+mod Found
 mod AsBox
 mod On
 mod Told

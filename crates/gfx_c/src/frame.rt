@@ -40,6 +40,7 @@ fn not_made(cause: NotReady) -> Fault
 
 // Ends a frame that is ready, while none is out: it is made, and comes back at once.
 fn finish(core: &mut ContextCore, table: &HoldTable, prepared: Prepared) -> Frame
+    requires running { core.old.state.is_ended ≡ false }
     requires table { core.old.table ≡ table_of table.now }
     requires none_out { core.old.state.out ≡ 0 }
     requires ready { (mid : CoreView) × IsReady prepared mid core.old }
@@ -49,7 +50,7 @@ fn finish(core: &mut ContextCore, table: &HoldTable, prepared: Prepared) -> Fram
     let FrameEnd { frame, journal: _ } = core.finish(table, prepared, true);
     match frame {
         Some(frame) => {
-            core.came_back();
+            core.came_back(&frame);
             frame
         }
         None => unreachable!(),
@@ -97,7 +98,8 @@ impl Context {
     }
 
     fn finish(&mut self, prepared: Prepared) -> Frame
-        requires { (mid : CoreView) × IsReady prepared mid self.old.core }
+        requires running { self.old.core.state.is_ended ≡ false }
+        requires ready { (mid : CoreView) × IsReady prepared mid self.old.core }
         ensures { (made : CoreView) × Gives prepared.work result self.old.core made × (self.new ≡ record self.old { core = came_back made }) }
     {
         finish(&mut self.core, &self.shared.table, prepared)

@@ -1,4 +1,4 @@
-use Rattle.std.proofs.Common.{◌≡◌, sym, ap, subst}
+use Rattle.std.proofs.Common.{◌≡◌, sym, ap, ◌∙◌, subst}
 use Rattle.context_core.specs.Ended.{IsReady, Gives}
 use Rattle.context_core.specs.States.{CoreView}
 use Rattle.gfx_c.specs.Frames.{came_back}
@@ -8,8 +8,11 @@ use Rattle.gfx_c.proofs.Frames.{on_finished}
 use Rattle.gfx_c.proofs.Told.{context_with}
 use Rattle.gfx_c.proofs.context.Context.finish.Goals as goal
 
+pub finish-requires-clause-running : goal.finish-requires-clause-running
+finish-requires-clause-running c = ap (λ (v : ContextView). v.core.state.is_ended) c.self.view_is ∙ c.requires.running
+
 pub finish-requires-clause-ready : goal.finish-requires-clause-ready
-finish-requires-clause-ready c = (c.requires.0, subst (λ (v : ContextView). IsReady c.args.prepared c.requires.0 v.core) (sym c.self.view_is) c.requires.1)
+finish-requires-clause-ready c = (c.requires.ready.0, subst (λ (v : ContextView). IsReady c.args.prepared c.requires.ready.0 v.core) (sym c.self.view_is) c.requires.ready.1)
 
 pub invariant_of-self : goal.invariant_of-self
 invariant_of-self c = let e = c.finish.ensures in (on_finished c.self.invariant.0 c.args.prepared.work c.finish.result e.0 c.finish.new.core e.1 e.2, c.self.invariant.1)
