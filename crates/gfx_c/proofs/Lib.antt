@@ -1,4 +1,3 @@
-mod Found
 mod AsBox
 mod On
 mod Told
