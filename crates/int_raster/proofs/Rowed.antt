@@ -1,5 +1,6 @@
 -- Rows whose columns a list has.
-use Rattle.std.proofs.Common.{◌≡◌, ℕ, ◌+◌, ◌<◌, ◌≤◌, ◌&&◌, nat_le, nat_lt, List, slice_index_or, ap, sym, subst, ◌∙◌, arith}
+use Rattle.std.proofs.Common.{◌≡◌, ℕ, ◌+◌, ◌*◌, ◌<◌, ◌≤◌, ◌&&◌, nat_le, nat_lt, List, slice_index_or, ap, sym, subst, ◌∙◌, arith}
+use Rattle.std.proofs.Math.Nat.{mul-le-mul_left}
 use Rattle.gfx_model.specs.Raster.{contains, covers}
 use Rattle.fix_math.specs.Seen.{rect_seen}
 use Rattle.fix_math.specs.declared.geometry.Rect.{Rect}
@@ -18,3 +19,7 @@ pub span_here : (spans : List (ℕ × ℕ)) (s : Setup) (limits : ℕ × ℕ) (t
 span_here spans s limits top from k count h l =
     let e : top + from + k ≡ top + (from + k) = omega arith in
     subst (λ y. IsSpan (slice_index_or spans k (0, 0)) (setup_seen s).triangle limits.0 limits.1 y) e (h k l)
+
+-- a row of a surface ends within it
+pub row_inside : (row count width last size : ℕ) → row < count → last ≤ width → size ≡ width * count → row * width + last ≤ size
+row_inside row count width last size h l e = let k : row + 1 ≤ count = omega (arith, h) in omega (arith, mul-le-mul_left width k, l, e)

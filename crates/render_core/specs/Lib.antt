@@ -2,6 +2,7 @@ pub mod Counted
 pub mod Ended
 pub mod Found
 pub mod Laws
+pub mod Lending
 pub mod Lists
 pub mod Outcomes
 pub mod Put
@@ -10,4 +11,3 @@ pub mod Run
 pub mod Runs
 pub mod Seen
 pub mod Shown
-pub mod Lending

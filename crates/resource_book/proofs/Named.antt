@@ -135,10 +135,11 @@ index_set p (t ∷ ts) zero y d e i = ap (λ b. option_map (λ (u : Thing). u.ha
   by : (b : Bool) → option_map (λ (u : Thing). u.handle.index) (if b then Some y else find p ts) ≡ option_map (λ (u : Thing). u.handle.index) (if b then Some t else find p ts)
   by true = ap Some i
   by false = refl
-index_set p (t ∷ ts) (suc n) y d e i = by (p t) where
-  by : (b : Bool) → option_map (λ (u : Thing). u.handle.index) (if b then Some t else find p (slice_set ts n y)) ≡ option_map (λ (u : Thing). u.handle.index) (if b then Some t else find p ts)
-  by true = refl
-  by false = index_set p ts n y d e i
+index_set p (t ∷ ts) (suc n) y d e i = by (p t) (index_set p ts n y d e i) where
+  by : (b : Bool) → option_map (λ (u : Thing). u.handle.index) (find p (slice_set ts n y)) ≡ option_map (λ (u : Thing). u.handle.index) (find p ts)
+      → option_map (λ (u : Thing). u.handle.index) (if b then Some t else find p (slice_set ts n y)) ≡ option_map (λ (u : Thing). u.handle.index) (if b then Some t else find p ts)
+  by true r = refl
+  by false r = r
 
 -- a thing with another number of references
 module _ (names : List (List ℕ × ℕ)) (ts : List Thing) (n : ℕ) (y d : Thing) (lt : n < length ts) (handle : y.handle ≡ (slice_index_or ts n d).handle) (death : y.death ≡ (slice_index_or ts n d).death) (content : y.content ≡ (slice_index_or ts n d).content)

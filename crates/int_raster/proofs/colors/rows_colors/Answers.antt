@@ -1,11 +1,11 @@
-use Rattle.std.proofs.Common.{◌+◌, ◌≡◌, arith, ap, ◌∙◌}
+use Rattle.std.proofs.Common.{◌+◌, ◌*◌, ◌≡◌, length, arith, ap, ◌∙◌}
 use Rattle.std.proofs.lemmas.Option.{IfSome_then}
 use Rattle.gfx_model.specs.Number.{map_from}
 use Rattle.fix_math.specs.Seen.{rect_seen}
 use Rattle.int_raster.specs.Places.{below, above, is_drawn}
 use Rattle.int_raster.specs.Seen.{facing_seen, color_seen, color_change}
 use Rattle.int_raster.proofs.Raster.{drawn_column, row_more}
-use Rattle.int_raster.proofs.Rowed.{span_here}
+use Rattle.int_raster.proofs.Rowed.{span_here, row_inside}
 use Rattle.int_raster.proofs.colors.rows_colors.Goals as goal
 
 pub loop-k-init : goal.loop-k-init
@@ -21,6 +21,11 @@ drawn_columns-first-requires-clause-upper c = (c.requires.cut (c.args.from + c.l
 
 pub drawn_columns-first-requires-clause-lower : goal.drawn_columns-first-requires-clause-lower
 drawn_columns-first-requires-clause-lower c = (c.requires.cut (c.args.from + c.loop-k.k) (omega arith) (omega (arith, c.loop-k-test.true))).1
+
+pub draw_span-requires-clause-inside : goal.draw_span-requires-clause-inside
+draw_span-requires-clause-inside c =
+    let size : length c.loop-k.colors ≡ c.args.rows.now.width * c.args.rows.now.count = omega (arith, c.loop-k.auto.colors, c.requires.whole) in
+    row_inside (c.args.from + c.loop-k.k) c.args.rows.now.count c.args.rows.now.width c.drawn_columns-first.result.1 (length c.loop-k.colors) (omega (arith, c.loop-k-test.true, c.requires.inside)) c.drawn_columns-first.ensures.within size
 
 pub draw_span-requires-clause-paints : goal.draw_span-requires-clause-paints
 draw_span-requires-clause-paints c =
