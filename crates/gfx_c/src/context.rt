@@ -1,6 +1,9 @@
 // The context that C holds.
-ghost use Rattle.std.specs.Prelude.{◌≡◌, ◌≤◌, ◌||◌, ◌&&◌, not, true, IfOk};
-ghost use Rattle.gfx_c.specs.Calls.{IsOpened, OpensHere, is_side};
+ghost use Rattle.std.specs.Prelude.{◌≡◌, ◌≤◌, ◌+◌, ◌*◌, ◌||◌, ◌&&◌, not, true, [], IfOk};
+ghost use Rattle.hold_table.specs.Seats.{table_of};
+ghost use Rattle.context_core.specs.States.{opened_core};
+ghost use Rattle.gfx_c.specs.Calls.{IsOpened, OpensHere, first_rendering, is_side};
+ghost use Rattle.gfx_c.specs.Rendered.{rendering_of};
 ghost use Rattle.c_words.specs.Things.{named, named_or_none};
 
 use crate::picture::PictureSink;
@@ -58,6 +61,40 @@ fn is_length(side: u16) -> bool
     side >= 1 && side <= 2048
 }
 
+// A table with its letter boxes, and a core on it.
+fn new_core(alloc: Global) -> Result<(Shared, ContextCore), AllocError>
+    ensures { IfOk result (λ p. p.1 ≡ record { table = table_of p.0.table; state = opened_core (record { frame = 0; serial = 1; views = 512; latency = 1 }) }) }
+{
+    let (table, api) = HoldTable::new(alloc, START.frame)?;
+    let Ok(core) = ContextCore::new(alloc, api, START) else {
+        return Err(AllocError);
+    };
+    Ok((Shared::new(alloc, table)?, core))
+}
+
+// A sink for the text of a picture of these sides.
+fn new_sink(alloc: Global, width: u16, height: u16) -> Result<PictureSink, AllocError>
+    requires width { width ≤ 2048 }
+    requires height { height ≤ 2048 }
+    ensures { IfOk result (λ s. (s.text.items ≡ []) × (s.capacity ≡ 3 * (width * height) + 17) × (s.faults ≡ 0)) }
+{
+    let pixels = usize::from(width) * usize::from(height);
+    PictureSink::new(alloc, 3 * pixels + MOST_HEADER)
+}
+
+// A renderer that has drawn nothing, with such a sink.
+fn new_renderer(alloc: Global, width: u16, height: u16) -> Result<Renderer<PictureSink>, AllocError>
+    requires width { (1 ≤ width) × (width ≤ 2048) }
+    requires height { (1 ≤ height) × (height ≤ 2048) }
+    ensures { IfOk result (λ r. rendering_of r ≡ first_rendering width height) }
+{
+    let sink = new_sink(alloc, width, height)?;
+    match Renderer::new(alloc, width, height, sink) {
+        Ok(renderer) => Ok(renderer),
+        Err(_) => Err(AllocError),
+    }
+}
+
 impl Context {
     /// A context with nothing made, whose pictures have these sides. `BadSize` where a side is not 1 to 2,048; `OutOfMemory`.
     pub(crate) fn new(alloc: Global, width: u16, height: u16) -> Result<Context, Fault>
@@ -78,17 +115,10 @@ impl Context {
         requires sides { is_side width && is_side height ≡ true }
         ensures { IfOk result (IsOpened width height) }
     {
-        let (table, api) = HoldTable::new(alloc, START.frame)?;
-        let Ok(core) = ContextCore::new(alloc, api, START) else {
-            return Err(AllocError);
-        };
-        let shared = Arc::new(alloc, Shared::new(alloc, table)?)?;
+        let (shared, core) = new_core(alloc)?;
+        let shared = Arc::new(alloc, shared)?;
         let things = Things::new(alloc)?;
-        let pixels = usize::from(width) * usize::from(height);
-        let sink = PictureSink::new(alloc, 3 * pixels + MOST_HEADER)?;
-        let Ok(renderer) = Renderer::new(alloc, width, height, sink) else {
-            return Err(AllocError);
-        };
+        let renderer = new_renderer(alloc, width, height)?;
         Ok(Context {
             alloc,
             shared,
