@@ -1,7 +1,6 @@
 -- What can be named stays so.
-use Rattle.std.proofs.Common.{◌≡◌, ◌≢◌, ℕ, zero, suc, length, ◌+◌, ◌<◌, ◌≤◌, ◌==◌, ◌&&◌, Bool, true, false, List, [], ◌∷◌, Option, Some, None, refl, sym, ap, ◌∙◌, subst, arith, IsTrue, map, slice_set}
+use Rattle.std.proofs.Common.{◌≡◌, ◌≢◌, ℕ, length, ◌<◌, ◌≤◌, ◌==◌, ◌&&◌, Bool, true, false, List, Option, Some, None, refl, sym, ap, ◌∙◌, subst, IsTrue, slice_set}
 use Rattle.std.proofs.lemmas.Bool.{le-leb, true≢false}
-use Rattle.std.specs.List.{AllByRecursion}
 use mathlib.Core.Logic.{dite}
 use native.Mathlib.Decide.{ℕ_discrete}
 use Rattle.schedule_model.proofs.Lists.{all-map}
@@ -16,7 +15,7 @@ use Rattle.draw_encoder.specs.Names.{FitsItem}
 use Rattle.draw_encoder.specs.Bundles.{items_of}
 use Rattle.draw_encoder.proofs.NameLaws.{item_fits, uniforms_fit}
 use Rattle.context_core.specs.Places.{IsUsable, Stays}
-use Rattle.context_core.specs.Gathered.{IsCollected, AreCollected}
+use Rattle.context_core.specs.Gathered.{anything, IsCollected, AreCollected}
 use Rattle.context_core.specs.Kept.{IsTarget, AreTargets}
 use Rattle.context_core.specs.Laws.{StaysLaw}
 
@@ -43,7 +42,7 @@ module _ (admits : ℕ → ℕ → List Item → ℕ → Type 0) (views : ℕ) (
   all_stay frame s rs c = all-map (IsCollected admits views frame old) (IsCollected admits views frame new) (collected_stays frame s) rs c
 
 pub stays_law : StaysLaw
-stays_law admits views frame old new s = (all_stay admits views old new frame s, targets_stay frame old new s)
+stays_law views frame old new s = (all_stay anything views old new frame s, targets_stay frame old new s)
 
 -- ---- one place changes
 

@@ -12,7 +12,7 @@ use Rattle.call_laws.specs.Context.{HasItem, HasTargets}
 use Rattle.draw_encoder.specs.declared.items.Recording.{Recording}
 use Rattle.draw_encoder.specs.Names.{FitsItem}
 use Rattle.context_core.specs.Places.{IsUsable, Stays}
-use Rattle.context_core.specs.Gathered.{AreCollected}
+use Rattle.context_core.specs.Gathered.{anything, AreCollected}
 use Rattle.hold_table.specs.Views.{SeatView}
 use Rattle.context_core.specs.Kept.{IsTied, AreTargets}
 
@@ -58,7 +58,7 @@ AttachedLaw = (seat : SeatView) (r : Resources) → IsTied (bare_of r) seat → 
     → IsUsable frame seat.places h → HoldsUsable frame seat.places r.things t.content
 
 -- where what could be named in a frame can be named still, recordings of the frame were collected so still, and the targets of its views are so still: so
--- whoever keeps frames that are out keeps what they name, by the clause `stays` of each call
+-- whoever keeps frames that are out keeps what they name, by the clause `stays` of each call. What an encoder admitted hangs on no place
 abbrev pub StaysLaw : Type 0
-StaysLaw = (admits : ℕ → ℕ → List Item → ℕ → Type 0) (views frame : ℕ) (old new : List Place) → Stays frame old new
-    → ((rs : List Recording) → AreCollected admits views frame old rs → AreCollected admits views frame new rs) × ((vs : List View) → AreTargets frame old vs → AreTargets frame new vs)
+StaysLaw = (views frame : ℕ) (old new : List Place) → Stays frame old new
+    → ((rs : List Recording) → AreCollected anything views frame old rs → AreCollected anything views frame new rs) × ((vs : List View) → AreTargets frame old vs → AreTargets frame new vs)

@@ -7,7 +7,7 @@ use Rattle.frame_record.specs.declared.frame.Frame.{Frame}
 use Rattle.frame_record.specs.declared.frame.RenderedFrame.{RenderedFrame}
 use Rattle.frame_record.specs.Links.{out_of}
 use Rattle.context_core.specs.Places.{Stays}
-use Rattle.context_core.proofs.Stays.{stays_law}
+use Rattle.context_core.proofs.Stays.{all_stay, targets_stay}
 use Rattle.gfx_context.specs.Kept.{KeepsNames, AreOut}
 
 abbrev pub first_of : List ℕ → ℕ
@@ -27,8 +27,8 @@ module _ (admits : ℕ → ℕ → List Item → ℕ → Type 0) (views : ℕ) w
   frames_stay old new from (suc count) s (f ∷ fs) e a =
       let first : f.number ≡ from = ap first_of e in
       let rest : map (λ f. f.number) fs ≡ range_with_len (from + 1) count = ap rest_of e in
-      let stays = stays_law admits views f.number old new (s f.number (omega (arith, first)) (omega (arith, first))) in (
-        record { recordings = stays.0 f.recordings.items a.0.recordings; targets = stays.1 f.views.settings a.0.targets },
+      let stays : Stays f.number old new = s f.number (omega (arith, first)) (omega (arith, first)) in (
+        record { recordings = all_stay admits views old new f.number stays f.recordings.items a.0.recordings; targets = targets_stay f.number old new stays f.views.settings a.0.targets },
         frames_stay old new (from + 1) count (λ n le lt. s n (omega (arith, le)) (omega (arith, lt))) fs rest a.1,
       )
 

@@ -19,7 +19,7 @@ IsAscending r = (length (numbers_of r.items) ≤ 65528) × Ascends (numbers_of r
 none_below : (n m : ℕ) (ms : List ℕ) → n ≤ m → Ascends (m ∷ ms) → count_of n ms ≡ 0
 none_below n m [] le a = refl
 none_below n m (k ∷ ks) le a =
-    let zero : (if k == n then 1 else 0) ≡ 0 = ap (λ b. if b then 1 else 0) (ne_eqb k n (λ e. omega (arith, e, le, a.0))) in
+    let zero : ◌≡◌ {A = ℕ} (if k == n then 1 else 0) 0 = ap (λ b. if b then 1 else 0) (ne_eqb k n (λ e. omega (arith, e, le, a.0))) in
     let rest : count_of n ks ≡ 0 = none_below n k ks (omega (arith, le, a.0)) a.1 in
     omega (arith, zero, rest)
 
@@ -34,7 +34,7 @@ once n (m ∷ []) a = let one = one_most (m == n) in omega (arith, one)
 once n (m ∷ k ∷ ks) a =
     ⊎_elim
     (λ (lt : m < n).
-    let zero : (if m == n then 1 else 0) ≡ 0 = ap (λ b. if b then 1 else 0) (ne_eqb m n (λ e. omega (arith, e, lt))) in
+    let zero : ◌≡◌ {A = ℕ} (if m == n then 1 else 0) 0 = ap (λ b. if b then 1 else 0) (ne_eqb m n (λ e. omega (arith, e, lt))) in
     let rest : count_of n (k ∷ ks) ≤ 1 = once n (k ∷ ks) a.1 in
     omega (arith, zero, rest))
     (λ (le : n ≤ m).

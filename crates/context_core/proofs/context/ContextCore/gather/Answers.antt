@@ -1,4 +1,4 @@
-use Rattle.std.proofs.Common.{rules, ◌≡◌, ℕ, ap, sym, subst, ◌∙◌, List}
+use Rattle.std.proofs.Common.{rules, ℕ, ap, sym, subst, ◌∙◌, List}
 use Rattle.gfx_model.specs.Views.{view_count}
 use Rattle.hold_table.specs.Seats.{api_table, api_view}
 use Rattle.draw_encoder.specs.Bundles.{BelongTogether}
