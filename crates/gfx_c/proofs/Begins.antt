@@ -38,19 +38,3 @@ module _ (rows : List (Option Handle)) (renderer : Rendering) (is_shown : Bool) 
 
   pub recorder_told : (room : Room) (result : Result RecorderView Refusal) → IsBegin own (λ r. r.state) result room a b → IfOk result (λ r. r.table ≡ a.table) → (old : ContextView) → with_core a ≡ old → BeginsRecorder result room old (with_core b)
   recorder_told room result m same old e = subst (λ (v : ContextView). BeginsRecorder result room v (with_core b)) e (recorder_now room result m same)
-
--- memory may be wanting earlier
-weaker : (o : Option model.Refusal) (first : Option model.Refusal) → MatchOption o (first ≡ None) (λ x. first ≡ Some x) → MatchOption o ⊤ (λ x. first ≡ Some x)
-weaker None first h = tt
-weaker (Some x) first h = h
-
-pub first_or_want : (first : Option model.Refusal) (r : Refusal) → IsFirstRefusalOrOutOfMemory first r → IsFirstRefusalOrWant first r
-first_or_want first r h = weaker (refusal_seen r) first h
-
--- a begin, with the handles of the context
-pub begins_told : (rows : List (Option Handle)) (room : Room) (result : Result EncoderView Refusal) (told : Result EncoderView Fault) (old new : ContextView) → is_over old ≡ false → rows ≡ old.rows → told ≡ told_of result → BeginsEncoder result rows room old new → BeginsHere told room old new
-begins_told rows room result told old new runs same is m = subst (λ (x : Result EncoderView Fault). BeginsHere x room old new) (sym is) (go result m)
-  where
-    go : (result : Result EncoderView Refusal) → BeginsEncoder result rows room old new → BeginsHere (told_of result) room old new
-    go (Ok e) m = (runs, m.0, m.1, m.2 ∙ same, m.3)
-    go (Err r) m = ((runs, first_or_want (frame_refusal _ (begin_encoder room)) r m.0), m.1)

@@ -15,7 +15,7 @@ use Rattle.context_core.specs.States.{CoreView, own}
 use Rattle.context_core.specs.declared.ending.NotReady.{NotReady}
 use Rattle.context_core.specs.declared.ending.NotReady.TheVariants as causes
 use Rattle.context_core.specs.declared.ending.Prepared.{Prepared}
-use Rattle.context_core.proofs.Same.{same_after}
+use Rattle.resource_book.proofs.SameLaws.{same_law}
 use Rattle.gfx_c.specs.Calls.{Gathers, gathers_none, gathers_more}
 use Rattle.gfx_c.specs.Views.{IsOn}
 
@@ -26,7 +26,7 @@ module _ {t : TableId} {a : CoreView} (o : IsOn t a) (b : CoreView) where
   pub on_creates : (call : ResourceCall) (result : Result Handle Refusal) → Creates own result call a b → IsOn t b
   on_creates call (Ok h) m = record {
     table_is = ap (λ (c : CoreView). c.table) m.after ∙ o.table_is;
-    views_are = ap (λ (c : CoreView). view_count c.state.book.resources.views) m.after ∙ (same_after a.state.book.resources call).0 ∙ o.views_are;
+    views_are = ap (λ (c : CoreView). view_count c.state.book.resources.views) m.after ∙ (same_law a.state.book.resources call).0 ∙ o.views_are;
     none_out = ap (λ (c : CoreView). c.state.out) m.after ∙ o.none_out;
   }
   on_creates call (Err r) m = on_same m.1
@@ -34,7 +34,7 @@ module _ {t : TableId} {a : CoreView} (o : IsOn t a) (b : CoreView) where
   pub on_updates : (call : ResourceCall) (result : Result (Unit {0}) Refusal) → Updates own result call a b → IsOn t b
   on_updates call (Ok u) m = record {
     table_is = ap (λ (c : CoreView). c.table) m.1 ∙ o.table_is;
-    views_are = ap (λ (c : CoreView). view_count c.state.book.resources.views) m.1 ∙ (same_after a.state.book.resources call).0 ∙ o.views_are;
+    views_are = ap (λ (c : CoreView). view_count c.state.book.resources.views) m.1 ∙ (same_law a.state.book.resources call).0 ∙ o.views_are;
     none_out = ap (λ (c : CoreView). c.state.out) m.1 ∙ o.none_out;
   }
   on_updates call (Err r) m = on_same m.1
@@ -42,7 +42,7 @@ module _ {t : TableId} {a : CoreView} (o : IsOn t a) (b : CoreView) where
   pub on_changes : (call : ResourceCall) (result : Result (Unit {0}) Refusal) → Changes own result call a b → IsOn t b
   on_changes call (Ok u) m = record {
     table_is = ap (λ (c : CoreView). c.table) m.1 ∙ o.table_is;
-    views_are = ap (λ (c : CoreView). view_count c.state.book.resources.views) m.1 ∙ (same_after a.state.book.resources call).0 ∙ o.views_are;
+    views_are = ap (λ (c : CoreView). view_count c.state.book.resources.views) m.1 ∙ (same_law a.state.book.resources call).0 ∙ o.views_are;
     none_out = ap (λ (c : CoreView). c.state.out) m.1 ∙ o.none_out;
   }
   on_changes call (Err r) m = on_same m.1
@@ -50,7 +50,7 @@ module _ {t : TableId} {a : CoreView} (o : IsOn t a) (b : CoreView) where
   pub on_destroys : (h : Handle) (result : Result (Unit {0}) Refusal) → Destroys own result h a b → IsOn t b
   on_destroys h (Ok u) m = record {
     table_is = ap (λ (c : CoreView). c.table) m.1 ∙ o.table_is;
-    views_are = ap (λ (c : CoreView). view_count c.state.book.resources.views) m.1 ∙ (same_after a.state.book.resources (destroy h)).0 ∙ o.views_are;
+    views_are = ap (λ (c : CoreView). view_count c.state.book.resources.views) m.1 ∙ (same_law a.state.book.resources (destroy h)).0 ∙ o.views_are;
     none_out = ap (λ (c : CoreView). c.state.out) m.1 ∙ o.none_out;
   }
   on_destroys h (Err r) m = on_same m.1

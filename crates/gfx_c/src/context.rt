@@ -115,8 +115,8 @@ impl Context {
         requires sides { is_side width && is_side height ≡ true }
         ensures { IfOk result (IsOpened width height) }
     {
-        let (shared, core) = new_core(alloc)?;
-        let shared = Arc::new(alloc, shared)?;
+        let (boxes, core) = new_core(alloc)?;
+        let shared = Arc::new(alloc, boxes)?;
         let things = Things::new(alloc)?;
         let renderer = new_renderer(alloc, width, height)?;
         Ok(Context {

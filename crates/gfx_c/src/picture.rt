@@ -13,7 +13,7 @@ pub struct PictureSink {
     faults: u64,
     ghost room: { capacity ≤ vec_capacity text },
     ghost within: { vec_len text ≤ capacity },
-    ghost never_short: { vec_len text < capacity → faults ≡ 0 },
+    ghost never_short: { length text.items < capacity → faults ≡ 0 },
 }
 
 impl PictureSink {

@@ -10,11 +10,6 @@ use Rattle.gfx_c.proofs.On.{on_gathers}
 use Rattle.gfx_c.proofs.Told.{context_with}
 use Rattle.gfx_c.proofs.context.Context.gather.Goals as goal
 
-pub gather-requires-clause-table : goal.gather-requires-clause-table
-gather-requires-clause-table c =
-    let is = c.self.invariant.0.table_is in
-    (is, ap (λ (b : Recording × EncSeat). enc_table b.1) c.part-recording.ensures.same ∙ c.requires ∙ sym (ap (λ (v : ContextView). v.core.table) c.self.view_is) ∙ is)
-
 pub gather-requires-clause-together : goal.gather-requires-clause-together
 gather-requires-clause-together c =
     let p = c.part-recording in

@@ -1,9 +1,0 @@
-use Rattle.std.proofs.Common.{refl}
-use Rattle.gfx_c.proofs.Slots.{on_context, no_context}
-use Rattle.gfx_c.proofs.c_views.gfx_set_view_rect.Goals as goal
-
-pub returns-in-None : goal.returns-in-None
-returns-in-None c = no_context _ _ _ _ _ c.in-None.ensures.0 refl c.in-None.ensures.1 tt
-
-pub returns : goal.returns
-returns c = on_context _ _ _ _ _ c.in-Some.api c.set_view_rect-answer.new.self c.in-Some.ensures.0 c.put_context.ensures c.set_view_rect-answer.result c.status.ensures c.set_view_rect-answer.ensures
