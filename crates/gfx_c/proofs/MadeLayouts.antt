@@ -11,6 +11,11 @@ use Rattle.c_words.specs.Layouts.{IsLayoutOf}
 use Rattle.gfx_c.specs.Calls.{CreatesHere, MakesLayout}
 use Rattle.gfx_c.specs.Views.{ContextView}
 
+-- the fault of a layout's parts, or another one
+fault_in : Fault → Result Layout Fault → Fault
+fault_in other (Ok layout) = other
+fault_in other (Err f) = f
+
 module _ (result : Result Handle Fault) (old new : ContextView) where
   abbrev Made : Option Layout → Type 0
   Made o = MatchOption o ((result ≡ Err (faults.Refused refusals.BadSize)) × (new ≡ old)) (λ layout. CreatesHere result (create_layout layout) old new)
@@ -19,9 +24,6 @@ module _ (result : Result Handle Fault) (old new : ContextView) where
   layout_made None layout h m = absurd (cc h)
   layout_made (Some parts) layout h m = subst Made (sym h) m
 
-  same_fault : (f g : Fault) → Err {T = Layout} f ≡ Err g → f ≡ g
-  same_fault f g e = cc e
-
   pub layout_refused : (o : Option (List LayoutPart)) (f : Fault) → IsLayoutOf o (Err f) → result ≡ Err f → new ≡ old → MakesLayout o result old new
-  layout_refused None f h is same = (is ∙ ap (λ x. Err x) (same_fault f faults.BadValue h), same)
+  layout_refused None f h is same = (is ∙ ap (λ (r : Result Layout Fault). Err (fault_in f r)) h, same)
   layout_refused (Some parts) f h is same = subst Made (sym h.1) (is ∙ ap (λ x. Err x) h.0, same)

@@ -35,11 +35,11 @@ came_back-requires-clause-oldest c =
     let g = made_some c.args.prepared.work c.finish-frame.result.frame c.in-Some.frame c.args.core.now made c.in-Some.is c.finish-frame.ensures.answer in
     is_oldest c.args.prepared.work c.in-Some.frame c.args.core.now made c.requires.none_out g
 
-pub prove-unreachable-requires : goal.prove-unreachable-requires
-prove-unreachable-requires c = made_none c.args.prepared.work c.finish-frame.result.frame c.args.core.now c.finish-frame.new.self c.in-None.is c.finish-frame.ensures.answer
+pub unreachable-requires : goal.unreachable-requires
+unreachable-requires c = made_none c.args.prepared.work c.finish-frame.result.frame c.args.core.now c.finish-frame.new.self c.in-None.is c.finish-frame.ensures.answer
 
-pub returns-in-Some : goal.returns-in-Some
-returns-in-Some c =
+pub returns : goal.returns
+returns c =
     let made = c.finish-frame.new.self in
     let g = made_some c.args.prepared.work c.finish-frame.result.frame c.in-Some.frame c.args.core.now made c.in-Some.is c.finish-frame.ensures.answer in
     (made, g, back c.args.prepared.work c.in-Some.frame c.args.core.now made c.requires.none_out g _ c.came_back.ensures)

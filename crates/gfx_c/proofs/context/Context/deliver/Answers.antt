@@ -8,6 +8,6 @@ hand_out-picture-requires c = subst (λ (n : ℕ). n ≤ length c.args.buffer.no
 
 pub returns : goal.returns
 returns c =
-    let shown = sym c.is_shown.ensures ∙ c.if-is_shown.true in
+    let shown = sym c.is_shown.ensures ∙ c.if-not-is_shown.false in
     let h = handed c.args.frame c.args.self.now c.show.new.self c.hand_out-picture.result c.args.buffer.now c.hand_out-picture.new.buffer c.show.ensures shown c.hand_out-picture.ensures in
     record { number = refl; dropped_is = refl; shows = c.show.ensures; shown = shown; bytes = h.0; fits = h.1; picture = h.2 }
