@@ -12,7 +12,7 @@ use Rattle.gfx_c.specs.Calls.{CreatesHere, MakesLayout}
 use Rattle.gfx_c.specs.Views.{ContextView}
 
 -- the fault of a layout's parts, or another one
-fault_in : Fault → Result Layout Fault → Fault
+abbrev fault_in : Fault → Result Layout Fault → Fault
 fault_in other (Ok layout) = other
 fault_in other (Err f) = f
 

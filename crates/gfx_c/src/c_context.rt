@@ -120,7 +120,7 @@ pub extern "C" fn gfx_begin(
 /// Collects what encoders of this frame ended with and has come, and tells how many have not come.
 #[unsafe(no_mangle)]
 pub extern "C" fn gfx_collect(alloc: Global, context: &mut Slot, off: &mut u32) -> u32
-    ensures { OnContext context.old.value context.new.value result (λ r c d. (r ≡ Ok tt) × Collects off.new c d) (off.new ≡ off.old) }
+    ensures { OnContext context.old.value context.new.value result (λ r c d. (r ≡ Ok (tt {0})) × Collects off.new c d) (off.new ≡ off.old) }
 {
     let Some((object, mut api)) = take_context(context, alloc) else {
         return NO_OBJECT;
@@ -133,7 +133,7 @@ pub extern "C" fn gfx_collect(alloc: Global, context: &mut Slot, off: &mut u32) 
 /// Tells the number of the frame that is recorded.
 #[unsafe(no_mangle)]
 pub extern "C" fn gfx_frame_number(alloc: Global, context: &mut Slot, number: &mut u32) -> u32
-    ensures { OnContext context.old.value context.new.value result (λ r c d. (r ≡ Ok tt) × (d ≡ c) × (number.new ≡ c.core.state.book.resources.frame)) (number.new ≡ number.old) }
+    ensures { OnContext context.old.value context.new.value result (λ r c d. (r ≡ Ok (tt {0})) × (d ≡ c) × (number.new ≡ c.core.state.book.resources.frame)) (number.new ≡ number.old) }
 {
     let Some((object, api)) = take_context(context, alloc) else {
         return NO_OBJECT;

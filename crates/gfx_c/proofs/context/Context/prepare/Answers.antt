@@ -6,8 +6,8 @@ use Rattle.gfx_c.proofs.On.{on_prepares}
 use Rattle.gfx_c.proofs.Told.{context_with}
 use Rattle.gfx_c.proofs.context.Context.prepare.Goals as goal
 
-pub prepare-requires-clause-running : goal.prepare-requires-clause-running
-prepare-requires-clause-running c = ap (λ (v : ContextView). v.core.state.is_ended) c.self.view_is ∙ c.requires
+pub prepare-requires : goal.prepare-requires
+prepare-requires c = record { running = ap (λ (v : ContextView). v.core.state.is_ended) c.self.view_is ∙ c.requires }
 
 pub invariant_of-self : goal.invariant_of-self
 invariant_of-self c = (on_prepares c.self.invariant.0 c.prepare.new.self c.prepare.result c.prepare.ensures, c.self.invariant.1)

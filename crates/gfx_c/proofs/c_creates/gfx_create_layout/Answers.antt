@@ -1,9 +1,0 @@
-use Rattle.std.proofs.Common.{refl}
-use Rattle.gfx_c.proofs.Slots.{on_context, no_context}
-use Rattle.gfx_c.proofs.c_creates.gfx_create_layout.Goals as goal
-
-pub returns-in-None : goal.returns-in-None
-returns-in-None c = no_context _ _ _ _ _ c.in-None.ensures.0 refl c.in-None.ensures.1 refl
-
-pub returns : goal.returns
-returns c = on_context _ _ _ _ _ c.in-Some.api c.create_layout-answer.new.self c.in-Some.ensures.0 c.put_context.ensures c.create_layout-answer.result c.word.ensures.status (c.word.ensures.thing, c.create_layout-answer.ensures)

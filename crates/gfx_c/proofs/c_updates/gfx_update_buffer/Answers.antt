@@ -1,9 +1,0 @@
-use Rattle.std.proofs.Common.{refl}
-use Rattle.gfx_c.proofs.Slots.{on_context, no_context}
-use Rattle.gfx_c.proofs.c_updates.gfx_update_buffer.Goals as goal
-
-pub returns-in-None : goal.returns-in-None
-returns-in-None c = no_context _ _ _ _ _ c.in-None.ensures.0 refl c.in-None.ensures.1 tt
-
-pub returns : goal.returns
-returns c = on_context _ _ _ _ _ c.in-Some.api c.update_buffer-answer.new.self c.in-Some.ensures.0 c.put_context.ensures c.update_buffer-answer.result c.status.ensures c.update_buffer-answer.ensures
