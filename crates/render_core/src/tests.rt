@@ -26,7 +26,7 @@ use std::thread::{Promise, Threads};
 use view_table::ViewTable;
 
 // The types that an item is made of.
-type Parts = (
+pub(crate) type Parts = (
     DrawItem,
     VertexSet,
     IndexSet,
@@ -104,6 +104,8 @@ pub(crate) fn framed(
     post: CmdBytes,
     item: Item,
 ) -> Result<Frame, AllocError> {
+    // The types of the item's parts are seen here for the same reason.
+    let _parts: Option<Parts> = None;
     let mut items = Vec::new(alloc);
     items.push(item)?;
     recorded(alloc, number, views, pre, post, items)

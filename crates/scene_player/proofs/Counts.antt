@@ -1,10 +1,8 @@
 -- What a sink of pictures counted after a run.
-use Rattle.std.proofs.Common.{◌≡◌, ◌∙◌, ℕ, Bool, List, Option, Some, Result, Ok, refl, sym, subst, inl, inr}
-use Rattle.io_edge.specs.Edge.{counted}
+use Rattle.std.proofs.Common.{◌≡◌, ◌∙◌, ℕ, List, Option, Some, Result, Ok, sym, subst, inl, inr}
 use Rattle.scene_model.specs.Scene.{Scene}
 use Rattle.scene_model.specs.Grammar.{Fault}
 use Rattle.scene_model.specs.Journal.{Journal}
-use Rattle.scene_model.specs.Output.{pictures_text}
 use Rattle.command_line_model.specs.Taken.{Command}
 use Rattle.scene_showing.specs.declared.showing.End.{End}
 use Rattle.scene_showing.specs.declared.showing.End.TheVariants as ends
@@ -14,7 +12,7 @@ use Rattle.scene_player.specs.declared.status.Status.TheVariants as status
 use Rattle.scene_player.specs.Ended.{CountsPictures, IsSceneOf, IsToldIn, ReadsAndShows}
 use Rattle.scene_player.specs.Io.{AreLeft, Putting, Reading}
 use Rattle.scene_player.specs.Noted.{IsNoted}
-use Rattle.scene_player.specs.Parts.{IsRefusedWith, MayRefuse}
+use Rattle.scene_player.specs.Parts.{MayRefuse}
 use Rattle.scene_player.proofs.Ends.{told-is}
 
 -- what was shown whole was counted
@@ -68,7 +66,7 @@ counts-read c s st j old new before bytes read told left counts is = counts (sub
 
 module _ (st : Status) (j : Journal) (old new : Option (ℕ × ℕ)) (source : Reading) (o : Option Command) (own : Command) (taken : o ≡ Some own) where
   -- of a command of its own
-  CountsFor : Command → Type 0
+  abbrev pub CountsFor : Command → Type 0
   CountsFor c = (bytes : List ℕ) (s : Scene) → ReadsAndShows c.mode → IsToldIn c.mode source bytes → IsSceneOf c bytes s → CountsPictures st s j old new
 
   pub counts-taken : CountsFor own → (c : Command) → o ≡ Some c → CountsFor c

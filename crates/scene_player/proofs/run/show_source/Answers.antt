@@ -1,7 +1,7 @@
-use Rattle.std.proofs.Common.{ap, refl, Err}
+use Rattle.std.proofs.Common.{true, false, ap, refl, Err}
 use Rattle.scene_player.proofs.Ends.{are-left, long-read, read-answered, starved-read}
 use Rattle.scene_player.specs.Parts.{showing_command}
-use Rattle.scene_player.proofs.Counts.{counts-nothing, counts-read}
+use Rattle.scene_player.proofs.Counts.{counts-read}
 use Rattle.scene_player.proofs.run.show_source.Goals as goal
 
 pub returns-then-is_replay-clause-answered : goal.returns-then-is_replay-clause-answered

@@ -1,4 +1,4 @@
-use Rattle.std.proofs.Common.{inl, false, subst, length, map, sym, refl, arith}
+use Rattle.std.proofs.Common.{false, subst, length, map, sym, refl, arith}
 use Rattle.std.proofs.lemmas.List.{take_all}
 use Rattle.scene_model.specs.Grammar.{scene_of, whole_language}
 use Rattle.scene_model.specs.Run.{misread}
@@ -43,4 +43,4 @@ returns-in-Err-At-clause-counted g c = λ count s is.
 
 pub returns-in-Err-OutOfMemory-clause-counted : goal.returns-in-Err-OutOfMemory-clause-counted
 returns-in-Err-OutOfMemory-clause-counted g c = λ count s is.
-    counts-nothing _ status.OutOfMemory c.blank-in-Err-OutOfMemory.ensures.status (λ s i old new. tt) s _ _ _
+    counts-nothing _ status.OutOfMemory c.blank.ensures.status (λ s i old new. tt) s _ _ _

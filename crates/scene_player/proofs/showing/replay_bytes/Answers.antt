@@ -12,7 +12,7 @@ use Rattle.scene_player.specs.declared.status.Status.TheVariants as status
 use Rattle.scene_player.specs.Parts.{place_of, showing_command, FailsLawful}
 use Rattle.scene_player.proofs.Answered.{shows-scene}
 use Rattle.scene_player.proofs.Refused.{judges, may-refuse, misreads-front, replays}
-use Rattle.scene_player.proofs.Counts.{counts-front, counts-nothing, counts-refused}
+use Rattle.scene_player.proofs.Counts.{counts-front, counts-refused}
 use Rattle.scene_player.proofs.showing.replay_bytes.Goals as goal
 
 pub returns-in-Err-At-clause-answered : goal.returns-in-Err-At-clause-answered
