@@ -41,7 +41,7 @@ pub extern "C" fn gfx_update_texture(
     h: u16,
     bytes: &[u8],
 ) -> u32
-    ensures { OnContext context.old.value context.new.value result (λ r c d. OnThing c.rows texture r c d (λ h. UpdatesHere r (model.update_texture h (record { x = x; y = y; w = w; h = h }) bytes.now) c d)) ⊤ }
+    ensures { OnContext context.old.value context.new.value result (λ r c d. OnThing c.rows texture r c d (λ thing. UpdatesHere r (model.update_texture thing (record { x = x; y = y; w = w; h = h }) bytes.now) c d)) ⊤ }
 {
     let Some((object, mut api)) = take_context(context, alloc) else {
         return NO_OBJECT;
