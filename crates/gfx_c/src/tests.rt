@@ -38,6 +38,7 @@ fn one_frame(rt: HostRuntime) -> Result<(), Fail> {
     let mut off = 9;
     let mut framed = NOTHING;
     let mut picture = vec![in alloc; 0u8; 41]?;
+    let mut small = vec![in alloc; 0u8; 40]?;
     assert_eq!(rt; gfx_init(alloc, &mut context, 0, 4), 4);
     assert_eq!(rt; gfx_init(alloc, &mut context, 2, 4), 0);
     assert_eq!(rt; gfx_init(alloc, &mut context, 2, 4), 105);
@@ -51,7 +52,7 @@ fn one_frame(rt: HostRuntime) -> Result<(), Fail> {
     assert_eq!(rt; gfx_begin(alloc, &mut context, &mut encoder, 2, 0, 0), 105);
     assert_eq!(rt; gfx_touch(alloc, &mut encoder, 512), 10);
     assert_eq!(rt; gfx_touch(alloc, &mut encoder, 511), 0);
-    assert_eq!(rt; gfx_submit(alloc, &mut encoder, 0, program + 1, 0, 0), 2);
+    assert_eq!(rt; gfx_submit(alloc, &mut encoder, 0, program ^ 1, 0, 0), 2);
     assert_eq!(rt; gfx_submit(alloc, &mut encoder, 0, program, 0, 0), 0);
     assert_eq!(rt; gfx_touch(alloc, &mut encoder, 511), 8);
     assert_eq!(rt; gfx_collect(alloc, &mut context, &mut off), 0);
@@ -64,7 +65,7 @@ fn one_frame(rt: HostRuntime) -> Result<(), Fail> {
     assert_eq!(rt; gfx_end(alloc, &mut encoder, 3), 0);
     assert_eq!(rt; gfx_end(alloc, &mut encoder, 3), 100);
     assert_eq!(rt;
-        gfx_frame(alloc, &mut context, &mut picture[..40], &mut framed),
+        gfx_frame(alloc, &mut context, &mut small, &mut framed),
         103
     );
     assert_eq!(rt;
@@ -72,7 +73,7 @@ fn one_frame(rt: HostRuntime) -> Result<(), Fail> {
         0
     );
     assert_eq!(rt; (framed.number, framed.picture, framed.dropped), (0, 35, 3));
-    assert_eq!(rt; picture[..11], b"P6\n2 4\n255\n"[..]);
+    assert!(rt; picture.strip_prefix(b"P6\n2 4\n255\n".as_slice()).is_some());
     assert_eq!(rt; gfx_destroy(alloc, &mut context, program), 0);
     assert_eq!(rt; gfx_destroy(alloc, &mut context, program), 2);
     assert_eq!(rt; gfx_drop(alloc, &mut context), 100);
