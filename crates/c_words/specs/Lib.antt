@@ -1,0 +1,4 @@
+pub mod Layouts
+pub mod Modes
+pub mod Statuses
+pub mod Things

@@ -1,0 +1,66 @@
+// One example of each call.
+use crate::{Fault, Part, Things, layout_of, mode_of, status, told};
+use gfx_words::{Handle, Info, Kind, Refusal, ViewMode};
+use std::alloc::Global;
+use std::test::Fail;
+
+#[test]
+fn numbers_of_faults(rt: HostRuntime) -> Result<(), Fail> {
+    assert_eq!(rt; status(Ok(())), 0);
+    assert_eq!(rt; status(told(Err::<(), Refusal>(Refusal::OutOfMemory))), 17);
+    assert_eq!(rt; status(Err(Fault::Unknown)), 2);
+    assert_eq!(rt; status(Err(Fault::Taken)), 105);
+    Ok(())
+}
+
+// A texture is given, and then another one of the same index: by the first one's word before and after, and by the other's.
+fn found(alloc: Global) -> Option<(bool, bool, bool)> {
+    let mut things = Things::new(alloc).ok()?;
+    let first = Handle::of(Kind::Texture, 1023, 7, Info::Plain);
+    let other = Handle::of(Kind::Texture, 1023, 8, Info::Plain);
+    things.put(first);
+    let before = things.find(first.word()) == Some(first);
+    things.put(other);
+    let things = things.copy().ok()?;
+    let after = things.find(first.word()).is_none();
+    Some((
+        before,
+        after,
+        things.find_maybe(other.word()) == Some(Some(other)),
+    ))
+}
+
+#[test]
+fn words_of_one_index(rt: HostRuntime) -> Result<(), Fail> {
+    assert_eq!(rt; found(rt.alloc()), Some((true, true, true)));
+    Ok(())
+}
+
+fn part(attribute: u8, component: u8, count: u8) -> Part {
+    Part {
+        attribute,
+        component,
+        count,
+    }
+}
+
+#[test]
+fn layouts_of_parts(rt: HostRuntime) -> Result<(), Fail> {
+    assert!(rt; layout_of(&[part(0, 2, 3), part(255, 9, 4), part(3, 0, 4)]).is_ok());
+    assert!(rt; matches!(layout_of(&[part(7, 0, 1)]), Err(Fault::BadValue)));
+    assert!(rt; matches!(layout_of(&[part(0, 3, 1)]), Err(Fault::BadValue)));
+    assert!(rt;
+        matches!(
+            layout_of(&[part(0, 2, 5)]),
+            Err(Fault::Refused(Refusal::BadSize))
+        )
+    );
+    Ok(())
+}
+
+#[test]
+fn modes_of_numbers(rt: HostRuntime) -> Result<(), Fail> {
+    assert!(rt; matches!(mode_of(3), Some(ViewMode::DepthDescending)));
+    assert!(rt; mode_of(4).is_none());
+    Ok(())
+}

@@ -1,0 +1,64 @@
+-- What its core answers, a context answers.
+use Rattle.std.proofs.Common.{◌≡◌, ℕ, Bool, List, Option, Some, None, Result, Ok, Err, refl, ap, sym, ◌∙◌, subst}
+use Rattle.std.specs.Prelude.{slice_set, MatchOption}
+use Rattle.gfx_model.specs.Words.{Handle}
+use Rattle.gfx_model.specs.Resources.{ResourceCall}
+use Rattle.gfx_words.specs.Names.{handle_word}
+use Rattle.gfx_words.specs.declared.refusals.Refusal.{Refusal}
+use Rattle.context_core.specs.Calls.{Creates, Updates, Changes, Destroys}
+use Rattle.context_core.specs.States.{CoreView, own}
+use Rattle.render_core.specs.Rendered.{Rendering}
+use Rattle.c_words.specs.declared.faults.Fault.{Fault}
+use Rattle.c_words.specs.declared.faults.Fault.TheVariants as faults
+use Rattle.gfx_c.specs.Calls.{CreatesHere, UpdatesHere, ChangesHere, DestroysHere, OnThing, OnMaybe, given}
+use Rattle.c_words.specs.Statuses.{told_of}
+use Rattle.c_words.specs.Things.{named, named_or_none, row_of_word}
+use Rattle.gfx_c.specs.Views.{ContextView}
+
+-- ---- a call on a thing, of a context or an encoder
+
+module _ {X V : Type 0} (rows : V → List (Option Handle)) (word : ℕ) (result : Result X Fault) (new : V) (says : Handle → (old : V) → Type 0) where
+  abbrev Thing : Option Handle → V → Type 0
+  Thing o old = MatchOption o ((result ≡ Err faults.Unknown) × (new ≡ old)) (λ h. says h old)
+
+  pub on_thing : (now old : V) → now ≡ old → (h : Handle) → named (rows now) word ≡ Some h → says h now → OnThing (rows old) word result old new (λ h. says h old)
+  on_thing now old e h g s = subst (λ (o : V). Thing (named (rows o) word) o) e (subst (λ (o : Option Handle). Thing o now) (sym g) s)
+
+  pub on_nothing : (now old : V) → now ≡ old → named (rows now) word ≡ None → result ≡ Err faults.Unknown → new ≡ now → OnThing (rows old) word result old new (λ h. says h old)
+  on_nothing now old e g is same = subst (λ (o : V). Thing (named (rows o) word) o) e (subst (λ (o : Option Handle). Thing o now) (sym g) (is, same))
+
+module _ {X V : Type 0} (rows : V → List (Option Handle)) (word : ℕ) (result : Result X Fault) (new : V) (says : Option Handle → (old : V) → Type 0) where
+  abbrev Maybe : Option (Option Handle) → V → Type 0
+  Maybe o old = MatchOption o ((result ≡ Err faults.Unknown) × (new ≡ old)) (λ h. says h old)
+
+  pub on_maybe : (now old : V) → now ≡ old → (h : Option Handle) → named_or_none (rows now) word ≡ Some h → says h now → OnMaybe (rows old) word result old new (λ o. says o old)
+  on_maybe now old e h g s = subst (λ (o : V). Maybe (named_or_none (rows o) word) o) e (subst (λ (o : Option (Option Handle)). Maybe o now) (sym g) s)
+
+  pub on_none : (now old : V) → now ≡ old → named_or_none (rows now) word ≡ None → result ≡ Err faults.Unknown → new ≡ now → OnMaybe (rows old) word result old new (λ o. says o old)
+  on_none now old e g is same = subst (λ (o : V). Maybe (named_or_none (rows o) word) o) e (subst (λ (o : Option (Option Handle)). Maybe o now) (sym g) (is, same))
+
+-- ---- the calls of a context
+
+-- a context with a core
+abbrev pub context_with : List (Option Handle) → Rendering → Bool → ℕ → CoreView → ContextView
+context_with rows renderer is_shown most c = record { core = c; rows = rows; renderer = renderer; is_shown = is_shown; most = most }
+
+module _ (rows : List (Option Handle)) (renderer : Rendering) (is_shown : Bool) (most : ℕ) (a b : CoreView) where
+  abbrev with_core : CoreView → ContextView
+  with_core c = context_with rows renderer is_shown most c
+
+  pub changes_told : (call : ResourceCall) (result : Result (Unit {0}) Fault) (r : Result (Unit {0}) Refusal) → result ≡ told_of r → Changes own r call a b → (old : ContextView) → with_core a ≡ old → ChangesHere result call old (with_core b)
+  changes_told call result r is m old e = subst (λ (o : ContextView). ChangesHere result call o (with_core b)) e (r, is, m, refl)
+
+  pub updates_told : (call : ResourceCall) (result : Result (Unit {0}) Fault) (r : Result (Unit {0}) Refusal) → result ≡ told_of r → Updates own r call a b → (old : ContextView) → with_core a ≡ old → UpdatesHere result call old (with_core b)
+  updates_told call result r is m old e = subst (λ (o : ContextView). UpdatesHere result call o (with_core b)) e (r, is, m, refl)
+
+  pub destroys_told : (h : Handle) (result : Result (Unit {0}) Fault) (r : Result (Unit {0}) Refusal) → result ≡ told_of r → Destroys own r h a b → (old : ContextView) → with_core a ≡ old → DestroysHere result h old (with_core b)
+  destroys_told h result r is m old e = subst (λ (o : ContextView). DestroysHere result h o (with_core b)) e (r, is, m, refl)
+
+  -- a create, whose handle is kept
+  pub creates_told : (call : ResourceCall) (result : Result Handle Fault) (r : Result Handle Refusal) (kept : ContextView) → result ≡ told_of r → Creates own r call a b → kept ≡ given r b (with_core b) → (old : ContextView) → with_core a ≡ old → CreatesHere result call old kept
+  creates_told call result (Ok h) kept is m e old same = subst (λ (o : ContextView). CreatesHere result call o kept) same
+      (Ok h, is, subst (λ (k : ContextView). Creates own (Ok h) call a k.core) (sym e) m, e ∙ (λ j. record { core = sym (ap (λ (k : ContextView). k.core) e) j; rows = slice_set rows (row_of_word (handle_word h)) (Some h); renderer = renderer; is_shown = is_shown; most = most }))
+  creates_told call result (Err f) kept is m e old same = subst (λ (o : ContextView). CreatesHere result call o kept) same
+      (Err f, is, subst (λ (k : ContextView). Creates own (Err f) call a k.core) (sym e) m, e ∙ (λ j. record { core = sym (ap (λ (k : ContextView). k.core) e) j; rows = rows; renderer = renderer; is_shown = is_shown; most = most }))

@@ -1,0 +1,11 @@
+use Rattle.std.proofs.Common.{refl}
+use Rattle.hold_table.specs.Seats.{enc_view}
+use Rattle.gfx_c.specs.Calls.{gathers_none}
+use Rattle.gfx_c.proofs.On.{gathers_one}
+use Rattle.gfx_c.proofs.context.Context.collect_one.Goals as goal
+
+pub returns-in-None : goal.returns-in-None
+returns-in-None c = record { gathers = gathers_none; same = refl }
+
+pub returns-in-Some-clause-gathers : goal.returns-in-Some-clause-gathers
+returns-in-Some-clause-gathers c = gathers_one c.in-Some.letter.0 (enc_view c.in-Some.letter.1) _ _ c.gather.ensures.gathers

@@ -1,0 +1,136 @@
+-- How a frame ends.
+use Rattle.std.specs.Prelude.{◌≡◌, ℕ, ◌<◌, ◌≤◌, ◌⊎◌, true, false, List, [], ◌++◌, drop, length, Option, Some, None, Result, Ok, Err, MatchResult}
+use Rattle.scene_model.specs.Output.{picture_text}
+use Rattle.gfx_words.specs.declared.refusals.Refusal.TheVariants as refusals
+use Rattle.context_core.specs.Ended.{IsReady, IsNotReady, Gives}
+use Rattle.context_core.specs.Gathered.{dropped_in}
+use Rattle.context_core.specs.States.{CoreView}
+use Rattle.context_core.specs.declared.ending.Prepared.{Prepared}
+use Rattle.context_core.specs.declared.ending.NotReady.{NotReady}
+use Rattle.context_core.specs.declared.ending.NotReady.TheVariants as causes
+use Rattle.frame_record.specs.declared.frame.Frame.{Frame}
+use Rattle.frame_record.specs.declared.frame.RenderedFrame.{RenderedFrame}
+use Rattle.render_core.specs.Outcomes.{is_shown}
+use Rattle.render_core.specs.Rendered.{Rendering, IsRendered}
+use Rattle.c_words.specs.declared.faults.Fault.{Fault}
+use Rattle.c_words.specs.declared.faults.Fault.TheVariants as faults
+use Rattle.gfx_c.specs.declared.frame.Framed.{Framed}
+use Rattle.gfx_c.specs.Calls.{Gathers, is_over}
+use Rattle.gfx_c.specs.Views.{ContextView}
+
+-- a core whose frame came back
+abbrev pub came_back : CoreView → CoreView
+came_back c = record c { state = record c.state { out = 0 } }
+
+-- what has come is gathered, and the core makes a frame of it, which is out no longer
+pub record IsMade (f : Frame) (dropped : ℕ) (old new : ContextView) : Type 0 where
+  pub mid : CoreView
+  pub gathers : Gathers old.core mid
+  pub dropped_is : dropped ≡ dropped_in mid.state.gathered
+  pub prepared : Prepared
+  pub ready : CoreView
+  pub made : CoreView
+  pub is_ready : IsReady prepared mid ready
+  pub gives : Gives prepared.work f ready made
+  pub after : new ≡ record old { core = came_back made }
+
+-- what C is told where the end of a frame is not ready
+abbrev pub fault_of : NotReady → Fault
+fault_of causes.EncodersOff = faults.TryAgain
+fault_of causes.FramesSpent = faults.Refused refusals.FramesSpent
+fault_of causes.OutOfMemory = faults.Refused refusals.OutOfMemory
+
+-- why no frame is made: an encoder has not come back, the numbers are spent, or memory is wanting and no frame follows
+abbrev pub IsNotMade : Fault → (mid new : CoreView) → Type 0
+IsNotMade f mid new = (cause : NotReady) × (f ≡ fault_of cause) × IsNotReady cause mid new
+
+-- no frame was made; what has come stays gathered
+pub record IsStopped (f : Fault) (old new : ContextView) : Type 0 where
+  pub mid : CoreView
+  pub gathers : Gathers old.core mid
+  pub cause : IsNotMade f mid new.core
+  pub same : new ≡ record old { core = new.core }
+
+-- a frame is made, or not
+abbrev pub MakesFrame : Result (Frame × ℕ) Fault → (old new : ContextView) → Type 0
+MakesFrame result old new =
+    MatchResult result
+    (λ p. IsMade p.0 p.1 old new)
+    (λ f. IsStopped f old new)
+
+-- a renderer whose sink is as new
+abbrev pub emptied : Rendering → Rendering
+emptied r = record r { held = Some []; faults = 0 }
+
+-- a frame is rendered into an empty sink
+abbrev pub Shows : Frame → (old new : ContextView) → Type 0
+Shows f old new = (r : RenderedFrame) × (r.frame ≡ f) × IsRendered (emptied old.renderer) r new.renderer × (new ≡ record old { renderer = new.renderer; is_shown = is_shown r.outcome })
+
+-- the text that a sink holds is copied to the front of a buffer
+abbrev pub HandsOut : Option (List ℕ) → (n : ℕ) → (before after : List ℕ) → Type 0
+HandsOut None n before after = ⊥
+HandsOut (Some text) n before after = (n ≡ length text) × (n ≤ length before) × (after ≡ text ++ drop n before)
+
+-- the text of the picture that a context drew last
+abbrev pub picture_of : ContextView → List ℕ
+picture_of c = picture_text c.renderer.stores.back.color
+
+-- the frame was shown, and the buffer begins with its picture
+pub record IsDelivered (framed : Framed) (f : Frame) (dropped : ℕ) (before after : List ℕ) (old new : ContextView) : Type 0 where
+  pub number : framed.number ≡ f.number
+  pub dropped_is : framed.dropped ≡ dropped
+  pub shows : Shows f old new
+  pub shown : new.is_shown ≡ true
+  pub bytes : framed.picture ≡ length (picture_of new)
+  pub fits : framed.picture ≤ length before
+  pub picture : after ≡ picture_of new ++ drop framed.picture before
+
+-- memory was wanting in its render, and the context is over
+pub record IsNotShown (fault : Fault) (f : Frame) (before after : List ℕ) (old new : ContextView) : Type 0 where
+  pub wants : fault ≡ faults.Refused refusals.OutOfMemory
+  pub shows : Shows f old new
+  pub not_shown : new.is_shown ≡ false
+  pub same : after ≡ before
+
+-- a frame is rendered and its picture handed out, or not
+abbrev pub Delivers : Result Framed Fault → Frame → (dropped : ℕ) → (before after : List ℕ) → (old new : ContextView) → Type 0
+Delivers result f dropped before after old new =
+    MatchResult result
+    (λ framed. IsDelivered framed f dropped before after old new)
+    (λ fault. IsNotShown fault f before after old new)
+
+-- the frame was made and delivered
+pub record IsFramed (framed : Framed) (before after : List ℕ) (old new : ContextView) : Type 0 where
+  pub runs : is_over old ≡ false
+  pub mid : ContextView
+  pub frame : Frame
+  pub made : IsMade frame framed.dropped old mid
+  pub delivered : IsDelivered framed frame framed.dropped before after mid new
+
+-- a frame was made, and not shown
+pub record IsLost (f : Fault) (before after : List ℕ) (old new : ContextView) : Type 0 where
+  pub mid : ContextView
+  pub frame : Frame
+  pub dropped : ℕ
+  pub made : IsMade frame dropped old mid
+  pub not_shown : IsNotShown f frame before after mid new
+
+-- why none is delivered: the context is over; or the buffer too small; or no frame was made; or it was not shown
+abbrev pub IsNotFramed : Fault → (before after : List ℕ) → (old new : ContextView) → Type 0
+IsNotFramed f before after old new =
+    ((f ≡ faults.Ended) × (is_over old ≡ true) × (new ≡ old) × (after ≡ before))
+    ⊎ ((is_over old ≡ false)
+    × (((f ≡ faults.TooSmall) × (length before < old.most) × (new ≡ old) × (after ≡ before))
+    ⊎ ((old.most ≤ length before) × ((IsStopped f old new × (after ≡ before)) ⊎ IsLost f before after old new))))
+
+-- the end of a frame, with the buffer for its picture before and after
+abbrev pub FramesHere : Result Framed Fault → (before after : List ℕ) → (old new : ContextView) → Type 0
+FramesHere result before after old new =
+    MatchResult result
+    (λ framed. IsFramed framed before after old new)
+    (λ f. IsNotFramed f before after old new)
+
+-- what C is told of a frame, or what it was told before
+abbrev pub framed_after : Result Framed Fault → Framed → Framed
+framed_after (Ok f) old = f
+framed_after (Err e) old = old

@@ -1,0 +1,27 @@
+-- A context and an encoder that C holds.
+use Rattle.std.specs.Prelude.{◌≡◌, ℕ, Bool, List, Option, None}
+use Rattle.gfx_model.specs.Words.{Handle}
+use Rattle.gfx_model.specs.Views.{view_count}
+use Rattle.atomic_table.specs.Seated.{TableId}
+use Rattle.context_core.specs.States.{CoreView}
+use Rattle.draw_encoder.specs.Calls.{RecorderView}
+use Rattle.render_core.specs.Rendered.{Rendering}
+
+-- the state of the calls, the handles that were given by their places, the renderer, whether all frames were shown, and how many bytes a picture has at most
+pub record ContextView : Type 0 where
+  pub core : CoreView
+  pub rows : List (Option Handle)
+  pub renderer : Rendering
+  pub is_shown : Bool
+  pub most : ℕ
+
+-- a recorder, and the handles that had been given when it began
+pub record EncoderView : Type 0 where
+  pub recorder : RecorderView
+  pub rows : List (Option Handle)
+
+-- a core of this table, with 512 views, of which no frame is out
+pub record IsOn (table : TableId) (c : CoreView) : Type 0 where
+  pub table_is : c.table ≡ table
+  pub views_are : view_count c.state.book.resources.views ≡ 512
+  pub none_out : c.state.out ≡ 0

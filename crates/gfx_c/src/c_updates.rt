@@ -1,0 +1,65 @@
+// Changes of things for C.
+ghost use Rattle.std.specs.Prelude.{◌≡◌, ⊤};
+ghost use Rattle.gfx_model.specs.Resources as model;
+ghost use Rattle.gfx_c.specs.Calls.{DestroysHere, UpdatesHere, OnThing};
+ghost use Rattle.gfx_c.specs.Exports.{OnContext};
+
+use crate::held::{put_context, take_context};
+use crate::slot::Slot;
+use c_words::{NO_OBJECT, status};
+use fix_math::Rect;
+use std::alloc::Global;
+
+/// Changes bytes of a vertex or index buffer.
+#[unsafe(no_mangle)]
+pub extern "C" fn gfx_update_buffer(
+    alloc: Global,
+    context: &mut Slot,
+    buffer: u64,
+    offset: u32,
+    bytes: &[u8],
+) -> u32
+    ensures { OnContext context.old.value context.new.value result (λ r c d. OnThing c.rows buffer r c d (λ h. UpdatesHere r (model.update_buffer h offset bytes.now) c d)) ⊤ }
+{
+    let Some((object, mut api)) = take_context(context, alloc) else {
+        return NO_OBJECT;
+    };
+    let answer = api.update_buffer(buffer, offset, bytes);
+    put_context(context, object, api);
+    status(answer)
+}
+
+/// Changes texels of a texture.
+#[unsafe(no_mangle)]
+pub extern "C" fn gfx_update_texture(
+    alloc: Global,
+    context: &mut Slot,
+    texture: u64,
+    x: u16,
+    y: u16,
+    w: u16,
+    h: u16,
+    bytes: &[u8],
+) -> u32
+    ensures { OnContext context.old.value context.new.value result (λ r c d. OnThing c.rows texture r c d (λ thing. UpdatesHere r (model.update_texture thing (record { x = x; y = y; w = w; h = h }) bytes.now) c d)) ⊤ }
+{
+    let Some((object, mut api)) = take_context(context, alloc) else {
+        return NO_OBJECT;
+    };
+    let answer = api.update_texture(texture, Rect { x, y, w, h }, bytes);
+    put_context(context, object, api);
+    status(answer)
+}
+
+/// Destroys a thing, or takes one reference of a uniform.
+#[unsafe(no_mangle)]
+pub extern "C" fn gfx_destroy(alloc: Global, context: &mut Slot, thing: u64) -> u32
+    ensures { OnContext context.old.value context.new.value result (λ r c d. OnThing c.rows thing r c d (λ h. DestroysHere r h c d)) ⊤ }
+{
+    let Some((object, mut api)) = take_context(context, alloc) else {
+        return NO_OBJECT;
+    };
+    let answer = api.destroy(thing);
+    put_context(context, object, api);
+    status(answer)
+}

@@ -1,0 +1,179 @@
+// The end of a frame, and its picture.
+ghost use Rattle.std.specs.Prelude.{◌≡◌, ◌≤◌, ◌++◌, false, drop, length};
+ghost use Rattle.hold_table.specs.Seats.{table_of};
+ghost use Rattle.context_core.specs.Ended.{IsReady, Prepares, Gives};
+ghost use Rattle.context_core.specs.Gathered.{dropped_in};
+ghost use Rattle.context_core.specs.States.{CoreView};
+ghost use Rattle.render_core.specs.Outcomes.{is_shown};
+ghost use Rattle.render_core.specs.Rendered.{IsRendered};
+ghost use Rattle.gfx_c.specs.Frames.{MakesFrame, Shows, Delivers, FramesHere, HandsOut, emptied, fault_of, came_back};
+ghost use Rattle.gfx_c.specs.Rendered.{rendering_of};
+
+use crate::context::Context;
+use crate::picture::PictureSink;
+use c_words::Fault;
+use context_core::{ContextCore, FrameEnd, NotReady, Prepared};
+use frame_record::{Frame, Outcome, RenderedFrame};
+use gfx_words::Refusal;
+use hold_table::HoldTable;
+use render_core::{Renderer, SerialRasterizer};
+
+/// What C is told of a frame: its number, how many bytes of picture were written, and the sum of the numbers that its encoders ended with.
+#[repr(C)]
+#[derive(Clone, Copy, Drop)]
+pub struct Framed {
+    pub number: u32,
+    pub picture: usize,
+    pub dropped: u64,
+}
+
+// Why a frame is not made, as C is told it.
+fn not_made(cause: NotReady) -> Fault
+    ensures { result ≡ fault_of cause }
+{
+    match cause {
+        NotReady::EncodersOff => Fault::TryAgain,
+        NotReady::FramesSpent => Fault::Refused(Refusal::FramesSpent),
+        NotReady::OutOfMemory => Fault::Refused(Refusal::OutOfMemory),
+    }
+}
+
+// Ends a frame that is ready, while none is out: it is made, and comes back at once.
+fn finish(core: &mut ContextCore, table: &HoldTable, prepared: Prepared) -> Frame
+    requires running { core.old.state.is_ended ≡ false }
+    requires table { core.old.table ≡ table_of table.now }
+    requires none_out { core.old.state.out ≡ 0 }
+    requires ready { (mid : CoreView) × IsReady prepared mid core.old }
+    ensures { (made : CoreView) × Gives prepared.work result core.old made × (core.new ≡ came_back made) }
+{
+    core.tell_facts();
+    let FrameEnd { frame, journal: _ } = core.finish(table, prepared, true);
+    match frame {
+        Some(frame) => {
+            core.came_back(&frame);
+            frame
+        }
+        None => unreachable!(),
+    }
+}
+
+// Renders a frame into the sink, which is emptied before.
+fn render(renderer: &mut Renderer<PictureSink>, frame: Frame) -> RenderedFrame
+    ensures frame { result.frame ≡ frame }
+    ensures rendered { IsRendered (emptied (rendering_of renderer.old)) result (rendering_of renderer.new) }
+    ensures capacity { renderer.new.sink.capacity ≡ renderer.old.sink.capacity }
+{
+    renderer.sink_mut().clear();
+    renderer.render(&mut SerialRasterizer, frame)
+}
+
+fn was_shown(outcome: &Outcome) -> bool
+    ensures { result ≡ is_shown outcome.now }
+{
+    matches!(outcome, Outcome::Shown)
+}
+
+// Copies a text to the front of a buffer, which has room for it.
+fn copy_front(text: &[u8], buffer: &mut [u8])
+    requires { length text.now ≤ length buffer.old }
+    ensures { buffer.new ≡ text.now ++ drop (length text.now) buffer.old }
+{
+    buffer[..text.len()].copy_from_slice(text);
+}
+
+impl Context {
+    // The sum of the numbers that the encoders whose recordings have come ended with.
+    fn dropped(&self) -> u64
+        ensures { result ≡ dropped_in self.now.core.state.gathered }
+    {
+        self.core.dropped()
+    }
+
+    fn prepare(&mut self) -> Result<Prepared, NotReady>
+        requires { self.old.core.state.is_ended ≡ false }
+        ensures prepares { Prepares result self.old.core self.new.core }
+        ensures same { self.new ≡ record self.old { core = self.new.core } }
+    {
+        self.core.prepare()
+    }
+
+    fn finish(&mut self, prepared: Prepared) -> Frame
+        requires running { self.old.core.state.is_ended ≡ false }
+        requires ready { (mid : CoreView) × IsReady prepared mid self.old.core }
+        ensures { (made : CoreView) × Gives prepared.work result self.old.core made × (self.new ≡ record self.old { core = came_back made }) }
+    {
+        finish(&mut self.core, &self.shared.table, prepared)
+    }
+
+    // Makes a frame of what has come. The context is not ended.
+    fn make(&mut self) -> Result<(Frame, u64), Fault>
+        requires { self.old.core.state.is_ended ≡ false }
+        ensures { MakesFrame result self.old self.new }
+    {
+        self.collect();
+        let dropped = self.dropped();
+        match self.prepare() {
+            Err(cause) => Err(not_made(cause)),
+            Ok(prepared) => Ok((self.finish(prepared), dropped)),
+        }
+    }
+
+    // Renders a frame.
+    fn show(&mut self, frame: Frame)
+        ensures { Shows frame self.old self.new }
+    {
+        let rendered = render(&mut self.renderer, frame);
+        self.is_shown = was_shown(&rendered.outcome);
+    }
+
+    fn is_shown(&self) -> bool
+        ensures { result ≡ self.now.is_shown }
+    {
+        self.is_shown
+    }
+
+    // Copies the picture in the sink to the front of the buffer, and answers how many bytes it has.
+    fn hand_out(&self, buffer: &mut [u8]) -> usize
+        requires { self.now.most ≤ length buffer.old }
+        ensures { HandsOut self.now.renderer.held result buffer.old buffer.new }
+    {
+        let text = self.renderer.sink().text();
+        copy_front(text, buffer);
+        text.len()
+    }
+
+    // Renders a frame, and hands its picture out.
+    fn deliver(&mut self, frame: Frame, dropped: u64, buffer: &mut [u8]) -> Result<Framed, Fault>
+        requires { self.old.most ≤ length buffer.old }
+        ensures { Delivers result frame dropped buffer.old buffer.new self.old self.new }
+    {
+        let number = frame.number;
+        self.show(frame);
+        if !self.is_shown() {
+            return Err(Fault::Refused(Refusal::OutOfMemory));
+        }
+        let picture = self.hand_out(buffer);
+        Ok(Framed {
+            number,
+            picture,
+            dropped,
+        })
+    }
+
+    /// Ends the frame, renders it, and writes its picture. `Ended`; `TooSmall` where the buffer is; `TryAgain` where an encoder has not
+    /// come back; `FramesSpent`. After `OutOfMemory` the context is ended. After a refusal the buffer is as before.
+    pub(crate) fn frame(&mut self, buffer: &mut [u8]) -> Result<Framed, Fault>
+        ensures { FramesHere result buffer.old buffer.new self.old self.new }
+    {
+        if self.is_ended() {
+            return Err(Fault::Ended);
+        }
+        if buffer.len() < self.most() {
+            return Err(Fault::TooSmall);
+        }
+        match self.make() {
+            Err(fault) => Err(fault),
+            Ok((frame, dropped)) => self.deliver(frame, dropped, buffer),
+        }
+    }
+}

@@ -1,0 +1,29 @@
+//! The front end for C: contexts, encoders that C's own threads use at once, frames and their pictures. C links this one library.
+//!
+//! A handle of C is a `Slot`: null, or an object. Each export's contract is that of the call that it stands for, on the values of
+//! its handles, and each answers 0 or the number of a `Fault`. What C owes is written in docs/from-c.md.
+#![tactic(auto)]
+
+mod begin;
+mod c_context;
+mod c_creates;
+mod c_encoder;
+mod c_frame;
+mod c_recording;
+mod c_updates;
+mod c_views;
+mod context;
+mod creates;
+mod encoder;
+mod frame;
+mod held;
+mod objects;
+mod parts;
+mod picture;
+mod recording;
+mod slot;
+#[cfg(test)]
+mod tests;
+mod transform;
+mod updates;
+mod views;
