@@ -8,3 +8,5 @@ pub mod Sorting
 pub mod KeptLaws
 pub mod Apart
 pub mod PlaceLaws
+pub mod PlainLaws
+pub mod OneRecording

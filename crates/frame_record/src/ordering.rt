@@ -16,7 +16,7 @@ use crate::frame::Frame;
 use draw_encoder::{DrawItem, Item, Recording, TouchItem};
 use gfx_words::{JournalEntry, Kind};
 use sort_key::SortKey;
-use std::alloc::{AllocError, Global};
+use std::alloc::AllocError;
 use view_table::ViewTable;
 
 /// A draw or touch with its sort key.
@@ -147,24 +147,25 @@ fn put_keyed(
     Ok(())
 }
 
-// the entries of the journal that have a key, each with it
+// fills the room with the entries of the journal that have a key, each with it
 fn with_keys(
-    alloc: Global,
+    room: &mut Vec<OrderedItem>,
     views: &ViewTable,
     recordings: &[Recording],
     journal: &[JournalEntry],
-) -> Result<Vec<OrderedItem>, AllocError>
+) -> Result<(), AllocError>
     requires { length journal.now ≤ most_frame_items }
-    ensures keyed { IfOk result (λ all. map keyed_of all.items ≡ keyed_entries views.now (recordings_seen recordings.now) (map entry_seen journal.now)) }
-    ensures placed { IfOk result (λ all. AllByRecursion (IsPlaced views.now (recordings_seen recordings.now)) (map keyed_of all.items)) }
+    ensures keyed { OnOk result (map keyed_of room.new.items ≡ keyed_entries views.now (recordings_seen recordings.now) (map entry_seen journal.now)) }
+    ensures placed { OnOk result (AllByRecursion (IsPlaced views.now (recordings_seen recordings.now)) (map keyed_of room.new.items)) }
 {
-    let mut all = Vec::with_capacity(alloc, journal.len())?;
+    room.clear();
+    room.reserve(journal.len())?;
     for place in 0..journal.len() {
         let entry = journal[place];
         let key = key_at(views, recordings, entry, place as u32);
-        put_keyed(&mut all, key, entry)?;
+        put_keyed(room, key, entry)?;
     }
-    Ok(all)
+    Ok(())
 }
 
 // sorts by the key; entries of one key keep their order
@@ -185,20 +186,20 @@ impl Frame {
         item_at(&self.recordings, entry)
     }
 
-    /// The draws and touches in the order in which they are drawn: by the position of the view, then by the sort key, and at equal
-    /// keys as they stand in the journal. Entries without an item, items of views that are not there and draws whose program is no
-    /// program are left out. `Err` only for want of memory.
+    /// Fills the room with the draws and touches in the order in which they are drawn: by the position of the view, then by the sort
+    /// key, and at equal keys as they stand in the journal. Entries without an item, items of views that are not there and draws whose
+    /// program is no program are left out. What the room held before is gone. `Err` only for want of memory.
     ///
-    /// The items of a view stand beside each other; `end_of_run` finds where they end.
-    pub fn ordered(&self, alloc: Global) -> Result<Vec<OrderedItem>, AllocError>
-        ensures keyed { IfOk result (λ all. map keyed_of all.items ≡ sorted_by_key (keyed_entries self.now.views (recordings_seen self.now.recordings.items) (map entry_seen self.now.journal.items))) }
-        ensures order { IfOk result (λ all. map (λ o. entry_seen o.entry) all.items ≡ draw_order self.now.views (recordings_seen self.now.recordings.items) (map entry_seen self.now.journal.items)) }
-        ensures ascend { IfOk result (λ all. AscendFrom 0 (map position_of all.items)) }
-        ensures placed { IfOk result (λ all. AllByRecursion (IsPlaced self.now.views (recordings_seen self.now.recordings.items)) (map keyed_of all.items)) }
+    /// It takes memory only where the room has to grow, and to sort. The items of a view stand beside each other; `end_of_run` finds
+    /// where they end.
+    pub fn ordered(&self, room: &mut Vec<OrderedItem>) -> Result<(), AllocError>
+        ensures keyed { OnOk result (map keyed_of room.new.items ≡ sorted_by_key (keyed_entries self.now.views (recordings_seen self.now.recordings.items) (map entry_seen self.now.journal.items))) }
+        ensures order { OnOk result (map (λ o. entry_seen o.entry) room.new.items ≡ draw_order self.now.views (recordings_seen self.now.recordings.items) (map entry_seen self.now.journal.items)) }
+        ensures ascend { OnOk result (AscendFrom 0 (map position_of room.new.items)) }
+        ensures placed { OnOk result (AllByRecursion (IsPlaced self.now.views (recordings_seen self.now.recordings.items)) (map keyed_of room.new.items)) }
     {
-        let mut all = with_keys(alloc, &self.views, &self.recordings, &self.journal)?;
-        sort(&mut all)?;
-        Ok(all)
+        with_keys(room, &self.views, &self.recordings, &self.journal)?;
+        sort(room)
     }
 }
 

@@ -13,7 +13,7 @@ use crate::frame::Frame;
 use crate::ordering::item_at;
 use draw_encoder::{Item, Recording};
 use gfx_words::JournalEntry;
-use std::alloc::{AllocError, Global};
+use std::alloc::AllocError;
 use view_table::ViewTable;
 
 /// A blit with the position of its view in the order of the views.
@@ -86,22 +86,22 @@ fn note(entered: &mut [bool], view: u16)
     }
 }
 
-// the blits of views that are there, each with the position of its view, as they stand in the journal
+// fills the room with the blits of views that are there, each with the position of its view, as they stand in the journal
 fn with_positions(
-    alloc: Global,
+    room: &mut Vec<PlacedBlit>,
     views: &ViewTable,
     recordings: &[Recording],
     journal: &[JournalEntry],
-) -> Result<Vec<PlacedBlit>, AllocError>
-    ensures { IfOk result (λ all. map placed_of all.items ≡ blit_entries views.now (recordings_seen recordings.now) (map entry_seen journal.now)) }
+) -> Result<(), AllocError>
+    ensures { OnOk result (map placed_of room.new.items ≡ blit_entries views.now (recordings_seen recordings.now) (map entry_seen journal.now)) }
 {
-    let mut all = Vec::new(alloc);
+    room.clear();
     for place in 0..journal.len() {
         let entry = journal[place];
         let position = position_at(views, recordings, entry);
-        put_placed(&mut all, position, entry)?;
+        put_placed(room, position, entry)?;
     }
-    Ok(all)
+    Ok(())
 }
 
 // notes the view of an entry's item, where it is there
@@ -127,29 +127,31 @@ fn note_all(entered: &mut [bool], recordings: &[Recording], journal: &[JournalEn
 }
 
 impl Frame {
-    /// The blits by the position of their view, and those of one view as they stand in the journal. Blits of views that are not there are
-    /// left out. `Err` only for want of memory.
+    /// Fills the room with the blits by the position of their view, and those of one view as they stand in the journal. Blits of views
+    /// that are not there are left out. What the room held before is gone. `Err` only for want of memory.
     ///
-    /// The blits of a view stand beside each other; `end_of_blits` finds where they end.
-    pub fn blits(&self, alloc: Global) -> Result<Vec<PlacedBlit>, AllocError>
-        ensures sorted { IfOk result (λ all. map placed_of all.items ≡ sorted_by_key (blit_entries self.now.views (recordings_seen self.now.recordings.items) (map entry_seen self.now.journal.items))) }
-        ensures ascend { IfOk result (λ all. AscendFrom 0 (map (λ p. p.position) all.items)) }
-        ensures placed { IfOk result (λ all. AllByRecursion (IsBlitAt self.now.views (recordings_seen self.now.recordings.items)) (map placed_of all.items)) }
+    /// It takes memory only where the room has to grow, and to sort. The blits of a view stand beside each other; `end_of_blits` finds
+    /// where they end.
+    pub fn blits(&self, room: &mut Vec<PlacedBlit>) -> Result<(), AllocError>
+        ensures sorted { OnOk result (map placed_of room.new.items ≡ sorted_by_key (blit_entries self.now.views (recordings_seen self.now.recordings.items) (map entry_seen self.now.journal.items))) }
+        ensures ascend { OnOk result (AscendFrom 0 (map (λ p. p.position) room.new.items)) }
+        ensures placed { OnOk result (AllByRecursion (IsBlitAt self.now.views (recordings_seen self.now.recordings.items)) (map placed_of room.new.items)) }
     {
-        let mut all = with_positions(alloc, &self.views, &self.recordings, &self.journal)?;
-        sort(&mut all)?;
-        Ok(all)
+        with_positions(room, &self.views, &self.recordings, &self.journal)?;
+        sort(room)
     }
 
-    /// For each view whether an item of the journal is of it. `Err` only for want of memory.
-    pub fn entered(&self, alloc: Global) -> Result<Vec<bool>, AllocError>
-        ensures many { IfOk result (λ e. length e.items ≡ view_count self.now.views) }
-        ensures noted { IfOk result (λ e. (v : ℕ) → v < view_count self.now.views
-            → slice_index_or e.items v false ≡ list_any (is_of_view v) (items_in (recordings_seen self.now.recordings.items) (map entry_seen self.now.journal.items))) }
+    /// Fills the room with, for each view, whether an item of the journal is of it. What the room held before is gone. `Err` only for
+    /// want of memory, which it takes only where the room has to grow.
+    pub fn entered(&self, room: &mut Vec<bool>) -> Result<(), AllocError>
+        ensures many { OnOk result (length room.new.items ≡ view_count self.now.views) }
+        ensures noted { OnOk result ((v : ℕ) → v < view_count self.now.views
+            → slice_index_or room.new.items v false ≡ list_any (is_of_view v) (items_in (recordings_seen self.now.recordings.items) (map entry_seen self.now.journal.items))) }
     {
-        let mut entered = Vec::from_elem(alloc, false, self.views.count() as usize)?;
-        note_all(&mut entered, &self.recordings, &self.journal);
-        Ok(entered)
+        room.clear();
+        room.resize(self.views.count() as usize, false)?;
+        note_all(room, &self.recordings, &self.journal);
+        Ok(())
     }
 }
 

@@ -267,7 +267,8 @@ fn items_by_view_depth_and_journal(rt: HostRuntime) -> Result<(), Fail> {
     assert!(rt; frame.item(entry(6, 2)).is_some());
     assert!(rt; frame.item(entry(6, 3)).is_none());
     assert!(rt; frame.item(entry(3, 0)).is_none());
-    let all = frame.ordered(alloc)?;
+    let mut all = Vec::new(alloc);
+    frame.ordered(&mut all)?;
     assert_eq!(rt;
         entries(&all, alloc)?.as_slice(),
         [
@@ -320,7 +321,8 @@ fn equal_keys_by_number(rt: HostRuntime) -> Result<(), Fail> {
     )?;
     let by_number = [entry(3, 0), entry(1, 0), entry(1, 1), entry(3, 1)];
     assert_eq!(rt; frame.journal.as_slice(), by_number.as_slice());
-    let all = frame.ordered(alloc)?;
+    let mut all = Vec::new(alloc);
+    frame.ordered(&mut all)?;
     assert_eq!(rt; entries(&all, alloc)?.as_slice(), by_number.as_slice());
     Ok(())
 }
@@ -339,7 +341,8 @@ fn equal_draws_by_number(rt: HostRuntime) -> Result<(), Fail> {
         draw(words, 4, 0, program, 6),
         draw(words, 5, 0, program, 7),
     )?;
-    let all = frame.ordered(alloc)?;
+    let mut all = Vec::new(alloc);
+    frame.ordered(&mut all)?;
     let nearest_first = [entry(1, 1), entry(3, 0), entry(1, 0), entry(3, 1)];
     assert_eq!(rt; entries(&all, alloc)?.as_slice(), nearest_first.as_slice());
     Ok(())
@@ -357,12 +360,14 @@ fn blits_by_view_and_number(rt: HostRuntime) -> Result<(), Fail> {
         blit(300, 4),
         blit(5, 5),
     )?;
-    let all = frame.blits(alloc)?;
+    let mut all = Vec::new(alloc);
+    frame.blits(&mut all)?;
     assert_eq!(rt;
         all.as_slice(),
         [placed(5, 1, 0), placed(5, 3, 1), placed(7, 3, 0)].as_slice()
     );
-    let entered = frame.entered(alloc)?;
+    let mut entered = Vec::new(alloc);
+    frame.entered(&mut entered)?;
     assert_eq!(rt; entered.len(), 256);
     assert!(rt; entered.as_slice().get(5).copied() == Some(true));
     assert!(rt; entered.as_slice().get(6).copied() == Some(false));

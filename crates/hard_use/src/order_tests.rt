@@ -88,9 +88,8 @@ fn whole_order<C: Naming, R: Threads + Wait + Sync>(
     let Ok(Some(frame)) = render.try_take() else {
         return None;
     };
-    let Ok(order) = frame.ordered(alloc) else {
-        return None;
-    };
+    let mut order = Vec::new(alloc);
+    frame.ordered(&mut order).ok()?;
     Some((touched, told(&order)))
 }
 

@@ -12,6 +12,6 @@ loop-place-preserved c =
           ∙ ap (λ xs. xs ++ one_or_none c.key_at-key.result (entry_seen e)) c.loop-place.invariant.0
           ∙ sym (keyed_more c.args.views.now (recordings_seen c.args.recordings.now) c.args.journal.now c.loop-place.place record { encoder = 0; ordinal = 0 } c.key_at-key.result
           c.loop-place-test.true c.key_at-key.ensures.key),
-      placed_more (IsPlaced c.args.views.now (recordings_seen c.args.recordings.now)) (map keyed_of c.loop-place.all.items) _ c.key_at-key.result (entry_seen e)
+      placed_more (IsPlaced c.args.views.now (recordings_seen c.args.recordings.now)) (map keyed_of c.loop-place.room.items) _ c.key_at-key.result (entry_seen e)
           c.in_ok-put_keyed.ensures c.loop-place.invariant.1 c.key_at-key.ensures.placed,
     )

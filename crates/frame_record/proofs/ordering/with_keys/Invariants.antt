@@ -8,5 +8,5 @@ use Rattle.frame_record.proofs.ordering.with_keys.Given as goal
 -- the entries before the place are there with their keys, each at its view
 abbrev pub invariant-loop-place : goal.invariant-loop-place
 invariant-loop-place l =
-    (map keyed_of l.all.items ≡ keyed_entries l.views (recordings_seen l.recordings) (map entry_seen (take l.place l.journal)))
-    × AllByRecursion (IsPlaced l.views (recordings_seen l.recordings)) (map keyed_of l.all.items)
+    (map keyed_of l.room.items ≡ keyed_entries l.views (recordings_seen l.recordings) (map entry_seen (take l.place l.journal)))
+    × AllByRecursion (IsPlaced l.views (recordings_seen l.recordings)) (map keyed_of l.room.items)

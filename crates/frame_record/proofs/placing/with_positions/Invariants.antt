@@ -5,4 +5,4 @@ use Rattle.frame_record.proofs.placing.with_positions.Given as goal
 
 -- the blits before the place are there with their positions
 abbrev pub invariant-loop-place : goal.invariant-loop-place
-invariant-loop-place l = map placed_of l.all.items ≡ blit_entries l.views (recordings_seen l.recordings) (map entry_seen (take l.place l.journal))
+invariant-loop-place l = map placed_of l.room.items ≡ blit_entries l.views (recordings_seen l.recordings) (map entry_seen (take l.place l.journal))

@@ -1,4 +1,5 @@
 use Rattle.std.proofs.Common.{List, length, ap, sym, subst, ◌∙◌, map, arith}
+use Rattle.std.proofs.lemmas.Result.{on_ok_weaker}
 use Rattle.std.specs.List.{AllByRecursion}
 use Rattle.gfx_model.specs.Frames.{keyed_entries}
 use Rattle.gfx_model.specs.World.{sorted_by_key}
@@ -19,25 +20,30 @@ with_keys-requires c =
 pub returns-clause-keyed : goal.returns-clause-keyed
 returns-clause-keyed c =
     let views = c.args.self.now.views in
-    c.in_ok-sort.ensures
-    ∙ ap sorted_by_key (c.in_ok-all.ensures.keyed
+    on_ok_weaker c.sort.result
+    (λ e. e
+    ∙ ap sorted_by_key (c.in_ok-with_keys.ensures.keyed
     ∙ ap (λ rs. keyed_entries views (recordings_seen rs) (map entry_seen c.deref-2.result.now)) c.deref.ensures.value
-    ∙ ap (λ es. keyed_entries views (recordings_seen c.args.self.now.recordings.items) (map entry_seen es)) c.deref-2.ensures.value)
+    ∙ ap (λ es. keyed_entries views (recordings_seen c.args.self.now.recordings.items) (map entry_seen es)) c.deref-2.ensures.value))
+    c.sort.ensures
 
 pub returns-clause-order : goal.returns-clause-order
 returns-clause-order c =
     let views = c.args.self.now.views in
-    sym (entries_seen c.sort.new.all.items)
-    ∙ ap (map (λ x. x.1)) (c.in_ok-sort.ensures
-    ∙ ap sorted_by_key (c.in_ok-all.ensures.keyed
+    on_ok_weaker c.sort.result
+    (λ e. sym (entries_seen c.sort.new.all.items)
+    ∙ ap (map (λ x. x.1)) (e
+    ∙ ap sorted_by_key (c.in_ok-with_keys.ensures.keyed
     ∙ ap (λ rs. keyed_entries views (recordings_seen rs) (map entry_seen c.deref-2.result.now)) c.deref.ensures.value
-    ∙ ap (λ es. keyed_entries views (recordings_seen c.args.self.now.recordings.items) (map entry_seen es)) c.deref-2.ensures.value))
+    ∙ ap (λ es. keyed_entries views (recordings_seen c.args.self.now.recordings.items) (map entry_seen es)) c.deref-2.ensures.value)))
+    c.sort.ensures
 
 pub returns-clause-ascend : goal.returns-clause-ascend
-returns-clause-ascend c = positions_ascend (map keyed_of c.in_ok-all.all.items) c.sort.new.all.items c.in_ok-sort.ensures
+returns-clause-ascend c = on_ok_weaker c.sort.result (λ e. positions_ascend (map keyed_of c.with_keys.new.room.items) c.sort.new.all.items e) c.sort.ensures
 
 pub returns-clause-placed : goal.returns-clause-placed
 returns-clause-placed c =
     let views = c.args.self.now.views in
-    let all = subst (λ (rs : List Recording). AllByRecursion (IsPlaced views (recordings_seen rs)) (map keyed_of c.in_ok-all.all.items)) c.deref.ensures.value c.in_ok-all.ensures.placed in
-    placed_sorted (IsPlaced views (recordings_seen c.args.self.now.recordings.items)) _ _ c.in_ok-sort.ensures all
+    let old = map keyed_of c.with_keys.new.room.items in
+    let all = subst (λ (rs : List Recording). AllByRecursion (IsPlaced views (recordings_seen rs)) old) c.deref.ensures.value c.in_ok-with_keys.ensures.placed in
+    on_ok_weaker c.sort.result (λ e. placed_sorted (IsPlaced views (recordings_seen c.args.self.now.recordings.items)) old (map keyed_of c.sort.new.all.items) e all) c.sort.ensures
