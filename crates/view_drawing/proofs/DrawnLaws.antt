@@ -1,6 +1,5 @@
 -- The draws of a view on its target, taken out once.
 use Rattle.std.proofs.Common.{◌≡◌, ◌≢◌, ℕ, ◌+◌, ◌<◌, true, List, [], ◌∷◌, length, get_or, take, Option, Some, None, refl, sym, ap, subst, ◌∙◌, inl, inr, arith}
-use Rattle.std.proofs.lemmas.List.{take-map}
 use Rattle.std.proofs.lemmas.Option.{none-some, same_Some}
 use Rattle.std.specs.Prelude.{fold, map, ◌++◌, IfSome}
 use Rattle.std.proofs.lemmas.List.Sums.{fold-append}
@@ -19,7 +18,6 @@ use Rattle.int_raster.specs.Drawing.{PreparedDraw, drawn_prepared}
 use Rattle.view_drawing.specs.Entered.{blit_in, StopsAtBlit, StopsAtDraw, HaveGiven, IsBegun}
 use Rattle.view_drawing.specs.Memory.{CanDraw}
 use Rattle.view_drawing.specs.Prepared.{DoAllTo}
-use Rattle.view_drawing.proofs.Folds.{fold_more}
 use Rattle.view_drawing.proofs.TargetLaws.{surface_with, put_changed, not_taken}
 
 -- ---- the buffers of a list
@@ -102,17 +100,14 @@ after_blits view h blits items textures e =
 
 -- ---- where memory was wanting
 
--- the values of one item more, where it wants memory
-pub values_given : {X : Type 0} (width height : ℕ) (out : Textures) (programs : List (Option ProgramKind)) (view : View) (g : X → Item) (xs : List X) (i : ℕ) (d : X) (b c e : Buffers) (l m : List PreparedDraw) → i < length xs
-    → d ≡ get_or xs i d → DoAllTo width height out programs view (map g (take i xs)) b l c m → e ≡ values_after c (g d) → e ≡ fold values_after b (take (i + 1) (map g xs))
-values_given width height out programs view g xs i d b c e l m lt same all is =
-    is ∙ ap (λ x. values_after c (g x)) same ∙ ap (λ x. values_after x (g (get_or xs i d))) before ∙ sym (fold_more values_after g b xs i d lt) ∙ ap (fold values_after b) (sym (take-map g (i + 1) xs))
+-- the values of items, all of which are done
+pub values_done : (width height : ℕ) (out : Textures) (programs : List (Option ProgramKind)) (view : View) (items : List Item) (b c : Buffers) (l m : List PreparedDraw)
+    → DoAllTo width height out programs view items b l c m → c ≡ fold values_after b items
+values_done width height out programs view items b c l m all =
+    sym (ap (λ (x : Drawing). x.buffers) (all s refl refl)) ∙ values_drawn out programs view (record { buffers = b; surface = fold drawn_prepared s l }) items
   where
     s : Surface
     s = record { color = record { width = width; height = height; texels = [] }; depth = None }
-
-    before : c ≡ fold values_after b (map g (take i xs))
-    before = sym (ap (λ (x : Drawing). x.buffers) (all s refl refl)) ∙ values_drawn out programs view (record { buffers = b; surface = fold drawn_prepared s l }) (map g (take i xs))
 
 pub begun_by_blits : (view : View) (blits : List Blit) (items : List Item) (old c : Stores) (textures : Textures) → c ≡ on_target old view.target (clear_surface view) → StopsAtBlit blits c.textures textures
     → IsBegun view blits items old (with_textures c textures)

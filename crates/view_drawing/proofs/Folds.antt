@@ -1,7 +1,7 @@
 -- Items of a list, one after the other.
-use Rattle.std.proofs.Common.{◌≡◌, ℕ, ◌+◌, ◌<◌, List, [], ◌∷◌, length, get_or, take, map, Option, sym, ap, ◌∙◌}
+use Rattle.std.proofs.Common.{◌≡◌, ℕ, List, [], ◌++◌, Option, sym, ap, ◌∙◌}
 use Rattle.std.specs.Prelude.{fold, Result, Ok, Err, OnErr}
-use Rattle.std.proofs.lemmas.List.{take_more, map-append}
+use Rattle.std.specs.List.{cons_option}
 use Rattle.std.proofs.lemmas.List.Sums.{fold-append}
 use Rattle.gfx_model.specs.Words.{ProgramKind}
 use Rattle.gfx_model.specs.Views.{View}
@@ -14,22 +14,20 @@ use Rattle.store_laws.specs.ByIndex.{with_values, paint_at}
 use Rattle.store_laws.specs.Listed.{Drawing, painted_in, drawn_in}
 use Rattle.view_drawing.specs.Prepared.{AddsTo, DoesTo, DoAllTo}
 
-pub fold_more : {X Y B : Type 0} (f : B → Y → B) (g : X → Y) (first : B) (xs : List X) (i : ℕ) (d : X) → i < length xs
-    → fold f first (map g (take (i + 1) xs)) ≡ f (fold f first (map g (take i xs))) (g (get_or xs i d))
-fold_more {Y = Y} f g first xs i d lt =
-    ap (λ ys. fold f first (map g ys)) (take_more xs i d lt)
-    ∙ ap (fold f first) (map-append g (take i xs) (get_or xs i d ∷ []))
-    ∙ fold-append f first (map g (take i xs)) (g (get_or xs i d) ∷ [])
-
--- one item more
-pub do_more : {X : Type 0} (width height : ℕ) (out : Textures) (programs : List (Option ProgramKind)) (view : View) (g : X → Item) (xs : List X) (i : ℕ) (d : X)
-    (b c e : Buffers) (l m n : List PreparedDraw) → i < length xs
-    → DoAllTo width height out programs view (map g (take i xs)) b l c m → DoesTo width height out programs view (g (get_or xs i d)) c m e n
-    → DoAllTo width height out programs view (map g (take (i + 1) xs)) b l e n
-do_more width height out programs view g xs i d b c e l m n lt all one s ew eh =
-    fold_more (drawn_in out programs view) g (record { buffers = b; surface = fold drawn_prepared s l }) xs i d lt
-    ∙ ap (λ x. drawn_in out programs view x (g (get_or xs i d))) (all s ew eh)
+-- what is done to a list and then to one item more, or none, is done to both
+pub do_more : (width height : ℕ) (out : Textures) (programs : List (Option ProgramKind)) (view : View) (items all : List Item) (found : Option Item) (b c e : Buffers) (l m n : List PreparedDraw)
+    → all ≡ items ++ cons_option found [] → DoAllTo width height out programs view items b l c m → DoAllTo width height out programs view (cons_option found []) c m e n → DoAllTo width height out programs view all b l e n
+do_more width height out programs view items all found b c e l m n is before one s ew eh =
+    ap (fold (drawn_in out programs view) (record { buffers = b; surface = fold drawn_prepared s l })) is
+    ∙ fold-append (drawn_in out programs view) (record { buffers = b; surface = fold drawn_prepared s l }) items (cons_option found [])
+    ∙ ap (λ x. fold (drawn_in out programs view) x (cons_option found [])) (before s ew eh)
     ∙ one s ew eh
+
+-- the same of one step more of another fold
+pub fold_more : {B A : Type 0} (f : B → A → B) (first mid last : B) (xs all : List A) (o : Option A) → all ≡ xs ++ cons_option o [] → mid ≡ fold f first xs → last ≡ fold f mid (cons_option o [])
+    → last ≡ fold f first all
+fold_more f first mid last xs all o is before one =
+    one ∙ ap (λ b. fold f b (cons_option o [])) before ∙ sym (fold-append f first xs (cons_option o [])) ∙ ap (fold f first) (sym is)
 
 -- a draw whose values are given
 pub does_draw : (width height : ℕ) (out : Textures) (programs : List (Option ProgramKind)) (view : View) (d : Draw) (old new : Buffers) (l m : List PreparedDraw)

@@ -2,6 +2,7 @@ mod Blocks
 mod Clears
 mod CutLaws
 mod DrawnLaws
+mod Entries
 mod Facings
 mod Fetches
 mod Folds

@@ -1,23 +1,26 @@
 -- Where memory was wanting, something takes it.
-use Rattle.std.proofs.Common.{◌≡◌, ◌≢◌, ◌<◌, ℕ, ◌+◌, Bool, true, false, List, [], map, take, length, Option, Some, None, Result, Ok, Err, IsOk, OnErr, option_map, slice_index_or, refl, sym, ap, subst, ◌∙◌, inl, inr, arith}
-use Rattle.std.specs.Prelude.{fold}
+use Rattle.std.proofs.Common.{◌≡◌, ◌≢◌, ◌<◌, ℕ, ◌+◌, Bool, true, false, List, [], ◌∷◌, ◌++◌, map, take, drop, length, get_or, Option, Some, None, Result, Ok, Err, IsOk, OnErr, refl, sym, ap, subst, ◌∙◌, inl, inr, arith}
+use Rattle.std.specs.Prelude.{fold, option_and_then}
+use Rattle.std.specs.List.{cons_option, slice_get}
 use Rattle.std.proofs.lemmas.Bool.{cases_lt, false≢true}
-use Rattle.std.proofs.lemmas.List.{take-map}
-use Rattle.std.proofs.lemmas.Option.{none-some, slice_get-map, slice_get_read}
+use Rattle.std.proofs.lemmas.Option.{none-some}
+use Rattle.gfx_model.specs.Frames as model
+use Rattle.gfx_model.specs.Frames.{item_of_entry}
 use Rattle.gfx_model.specs.Words.{ProgramKind}
-use Rattle.gfx_model.specs.World.{Draw, Paint}
+use Rattle.gfx_model.specs.World.{Draw, Paint, Item, Blit}
 use Rattle.store_model.specs.Buffers.{Buffers}
 use Rattle.store_model.specs.Textures.{Textures, texels_at, region_of}
 use Rattle.texture_store.specs.Cut.{writes_nothing}
 use Rattle.store_laws.specs.ByIndex.{paint_at}
 use Rattle.store_laws.specs.Listed.{values_after}
 use Rattle.draw_encoder.specs.declared.items.BlitCall.{BlitCall}
-use Rattle.draw_encoder.specs.declared.items.BlitItem.{BlitItem}
-use Rattle.draw_encoder.specs.Seen.{blit_seen, copy_seen}
-use Rattle.view_drawing.specs.declared.items.Recorded.{Recorded}
+use Rattle.draw_encoder.specs.Seen.{copy_seen}
+use Rattle.frame_record.specs.Placed.{items_in}
 use Rattle.view_drawing.specs.Entered.{blit_in, StopsAtBlit, StopsAtDraw}
+use Rattle.view_drawing.specs.Entries.{blit_of, blits_in}
 use Rattle.view_drawing.specs.Memory.{CanDraw, CopiesWithin}
-use Rattle.view_drawing.specs.Recorded.{recorded_seen}
+use Rattle.view_drawing.proofs.Entries.{got_at, taken_before, taken_to, items_split, blits_split}
+use Rattle.view_drawing.proofs.Folds.{fold_more}
 
 -- numbers that are not different are equal
 equal : (a b : ℕ) → (a ≢ b → ⊥) → a ≡ b
@@ -45,23 +48,33 @@ pub program_there : (b : Buffers) (t : Textures) (d : Draw) (paint : Paint) (pro
 program_there b t d paint program e none = none-some paint (sym (ap (paint_at b t d) none) ∙ sym e)
 
 -- the blit that was refused
-pub stops_at_blit : (blits : List BlitItem) (n : ℕ) (x : BlitItem) (old now new : Textures) → n < length blits → x ≡ slice_index_or blits n x → CopiesWithin now (blit_seen x)
-    → new ≡ now → now ≡ fold blit_in old (map blit_seen (take n blits)) → StopsAtBlit (map blit_seen blits) old new
-stops_at_blit blits n x old now new lt is within kept done = record {
-  before = n;
-  blit = blit_seen x;
-  there = slice_get-map blit_seen blits n ∙ ap (option_map blit_seen) (slice_get_read blits (length blits) n x refl lt is);
-  within = subst (λ (h : Textures). CopiesWithin h (blit_seen x)) (sym kept) within;
-  done = kept ∙ done ∙ ap (fold blit_in old) (sym (take-map blit_seen n blits));
-}
+pub stops_at_blit : {X : Type 0} (rs : List model.Recorded) (entry : X → model.Entry) (xs : List X) (i : ℕ) (d : X) (found : Option Item) (old now new : Textures) → i < length xs → found ≡ item_of_entry rs (entry (get_or xs i d))
+    → (b : Blit) × ((option_and_then blit_of found ≡ Some b) × CopiesWithin now b) → new ≡ now → now ≡ fold blit_in old (blits_in rs (map entry (take i xs))) → StopsAtBlit (blits_in rs (map entry xs)) old new
+stops_at_blit rs entry xs i d found old now new within is needs kept done =
+    let before : List Blit = blits_in rs (map entry (take i xs)) in
+    let after : List Blit = blits_in rs (map entry (drop (i + 1) xs)) in
+    let parts : blits_in rs (map entry xs) ≡ before ++ needs.0 ∷ after = blits_split rs entry xs i d within found needs.0 is needs.1.0 in record {
+      before = length before;
+      blit = needs.0;
+      there = ap (λ bs. slice_get bs (length before)) parts ∙ got_at before needs.0 after;
+      within = subst (λ (h : Textures). CopiesWithin h needs.0) (sym kept) needs.1.1;
+      done = kept ∙ done ∙ ap (fold blit_in old) (sym (ap (take (length before)) parts ∙ taken_before before (needs.0 ∷ after)));
+    }
 
 -- the draw that was refused, with its values
-pub stops_at_draw : (programs : List (Option ProgramKind)) (items : List Recorded) (n : ℕ) (x : Recorded) (old new : Buffers) → n < length items → x ≡ slice_index_or items n x → CanDraw programs (recorded_seen x)
-    → new ≡ fold values_after old (take (n + 1) (map recorded_seen items)) → StopsAtDraw programs (map recorded_seen items) old new
-stops_at_draw programs items n x old new lt is draws given = record {
-  before = n;
-  item = recorded_seen x;
-  there = slice_get-map recorded_seen items n ∙ ap (option_map recorded_seen) (slice_get_read items (length items) n x refl lt is);
-  draws = draws;
-  given = given;
-}
+pub stops_at_draw : {X : Type 0} (programs : List (Option ProgramKind)) (rs : List model.Recorded) (entry : X → model.Entry) (xs : List X) (i : ℕ) (d : X) (found : Option Item) (old now new : Buffers) → i < length xs
+    → found ≡ item_of_entry rs (entry (get_or xs i d)) → (x : Item) × ((found ≡ Some x) × CanDraw programs x) → now ≡ fold values_after old (items_in rs (map entry (take i xs))) → new ≡ fold values_after now (cons_option found [])
+    → StopsAtDraw programs (items_in rs (map entry xs)) old new
+stops_at_draw programs rs entry xs i d found old now new within is needs done given =
+    let x : Item = needs.0 in
+    let before : List Item = items_in rs (map entry (take i xs)) in
+    let after : List Item = items_in rs (map entry (drop (i + 1) xs)) in
+    let parts : items_in rs (map entry xs) ≡ before ++ x ∷ after = items_split rs entry xs i d within x (sym needs.1.0 ∙ is) in record {
+      before = length before;
+      item = x;
+      there = ap (λ ys. slice_get ys (length before)) parts ∙ got_at before x after;
+      draws = needs.1.1;
+      given =
+          fold_more values_after old now new before (before ++ x ∷ []) (Some x) refl done (given ∙ ap (λ o. fold values_after now (cons_option o [])) needs.1.0)
+          ∙ ap (fold values_after old) (sym (ap (take (length before + 1)) parts ∙ taken_to before x after));
+    }

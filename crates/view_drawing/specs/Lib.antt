@@ -1,8 +1,8 @@
 pub mod Cleared
 pub mod Entered
+pub mod Entries
 pub mod Prepared
 pub mod Ranges
-pub mod Recorded
 pub mod Sampled
 pub mod Shapes
 pub mod Memory

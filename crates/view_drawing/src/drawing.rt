@@ -1,17 +1,18 @@
 // The draws and touches of a view on its target, in one list.
-ghost use Rattle.std.specs.Prelude.{◌≡◌, Some, None, map, fold, option_map, OnOk, OnErr};
+ghost use Rattle.std.specs.Prelude.{◌≡◌, Some, None, fold, option_map, OnOk, OnErr};
 ghost use Rattle.view_table.specs.Seen.{view_seen};
 ghost use Rattle.int_raster.specs.Seen.{surface_seen};
 ghost use Rattle.texture_store.specs.Seen.{sides_seen};
-ghost use Rattle.store_laws.specs.Listed.{drawn_in, listed, values_after};
+ghost use Rattle.store_laws.specs.Listed.{drawn_in, listed};
 ghost use Rattle.render_stores.specs.Seen.{stores_seen};
-ghost use Rattle.view_drawing.specs.Recorded.{recorded_seen};
 ghost use Rattle.view_drawing.specs.Entered.{StopsAtDraw, HaveGiven};
+ghost use Rattle.view_drawing.specs.Entries.{items_of};
 
-use crate::items::{Recorded, do_items, give_values};
+use crate::items::{do_items, give_all};
 use crate::preparing::Stage;
 use crate::room::DrawingRoom;
 use buffer_store::BufferStore;
+use frame_record::{Frame, OrderedItem};
 use gfx_words::Handle;
 use int_raster::{DrawList, Rasterizer, Surface};
 use render_stores::RenderStores;
@@ -26,30 +27,22 @@ fn draw_surface<D: Rasterizer>(
     surface: &mut Surface,
     stage: &Stage<'_>,
     buffers: &mut BufferStore,
-    items: &[Recorded<'_>],
+    frame: &Frame,
+    items: &[OrderedItem],
     room: &mut DrawingRoom,
 ) -> Result<(), AllocError>
     requires wide { stage.now.width ≡ surface.old.color.width }
     requires high { stage.now.height ≡ surface.old.color.height }
-    ensures drawn { OnOk result (fold (drawn_in stage.now.textures.now stage.now.programs.now (view_seen stage.now.view.now)) (record { buffers = buffers.old; surface = surface_seen surface.old }) (map recorded_seen items.now) ≡ record { buffers = buffers.new; surface = surface_seen surface.new }) }
-    ensures begun { OnErr result ((surface.new ≡ surface.old) × StopsAtDraw stage.now.programs.now (map recorded_seen items.now) buffers.old buffers.new) }
+    ensures drawn { OnOk result (fold (drawn_in stage.now.textures.now stage.now.programs.now (view_seen stage.now.view.now)) (record { buffers = buffers.old; surface = surface_seen surface.old }) (items_of frame.now items.now) ≡ record { buffers = buffers.new; surface = surface_seen surface.new }) }
+    ensures begun { OnErr result ((surface.new ≡ surface.old) × StopsAtDraw stage.now.programs.now (items_of frame.now items.now) buffers.old buffers.new) }
     ensures color { sides_seen surface.new.color ≡ sides_seen surface.old.color }
     ensures depth { option_map sides_seen surface.new.depth ≡ option_map sides_seen surface.old.depth }
 {
     let mut list = DrawList::with_room(room.alloc, room.take_list());
-    do_items(stage, buffers, items, &mut list, room)?;
+    do_items(stage, buffers, frame, items, &mut list, room)?;
     rasterizer.draw(surface, &list);
     room.list = list.into_room();
     Ok(())
-}
-
-/// Gives the values of items in order, where nothing can be drawn.
-fn give_all(buffers: &mut BufferStore, items: &[Recorded<'_>])
-    ensures { buffers.new ≡ fold values_after buffers.old (map recorded_seen items.now) }
-{
-    for recorded in items {
-        give_values(buffers, recorded.recording, recorded.item);
-    }
 }
 
 /// Makes the draws of a view on a frame buffer's textures, where they can be taken out.
@@ -58,18 +51,19 @@ fn draw_target<D: Rasterizer>(
     stores: &mut RenderStores,
     target: Handle,
     view: &View,
-    items: &[Recorded<'_>],
+    frame: &Frame,
+    items: &[OrderedItem],
     room: &mut DrawingRoom,
 ) -> Result<(), AllocError>
     requires { view.now.target ≡ Some target }
-    ensures drawn { OnOk result (stores_seen stores.new ≡ listed (view_seen view.now) (stores_seen stores.old) (map recorded_seen items.now)) }
-    ensures begun { OnErr result (HaveGiven (map recorded_seen items.now) (stores_seen stores.old) (stores_seen stores.new)) }
+    ensures drawn { OnOk result (stores_seen stores.new ≡ listed (view_seen view.now) (stores_seen stores.old) (items_of frame.now items.now)) }
+    ensures begun { OnErr result (HaveGiven (items_of frame.now items.now) (stores_seen stores.old) (stores_seen stores.new)) }
 {
     stores.textures.tell_facts();
     put_back_law();
     match stores.textures.take_target(target.index()) {
         None => {
-            give_all(&mut stores.buffers, items);
+            give_all(&mut stores.buffers, frame, items);
             Ok(())
         }
         Some((color, depth)) => {
@@ -86,6 +80,7 @@ fn draw_target<D: Rasterizer>(
                 &mut surface,
                 &stage,
                 &mut stores.buffers,
+                frame,
                 items,
                 room,
             );
@@ -102,12 +97,13 @@ fn draw_back<D: Rasterizer>(
     rasterizer: &mut D,
     stores: &mut RenderStores,
     view: &View,
-    items: &[Recorded<'_>],
+    frame: &Frame,
+    items: &[OrderedItem],
     room: &mut DrawingRoom,
 ) -> Result<(), AllocError>
     requires { view.now.target ≡ None }
-    ensures drawn { OnOk result (stores_seen stores.new ≡ listed (view_seen view.now) (stores_seen stores.old) (map recorded_seen items.now)) }
-    ensures begun { OnErr result (HaveGiven (map recorded_seen items.now) (stores_seen stores.old) (stores_seen stores.new)) }
+    ensures drawn { OnOk result (stores_seen stores.new ≡ listed (view_seen view.now) (stores_seen stores.old) (items_of frame.now items.now)) }
+    ensures begun { OnErr result (HaveGiven (items_of frame.now items.now) (stores_seen stores.old) (stores_seen stores.new)) }
 {
     let stage = Stage {
         textures: &stores.textures,
@@ -121,6 +117,7 @@ fn draw_back<D: Rasterizer>(
         &mut stores.back,
         &stage,
         &mut stores.buffers,
+        frame,
         items,
         room,
     );
@@ -132,14 +129,15 @@ pub(crate) fn draw_listed<D: Rasterizer>(
     rasterizer: &mut D,
     stores: &mut RenderStores,
     view: &View,
-    items: &[Recorded<'_>],
+    frame: &Frame,
+    items: &[OrderedItem],
     room: &mut DrawingRoom,
 ) -> Result<(), AllocError>
-    ensures drawn { OnOk result (stores_seen stores.new ≡ listed (view_seen view.now) (stores_seen stores.old) (map recorded_seen items.now)) }
-    ensures begun { OnErr result (HaveGiven (map recorded_seen items.now) (stores_seen stores.old) (stores_seen stores.new)) }
+    ensures drawn { OnOk result (stores_seen stores.new ≡ listed (view_seen view.now) (stores_seen stores.old) (items_of frame.now items.now)) }
+    ensures begun { OnErr result (HaveGiven (items_of frame.now items.now) (stores_seen stores.old) (stores_seen stores.new)) }
 {
     match view.target {
-        Some(target) => draw_target(rasterizer, stores, target, view, items, room),
-        None => draw_back(rasterizer, stores, view, items, room),
+        Some(target) => draw_target(rasterizer, stores, target, view, frame, items, room),
+        None => draw_back(rasterizer, stores, view, frame, items, room),
     }
 }

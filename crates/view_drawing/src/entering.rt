@@ -1,20 +1,18 @@
 // A view that is entered.
-ghost use Rattle.std.specs.Prelude.{◌≡◌, false, map, fold, OnOk, OnErr};
+ghost use Rattle.std.specs.Prelude.{◌≡◌, false, fold, OnOk, OnErr};
 ghost use Rattle.std.specs.List.{AllByRecursion};
 ghost use Rattle.gfx_model.specs.World.{is_blit};
 ghost use Rattle.view_table.specs.Seen.{view_seen};
-ghost use Rattle.draw_encoder.specs.Seen.{blit_seen};
 ghost use Rattle.store_laws.specs.ByIndex.{do_by_index};
 ghost use Rattle.render_stores.specs.Seen.{stores_seen};
-ghost use Rattle.view_drawing.specs.Recorded.{recorded_seen};
 ghost use Rattle.view_drawing.specs.Entered.{entered, HaveGiven, IsBegun};
+ghost use Rattle.view_drawing.specs.Entries.{blits_of, items_of};
 
 use crate::blits::blit_all;
 use crate::drawing::draw_listed;
-use crate::items::Recorded;
 use crate::room::DrawingRoom;
 use crate::targets::clear_target;
-use draw_encoder::BlitItem;
+use frame_record::{Frame, OrderedItem, PlacedBlit};
 use int_raster::Rasterizer;
 use render_stores::RenderStores;
 use std::alloc::AllocError;
@@ -26,20 +24,22 @@ fn draw_items<D: Rasterizer>(
     rasterizer: &mut D,
     stores: &mut RenderStores,
     view: &View,
-    items: &[Recorded<'_>],
+    frame: &Frame,
+    items: &[OrderedItem],
     room: &mut DrawingRoom,
 ) -> Result<(), AllocError>
-    requires { AllByRecursion (λ i. is_blit i ≡ false) (map recorded_seen items.now) }
-    ensures done { OnOk result (stores_seen stores.new ≡ fold (do_by_index (view_seen view.now)) (stores_seen stores.old) (map recorded_seen items.now)) }
-    ensures begun { OnErr result (HaveGiven (map recorded_seen items.now) (stores_seen stores.old) (stores_seen stores.new)) }
+    requires { AllByRecursion (λ i. is_blit i ≡ false) (items_of frame.now items.now) }
+    ensures done { OnOk result (stores_seen stores.new ≡ fold (do_by_index (view_seen view.now)) (stores_seen stores.old) (items_of frame.now items.now)) }
+    ensures begun { OnErr result (HaveGiven (items_of frame.now items.now) (stores_seen stores.old) (stores_seen stores.new)) }
 {
     stores.textures.tell_facts();
     list_law();
-    draw_listed(rasterizer, stores, view, items, room)
+    draw_listed(rasterizer, stores, view, frame, items, room)
 }
 
 /// Enters a view: clears its rectangle of its target, then copies its blits, then does its draws and touches, each in the order of its list;
-/// the rasterizer makes the draws. No item of the second list is a blit.
+/// the rasterizer makes the draws. The lists are entries of the frame; one without an item is passed over, and so is an item of the first
+/// list that is no blit. No item of the second list is a blit.
 ///
 /// Only want of memory refuses, at a blit within one texture of whose region something is left, or at a draw whose program is there. At a
 /// blit the clear is done and the blits before it; at a draw the clear and all blits, and the values of the items up to it are given, and
@@ -48,15 +48,16 @@ pub fn enter_view<D: Rasterizer>(
     rasterizer: &mut D,
     stores: &mut RenderStores,
     view: &View,
-    blits: &[BlitItem],
-    items: &[Recorded<'_>],
+    frame: &Frame,
+    blits: &[PlacedBlit],
+    items: &[OrderedItem],
     room: &mut DrawingRoom,
 ) -> Result<(), AllocError>
-    requires { AllByRecursion (λ i. is_blit i ≡ false) (map recorded_seen items.now) }
-    ensures entered { OnOk result (stores_seen stores.new ≡ entered (view_seen view.now) (map blit_seen blits.now) (map recorded_seen items.now) (stores_seen stores.old)) }
-    ensures begun { OnErr result (IsBegun (view_seen view.now) (map blit_seen blits.now) (map recorded_seen items.now) (stores_seen stores.old) (stores_seen stores.new)) }
+    requires { AllByRecursion (λ i. is_blit i ≡ false) (items_of frame.now items.now) }
+    ensures entered { OnOk result (stores_seen stores.new ≡ entered (view_seen view.now) (blits_of frame.now blits.now) (items_of frame.now items.now) (stores_seen stores.old)) }
+    ensures begun { OnErr result (IsBegun (view_seen view.now) (blits_of frame.now blits.now) (items_of frame.now items.now) (stores_seen stores.old) (stores_seen stores.new)) }
 {
     clear_target(stores, view);
-    blit_all(&mut stores.textures, blits)?;
-    draw_items(rasterizer, stores, view, items, room)
+    blit_all(&mut stores.textures, frame, blits)?;
+    draw_items(rasterizer, stores, view, frame, items, room)
 }

@@ -1,24 +1,27 @@
 // What the draws and touches of a view do while its target is taken out.
-ghost use Rattle.std.specs.Prelude.{◌≡◌, map, OnOk, OnErr};
+ghost use Rattle.std.specs.Prelude.{◌≡◌, [], Some, fold, option_map, OnOk, OnErr};
+ghost use Rattle.std.specs.List.{cons_option};
+ghost use Rattle.gfx_model.specs.World as model;
 ghost use Rattle.view_table.specs.Seen.{view_seen};
 ghost use Rattle.draw_encoder.specs.Seen.{item_seen};
 ghost use Rattle.store_laws.specs.Listed.{values_after};
 ghost use Rattle.view_drawing.specs.Memory.{CanDraw};
 ghost use Rattle.view_drawing.specs.Prepared.{DoesTo, DoAllTo};
-ghost use Rattle.view_drawing.specs.Recorded.{recorded_seen};
 ghost use Rattle.view_drawing.specs.Entered.{StopsAtDraw};
+ghost use Rattle.view_drawing.specs.Entries.{found_seen, items_of};
 
 use crate::preparing::{Stage, add_draw};
 use crate::room::DrawingRoom;
 use crate::uniforms::{set_values, sets_of};
 use buffer_store::BufferStore;
 use draw_encoder::{Item, Recording};
+use frame_record::{Frame, OrderedItem};
 use int_raster::DrawList;
 use std::alloc::AllocError;
 
 /// Gives an item's values, and puts it into the list, where it is a draw whose program is there, which alone takes memory; a blit is none
 /// of the list.
-pub(crate) fn do_item<'x>(
+fn do_item<'x>(
     stage: &Stage<'x>,
     buffers: &mut BufferStore,
     recording: &Recording,
@@ -46,7 +49,7 @@ pub(crate) fn do_item<'x>(
 }
 
 /// Gives an item's values.
-pub(crate) fn give_values(buffers: &mut BufferStore, recording: &Recording, item: &Item)
+fn give_values(buffers: &mut BufferStore, recording: &Recording, item: &Item)
     ensures { buffers.new ≡ values_after buffers.old (item_seen recording.now.bytes recording.now.uniforms item.now) }
 {
     let sets = recording.uniforms.as_slice();
@@ -57,33 +60,57 @@ pub(crate) fn give_values(buffers: &mut BufferStore, recording: &Recording, item
     }
 }
 
-/// An item with the recording that has it.
-#[derive(Clone, Copy)]
-pub struct Recorded<'x> {
-    pub recording: &'x Recording,
-    pub item: &'x Item,
-}
-
-/// Does the draws and touches of a view in order. Where memory is wanting, the items up to the draw that takes it have given their values.
-pub(crate) fn do_items<'x>(
+/// The same of an item that was found; where there is none, nothing is done.
+fn do_found<'x>(
     stage: &Stage<'x>,
     buffers: &mut BufferStore,
-    items: &[Recorded<'_>],
+    found: Option<(&Recording, &Item)>,
     list: &mut DrawList<'x>,
     room: &mut DrawingRoom,
 ) -> Result<(), AllocError>
-    ensures done { OnOk result (DoAllTo stage.now.width stage.now.height stage.now.textures.now stage.now.programs.now (view_seen stage.now.view.now) (map recorded_seen items.now) buffers.old list.old buffers.new list.new) }
-    ensures given { OnErr result (StopsAtDraw stage.now.programs.now (map recorded_seen items.now) buffers.old buffers.new) }
+    ensures done { OnOk result (DoAllTo stage.now.width stage.now.height stage.now.textures.now stage.now.programs.now (view_seen stage.now.view.now) (cons_option (option_map found_seen found.entry) []) buffers.old list.old buffers.new list.new) }
+    ensures given { buffers.new ≡ fold values_after buffers.old (cons_option (option_map found_seen found.entry) []) }
+    ensures needs { OnErr result ((i : model.Item) × ((option_map found_seen found.entry ≡ Some i) × CanDraw stage.now.programs.now i)) }
 {
-    for recorded in items {
-        do_item(
-            stage,
-            buffers,
-            recorded.recording,
-            recorded.item,
-            list,
-            room,
-        )?;
+    match found {
+        Some((recording, item)) => do_item(stage, buffers, recording, item, list, room),
+        None => Ok(()),
+    }
+}
+
+/// Does the draws and touches of a view in order. Entries without an item are passed over. Where memory is wanting, the items up to the
+/// draw that takes it have given their values.
+pub(crate) fn do_items<'x>(
+    stage: &Stage<'x>,
+    buffers: &mut BufferStore,
+    frame: &Frame,
+    items: &[OrderedItem],
+    list: &mut DrawList<'x>,
+    room: &mut DrawingRoom,
+) -> Result<(), AllocError>
+    ensures done { OnOk result (DoAllTo stage.now.width stage.now.height stage.now.textures.now stage.now.programs.now (view_seen stage.now.view.now) (items_of frame.now items.now) buffers.old list.old buffers.new list.new) }
+    ensures given { OnErr result (StopsAtDraw stage.now.programs.now (items_of frame.now items.now) buffers.old buffers.new) }
+{
+    for one in items {
+        do_found(stage, buffers, frame.item(one.entry), list, room)?;
     }
     Ok(())
+}
+
+/// Gives the values of an item that was found.
+fn give_found(buffers: &mut BufferStore, found: Option<(&Recording, &Item)>)
+    ensures { buffers.new ≡ fold values_after buffers.old (cons_option (option_map found_seen found.entry) []) }
+{
+    if let Some((recording, item)) = found {
+        give_values(buffers, recording, item);
+    }
+}
+
+/// Gives the values of items in order, where nothing can be drawn.
+pub(crate) fn give_all(buffers: &mut BufferStore, frame: &Frame, items: &[OrderedItem])
+    ensures { buffers.new ≡ fold values_after buffers.old (items_of frame.now items.now) }
+{
+    for one in items {
+        give_found(buffers, frame.item(one.entry));
+    }
 }

@@ -18,5 +18,4 @@ mod tests;
 mod uniforms;
 
 pub use entering::enter_view;
-pub use items::Recorded;
 pub use room::DrawingRoom;

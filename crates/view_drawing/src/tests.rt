@@ -1,23 +1,38 @@
 // Views whose pictures were worked out by hand.
-ghost use Rattle.std.specs.Prelude.{◌≤◌};
+ghost use Rattle.std.specs.Prelude.{◌≡◌, ◌≤◌, length, IfOk};
+ghost use Rattle.schedule_model.specs.Held.{Ascends};
+ghost use Rattle.draw_encoder.specs.Seen.{number_of, numbers_of};
 
-use crate::{DrawingRoom, Recorded, enter_view};
+use crate::{DrawingRoom, enter_view};
+use cmd_buffer::CmdBuffer;
 use draw_encoder::{
     BlitCall, BlitItem, Bytes, DrawItem, IndexSet, Item, Items, Recording, TouchItem, UniformSet,
     UniformSets, VertexSet,
 };
 use fix_math::{Affine, Rect};
+use frame_record::{Frame, collect};
 use gfx_words::{
     Format, Handle, Info, Kind, ProgramKind, StateWord, StencilWord, UniformKind, UniformValue,
 };
-use int_raster::{BandRasterizer, SerialRasterizer};
+use int_raster::{BandRasterizer, Rasterizer, SerialRasterizer};
 use render_stores::RenderStores;
 use std::alloc::{AllocError, Global};
 use std::process::Abort;
 use std::test::Fail;
 use texture_store::TexelSource;
 use vertex_layout::{Attr, AttrType, LayoutBuilder};
-use view_table::{Clear, View};
+use view_table::{Clear, View, ViewTable};
+
+// The types that an item is made of.
+type Parts = (
+    DrawItem,
+    VertexSet,
+    IndexSet,
+    Option<Handle>,
+    TouchItem,
+    BlitItem,
+    BlitCall,
+);
 
 // A triangle that covers any target; four corners of one; and indices: the first triangle, and one past the end.
 const BYTES: [u8; 68] = [
@@ -60,21 +75,83 @@ fn fill(alloc: Global, stores: &mut RenderStores) -> Result<(), Fail> {
     Ok(())
 }
 
-fn recording(alloc: Global) -> Result<Recording, AllocError> {
+fn recording(alloc: Global, items: Vec<Item>) -> Result<Recording, AllocError>
+    ensures { IfOk result (λ r. r.items ≡ items.items) }
+{
+    // The check asks that the types of an item's parts are seen where it is stored.
+    let _parts: Option<Parts> = None;
     let value = UniformValue::Vec4([8224, 8224, 8224, 65536]);
     let uniform = Handle::of(Kind::Uniform, 0, 1, Info::Uniform(UniformKind::Vec4));
     Ok(Recording {
         encoder: 0,
         frame: 0,
-        items: Items::from_vec(Vec::new(alloc)),
+        items: Items::from_vec(items),
         bytes: Bytes::from_vec(BYTES.as_slice().to_vec(alloc)?),
         uniforms: UniformSets::from_vec(vec![in alloc; UniformSet { uniform, value }; 1]?),
         dropped: 0,
     })
 }
 
+// A frame of one encoder's items.
+fn framed(alloc: Global, items: Vec<Item>) -> Result<Frame, AllocError>
+    requires few { length (numbers_of items.items) ≤ 65528 }
+    requires ascend { Ascends (numbers_of items.items) }
+{
+    let mut recordings = Vec::new(alloc);
+    let own = recording(alloc, items)?;
+    recordings.push(own)?;
+    let journal = collect(alloc, &recordings)?;
+    Ok(Frame::new(
+        0,
+        ViewTable::new(alloc, 256)?,
+        CmdBuffer::new(alloc).finish()?,
+        CmdBuffer::new(alloc).finish()?,
+        Vec::new(alloc),
+        recordings,
+        journal,
+    ))
+}
+
+// A frame of two items.
+fn two(alloc: Global, first: Item, second: Item) -> Result<Frame, AllocError>
+    requires { (number_of first ≡ 0) × (number_of second ≡ 1) }
+{
+    let mut items = Vec::new(alloc);
+    items.push(first)?;
+    items.push(second)?;
+    framed(alloc, items)
+}
+
+// Enters a view with the items of a frame, in the frame's order.
+fn enter<D: Rasterizer>(
+    alloc: Global,
+    rasterizer: &mut D,
+    stores: &mut RenderStores,
+    view: &View,
+    frame: &Frame,
+) -> Result<(), AllocError> {
+    let mut blits = Vec::new(alloc);
+    frame.blits(&mut blits)?;
+    let mut items = Vec::new(alloc);
+    frame.ordered(&mut items)?;
+    let mut room = DrawingRoom::new(alloc);
+    enter_view(rasterizer, stores, view, frame, &blits, &items, &mut room)
+}
+
+fn touch(number: u64) -> Item
+    ensures { number_of result ≡ number }
+{
+    Item::Touch(TouchItem {
+        view: 0,
+        number,
+        values_at: 0,
+        values: 0,
+    })
+}
+
 fn draw<R: Abort>(rt: &R, word: u64, stencil: u32, program: u16) -> DrawItem
     requires { program ≤ 1 }
+    ensures { result.number ≡ 0 }
 {
     let (Ok(state), Ok(front), Ok(back)) = (
         StateWord::read(word),
@@ -117,30 +194,12 @@ fn enter_two(
     requires high { 1 ≤ sides.1 }
     requires narrow { sides.0 ≤ 2048 }
     requires low { sides.1 ≤ 2048 }
+    requires numbers { (first.number ≡ 0) × (second.number ≡ 1) }
 {
     let mut stores = RenderStores::new(alloc, sides.0, sides.1)?;
     fill(alloc, &mut stores)?;
-    let recording = recording(alloc)?;
-    let (first, second) = (Item::Draw(first), Item::Draw(second));
-    let items = [
-        Recorded {
-            recording: &recording,
-            item: &first,
-        },
-        Recorded {
-            recording: &recording,
-            item: &second,
-        },
-    ];
-    let mut room = DrawingRoom::new(alloc);
-    enter_view(
-        &mut SerialRasterizer,
-        &mut stores,
-        view,
-        &[],
-        &items,
-        &mut room,
-    )?;
+    let frame = two(alloc, Item::Draw(first), Item::Draw(second))?;
+    enter(alloc, &mut SerialRasterizer, &mut stores, view, &frame)?;
     Ok(stores)
 }
 
@@ -155,25 +214,13 @@ fn a_clear_stays_within_the_rectangle(rt: HostRuntime) -> Result<(), Fail> {
         depth: 0,
         stencil: 0,
     };
-    let recording = recording(rt.alloc())?;
-    let touch = Item::Touch(TouchItem {
-        view: 0,
-        number: 0,
-        values_at: 0,
-        values: 0,
-    });
-    let items = [Recorded {
-        recording: &recording,
-        item: &touch,
-    }];
-    let mut room = DrawingRoom::new(rt.alloc());
-    enter_view(
+    let frame = two(rt.alloc(), touch(0), touch(1))?;
+    enter(
+        rt.alloc(),
         &mut SerialRasterizer,
         &mut stores,
         &view,
-        &[],
-        &items,
-        &mut room,
+        &frame,
     )?;
     assert_eq!(rt;
         stores.back.color.texels.as_slice(),
@@ -188,6 +235,7 @@ const GREY: [u8; 4] = [32, 32, 32, 255];
 fn a_value_stays_for_the_next_draw(rt: HostRuntime) -> Result<(), Fail> {
     let (mut first, mut second) = (draw(&rt, 15, 0, 0), draw(&rt, 15, 0, 0));
     first.scissor = pixel(0);
+    second.number = 1;
     second.scissor = pixel(1);
     second.values = 0;
     let view = View::plain();
@@ -203,6 +251,7 @@ fn a_value_stays_for_the_next_draw(rt: HostRuntime) -> Result<(), Fail> {
 fn a_view_has_a_scissor_too(rt: HostRuntime) -> Result<(), Fail> {
     let (mut first, mut second) = (draw(&rt, 15, 0, 0), draw(&rt, 15, 0, 0));
     first.scissor = pixel(0);
+    second.number = 1;
     second.scissor = pixel(1);
     let mut view = View::plain();
     view.scissor = pixel(1);
@@ -219,6 +268,7 @@ fn indices_past_the_end_draw_nothing(rt: HostRuntime) -> Result<(), Fail> {
     let (mut first, mut second) = (draw(&rt, 15, 0, 0), draw(&rt, 15, 0, 0));
     first.scissor = pixel(0);
     first.indices = IndexSet::Transient { at: 56, length: 6 };
+    second.number = 1;
     second.scissor = pixel(1);
     second.indices = IndexSet::Transient { at: 62, length: 6 };
     let view = View::plain();
@@ -241,6 +291,7 @@ fn every_second_triangle_of_a_strip_is_turned(rt: HostRuntime) -> Result<(), Fai
         at: 24,
         length: 32,
     };
+    second.number = 1;
     second.vertices = VertexSet::Transient {
         layout,
         at: 0,
@@ -257,6 +308,7 @@ fn a_failed_stencil_test_stores_no_depth(rt: HostRuntime) -> Result<(), Fail> {
     // depth is written where it is less; the first draw asks for the stencil 1, and keeps what is there
     let less = 274877906944 + 16 + 15;
     let (first, mut second) = (draw(&rt, less, 286523137, 0), draw(&rt, less, 0, 0));
+    second.number = 1;
     second.model.m[11] = 16384;
     let mut view = View::plain();
     view.clear = Clear {
@@ -306,14 +358,9 @@ fn blits_and_a_sample_of_the_own_target(rt: HostRuntime) -> Result<(), Fail> {
     fill_textures(&mut stores)?;
     let mut view = View::plain();
     view.target = Some(Handle::of(Kind::FrameBuffer, 0, 5, Info::Plain));
-    let recording = recording(rt.alloc())?;
     let mut item = draw(&rt, 15, 0, 1);
+    item.number = 1;
     item.textures[0] = Some(texture(1));
-    let item = Item::Draw(item);
-    let items = [Recorded {
-        recording: &recording,
-        item: &item,
-    }];
     let copy = BlitCall {
         dst: texture(0),
         dx: 1,
@@ -324,21 +371,14 @@ fn blits_and_a_sample_of_the_own_target(rt: HostRuntime) -> Result<(), Fail> {
         w: 9,
         h: 5,
     };
-    let blits = [BlitItem {
+    let blit = Item::Blit(BlitItem {
         view: 0,
         number: 0,
         copy,
-    }];
-    let mut room = DrawingRoom::new(rt.alloc());
+    });
+    let frame = two(rt.alloc(), blit, Item::Draw(item))?;
     let mut rasterizer = BandRasterizer::new(&rt);
-    enter_view(
-        &mut rasterizer,
-        &mut stores,
-        &view,
-        &blits,
-        &items,
-        &mut room,
-    )?;
+    enter(rt.alloc(), &mut rasterizer, &mut stores, &view, &frame)?;
     let row = [[16, 16, 16, 255], [16, 16, 16, 255], [32, 32, 32, 255]];
     let Some(copied) = stores.textures.texels_of(0) else {
         return Err("no texture".into());
@@ -365,21 +405,14 @@ fn a_count_far_past_the_end(rt: HostRuntime) -> Result<(), Fail> {
         first: 0,
         count: 4_294_967_295,
     };
-    let item = Item::Draw(item);
-    let recording = recording(rt.alloc())?;
-    let items = [Recorded {
-        recording: &recording,
-        item: &item,
-    }];
+    let frame = two(rt.alloc(), Item::Draw(item), touch(1))?;
     let view = View::plain();
-    let mut room = DrawingRoom::new(rt.alloc());
-    enter_view(
+    enter(
+        rt.alloc(),
         &mut SerialRasterizer,
         &mut stores,
         &view,
-        &[],
-        &items,
-        &mut room,
+        &frame,
     )?;
     assert_eq!(rt; stores.back.color.texels.as_slice(), [GREY].as_slice());
     Ok(())

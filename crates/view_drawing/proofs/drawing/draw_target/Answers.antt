@@ -8,7 +8,7 @@ use Rattle.view_table.specs.Seen.{view_seen}
 use Rattle.store_model.specs.Textures.{target_out, target_back, target_texels}
 use Rattle.store_laws.specs.Listed.{drawn_in}
 use Rattle.render_stores.specs.Seen.{stores_seen}
-use Rattle.view_drawing.specs.Recorded.{recorded_seen}
+use Rattle.view_drawing.specs.Entries.{items_of}
 use Rattle.view_drawing.proofs.TargetLaws.{surface_with}
 use Rattle.view_drawing.proofs.DrawnLaws.{listed_taken, given_on_target}
 use Rattle.view_drawing.proofs.drawing.draw_target.Goals as goal
@@ -17,7 +17,7 @@ pub returns-in-Some-clause-drawn : goal.returns-in-Some-clause-drawn
 returns-in-Some-clause-drawn g c =
     let view = view_seen c.args.view.now in
     let h = stores_seen c.args.stores.now in
-    let items = map recorded_seen c.args.items.now in
+    let items = items_of c.args.frame.now c.args.items.now in
     let t = c.args.target in
     let p = target_seen (c.in-Some.color, c.in-Some.depth) in
     let s = surface_seen c.draw_surface-done.new.surface in
@@ -33,7 +33,7 @@ returns-in-Some-clause-drawn g c =
 pub returns-in-Some-clause-begun : goal.returns-in-Some-clause-begun
 returns-in-Some-clause-begun g c =
     let h = stores_seen c.args.stores.now in
-    let items = map recorded_seen c.args.items.now in
+    let items = items_of c.args.frame.now c.args.items.now in
     let t = c.args.target in
     let p = target_seen (c.in-Some.color, c.in-Some.depth) in
     let s = surface_seen c.draw_surface-done.new.surface in

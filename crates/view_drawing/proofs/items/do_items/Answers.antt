@@ -1,13 +1,34 @@
+use Rattle.std.proofs.Common.{ap, take, ◌∙◌}
+use Rattle.std.specs.Prelude.{option_map}
+use Rattle.gfx_model.specs.Frames.{item_of_entry}
 use Rattle.view_table.specs.Seen.{view_seen}
-use Rattle.view_drawing.specs.Recorded.{recorded_seen}
-use Rattle.view_drawing.proofs.Folds.{on_err_holds}
-use Rattle.view_drawing.proofs.DrawnLaws.{values_given}
+use Rattle.frame_record.specs.Seen.{entry_seen, recordings_seen}
+use Rattle.view_drawing.specs.Entries.{found_seen, items_of}
+use Rattle.view_drawing.proofs.DrawnLaws.{values_done}
+use Rattle.view_drawing.proofs.Entries.{items_more}
+use Rattle.view_drawing.proofs.Folds.{do_more, on_err_holds}
 use Rattle.view_drawing.proofs.Needs.{stops_at_draw}
 use Rattle.view_drawing.proofs.items.do_items.Goals as goal
 
-pub returns-in_err-do_item-clause-given : goal.returns-in_err-do_item-clause-given
-returns-in_err-do_item-clause-given c =
+pub returns-in_err-do_found-clause-given : goal.returns-in_err-do_found-clause-given
+returns-in_err-do_found-clause-given c =
+    let a = c.args in
+    let l = c.loop-one in
+    let s = a.stage.now in
+    let rs = recordings_seen a.frame.now.recordings.items in
     on_err_holds c.from_residual.result
-    (stops_at_draw c.args.stage.now.programs.now c.args.items.now c.loop-recorded.recorded-index c.recorded-item.result c.args.buffers.now c.do_item.new.buffers c.loop-recorded-test.true c.recorded-item.is c.in_err-do_item.ensures.needs
-    (values_given c.args.stage.now.width c.args.stage.now.height c.args.stage.now.textures.now c.args.stage.now.programs.now (view_seen c.args.stage.now.view.now) recorded_seen c.args.items.now c.loop-recorded.recorded-index c.recorded-item.result
-    c.args.buffers.now c.loop-recorded.buffers c.do_item.new.buffers c.args.list.now c.loop-recorded.list c.loop-recorded-test.true c.recorded-item.is c.loop-recorded.invariant c.in_err-do_item.ensures.given))
+    (stops_at_draw s.programs.now rs (λ o. entry_seen o.entry) a.items.now l.one-index c.one-item.result (option_map found_seen c.item.result) a.buffers.now l.buffers c.do_found.new.buffers c.loop-one-test.true
+    (c.item.ensures.content ∙ ap (λ o. item_of_entry rs (entry_seen o.entry)) c.one-item.is) c.in_err-do_found.ensures.needs
+    (values_done s.width s.height s.textures.now s.programs.now (view_seen s.view.now) (items_of a.frame.now (take l.one-index a.items.now)) a.buffers.now l.buffers a.list.now l.list l.invariant)
+    c.in_err-do_found.ensures.given)
+
+pub loop-one-preserved : goal.loop-one-preserved
+loop-one-preserved c =
+    let a = c.args in
+    let l = c.loop-one in
+    let s = a.stage.now in
+    let rs = recordings_seen a.frame.now.recordings.items in
+    let found = option_map found_seen c.item.result in
+    do_more s.width s.height s.textures.now s.programs.now (view_seen s.view.now) (items_of a.frame.now (take l.one-index a.items.now)) _ found a.buffers.now l.buffers c.do_found.new.buffers a.list.now l.list c.do_found.new.list
+    (items_more rs (λ o. entry_seen o.entry) a.items.now l.one-index c.one-item.result c.loop-one-test.true found (c.item.ensures.content ∙ ap (λ o. item_of_entry rs (entry_seen o.entry)) c.one-item.is))
+    l.invariant c.in_ok-do_found.ensures.done
