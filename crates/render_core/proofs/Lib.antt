@@ -1,7 +1,5 @@
 mod Counts
 mod EndedFrames
-mod Found
-mod OneRecording
 mod OneWay
 mod Parts
 mod Pieces

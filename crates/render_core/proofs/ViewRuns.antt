@@ -38,31 +38,9 @@ module _ {X : Type 0} (vs : Views) (rs : List model.Recorded) (entry : X → mod
   one_item : (x : X) (xs : List X) (i : Item) → item_of_entry rs (entry x) ≡ Some i → items_at (x ∷ xs) ≡ i ∷ items_at xs
   one_item x xs i is = rw is refl
 
-  pub many_items : (xs : List X) → AllByRecursion IsAt xs → length (items_at xs) ≡ length xs
-  many_items [] all = refl
-  many_items (x ∷ xs) all = ap length (one_item x xs all.0.0 all.0.1) ∙ ap suc (many_items xs all.1)
-
-  taken : (n : ℕ) (xs : List X) → AllByRecursion IsAt xs → take n (items_at xs) ≡ items_at (take n xs)
-  taken zero xs all = refl
-  taken (suc n) [] all = refl
-  taken (suc n) (x ∷ xs) all = ap (take (suc n)) (one_item x xs all.0.0 all.0.1) ∙ ap (λ ys. all.0.0 ∷ ys) (taken n xs all.1) ∙ sym (one_item x (take n xs) all.0.0 all.0.1)
-
-  dropped : (n : ℕ) (xs : List X) → AllByRecursion IsAt xs → drop n (items_at xs) ≡ items_at (drop n xs)
-  dropped zero xs all = refl
-  dropped (suc n) [] all = refl
-  dropped (suc n) (x ∷ xs) all = ap (drop (suc n)) (one_item x xs all.0.0 all.0.1) ∙ dropped n xs all.1
-
-  all_dropped : (n : ℕ) (xs : List X) → AllByRecursion IsAt xs → AllByRecursion IsAt (drop n xs)
-  all_dropped zero xs all = all
-  all_dropped (suc n) [] all = tt
-  all_dropped (suc n) (x ∷ xs) all = all_dropped n xs all.1
-
-  -- a run is the items of those at the position
-  pub run_items : (from n p : ℕ) (xs : List X) → AllByRecursion IsAt xs → take n (drop from xs) ≡ at_position pos p xs → take n (drop from (items_at xs)) ≡ items_at (at_position pos p xs)
-  run_items from n p xs all run = ap (take n) (dropped from xs all) ∙ taken n (drop from xs) (all_dropped from xs all) ∙ ap items_at run
-
   module _ (v p : ℕ) (within : v < view_count vs) (is : p ≡ position_of_view vs v) where
-    at_view : (xs : List X) → AllByRecursion IsAt xs → items_at (at_position pos p xs) ≡ filter (is_of_view v) (items_at xs)
+    -- those at the position are of the view
+    pub at_view : (xs : List X) → AllByRecursion IsAt xs → items_at (at_position pos p xs) ≡ filter (is_of_view v) (items_at xs)
     at_view [] all = refl
     at_view (x ∷ xs) all =
         let i : Item = all.0.0 in
@@ -75,10 +53,6 @@ module _ {X : Type 0} (vs : Views) (rs : List model.Recorded) (entry : X → mod
         go : (b : Bool) → items_at (cond b (x ∷ at_position pos p xs) (at_position pos p xs)) ≡ cond b (all.0.0 ∷ items_at (at_position pos p xs)) (items_at (at_position pos p xs))
         go true = one_item x (at_position pos p xs) all.0.0 all.0.1
         go false = refl
-
-    -- a run of a position is the items of its view
-    pub run_of_view : (from n : ℕ) (xs : List X) → AllByRecursion IsAt xs → take n (drop from xs) ≡ at_position pos p xs → take n (drop from (items_at xs)) ≡ filter (is_of_view v) (items_at xs)
-    run_of_view from n xs all run = run_items from n p xs all run ∙ at_view xs all
 
 -- ---- the blits of a view
 

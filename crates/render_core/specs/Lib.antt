@@ -1,6 +1,5 @@
 pub mod Counted
 pub mod Ended
-pub mod Found
 pub mod Laws
 pub mod Lending
 pub mod Lists

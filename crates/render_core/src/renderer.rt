@@ -11,6 +11,7 @@ ghost use Rattle.render_core.specs.Rendered.{IsRendered, seen_by};
 ghost use Rattle.render_core.specs.Seen.{frame_seen};
 ghost use Rattle.render_core.specs.Shown.{StoresAfter, HeldAfter, TallyAfter, FaultIf};
 
+use crate::lists::Lists;
 use crate::outcomes::Outcomes;
 use crate::output::put_all;
 use crate::picture::PictureText;
@@ -28,6 +29,7 @@ use view_drawing::DrawingRoom;
 pub(crate) struct Canvas {
     alloc: Global,
     pub(crate) stores: RenderStores,
+    lists: Lists,
     room: DrawingRoom,
     text: PictureText,
 }
@@ -53,6 +55,7 @@ impl Canvas {
         Ok(Canvas {
             alloc,
             stores,
+            lists: Lists::new(alloc),
             room: DrawingRoom::new(alloc),
             text,
         })
@@ -64,10 +67,10 @@ impl Canvas {
     {
         execute_all(self.alloc, &mut self.stores, &frame.payloads, &frame.pre)?;
         draw_views(
-            self.alloc,
             rasterizer,
             &mut self.stores,
             frame,
+            &mut self.lists,
             &mut self.room,
         )?;
         execute_all(self.alloc, &mut self.stores, &frame.payloads, &frame.post)?;

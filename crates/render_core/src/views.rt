@@ -11,12 +11,11 @@ ghost use Rattle.render_core.specs.Runs.{RunsFrom};
 ghost use Rattle.render_core.specs.Seen.{frame_seen};
 
 use crate::lists::Lists;
-use draw_encoder::BlitItem;
-use frame_record::{Frame, end_of_blits, end_of_run};
+use frame_record::{Frame, OrderedItem, PlacedBlit, end_of_blits, end_of_run};
 use int_raster::Rasterizer;
 use render_stores::RenderStores;
-use std::alloc::{AllocError, Global};
-use view_drawing::{DrawingRoom, Recorded, enter_view};
+use std::alloc::AllocError;
+use view_drawing::{DrawingRoom, enter_view};
 
 /// Enters a view with its blits and items, where it has an item.
 fn enter_where<D: Rasterizer>(
@@ -25,19 +24,19 @@ fn enter_where<D: Rasterizer>(
     frame: &Frame,
     view: u16,
     is_entered: bool,
-    blits: &[BlitItem],
-    items: &[Recorded<'_>],
+    blits: &[PlacedBlit],
+    items: &[OrderedItem],
     room: &mut DrawingRoom,
 ) -> Result<(), AllocError>
     requires there { view < view_count frame.now.views }
-    requires part { IsPart (frame_seen frame.now) view is_entered blits.now items.now }
+    requires part { IsPart frame.now view is_entered blits.now items.now }
     ensures { let f = frame_seen frame.now in
         OnOk result (stores_seen stores.new ≡ fold (enter_by_index f.views f.items f.ordered) (stores_seen stores.old) (filter (λ v. list_any (is_of_view v) f.items) (view ∷ []))) }
 {
     match frame.views.get(view) {
         Some(settings) => {
             if is_entered {
-                enter_view(rasterizer, stores, settings, blits, items, room)?;
+                enter_view(rasterizer, stores, settings, frame, blits, items, room)?;
             }
             Ok(())
         }
@@ -47,28 +46,28 @@ fn enter_where<D: Rasterizer>(
 
 /// A view's part of a frame's lists, and where the next view's part begins.
 #[derive(Clone, Copy)]
-struct Part<'a, 'x> {
+struct Part<'a> {
     is_entered: bool,
-    blits: &'a [BlitItem],
-    items: &'a [Recorded<'x>],
+    blits: &'a [PlacedBlit],
+    items: &'a [OrderedItem],
     copied: usize,
     drawn: usize,
 }
 
 /// The part of the view at a position, which begins where the part before it ends.
-fn next_part<'a, 'x>(
+fn next_part<'a>(
     frame: &Frame,
-    lists: &'a Lists<'x>,
+    lists: &'a Lists,
     view: u16,
     position: u16,
     drawn: usize,
     copied: usize,
-) -> Part<'a, 'x>
+) -> Part<'a>
     requires listed { AreListed frame.now lists.now }
     requires view { (view < view_count frame.now.views) × (position_of_view frame.now.views view ≡ position) }
     requires draws { RunsFrom position_of drawn position lists.now.ordered.items }
     requires blits { RunsFrom (λ p. p.position) copied position lists.now.blits.items }
-    ensures part { IsPart (frame_seen frame.now) view result.is_entered result.blits.now result.items.now }
+    ensures part { IsPart frame.now view result.is_entered result.blits.now result.items.now }
     ensures draws { RunsFrom position_of result.drawn (position + 1) lists.now.ordered.items }
     ensures blits { RunsFrom (λ p. p.position) result.copied (position + 1) lists.now.blits.items }
 {
@@ -76,8 +75,8 @@ fn next_part<'a, 'x>(
     let copied_end = end_of_blits(&lists.blits, copied, position);
     Part {
         is_entered: lists.entered[view as usize],
-        blits: &lists.copies[copied..copied_end],
-        items: &lists.items[drawn..drawn_end],
+        blits: &lists.blits[copied..copied_end],
+        items: &lists.ordered[drawn..drawn_end],
         copied: copied_end,
         drawn: drawn_end,
     }
@@ -87,7 +86,7 @@ fn enter_views<D: Rasterizer>(
     rasterizer: &mut D,
     stores: &mut RenderStores,
     frame: &Frame,
-    lists: &Lists<'_>,
+    lists: &Lists,
     room: &mut DrawingRoom,
 ) -> Result<(), AllocError>
     requires { AreListed frame.now lists.now }
@@ -115,16 +114,16 @@ fn enter_views<D: Rasterizer>(
     Ok(())
 }
 
-/// Draws each view that has an item, in the order of the views.
+/// Draws each view that has an item, in the order of the views. It fills the lists with those of the frame.
 pub(crate) fn draw_views<D: Rasterizer>(
-    alloc: Global,
     rasterizer: &mut D,
     stores: &mut RenderStores,
     frame: &Frame,
+    lists: &mut Lists,
     room: &mut DrawingRoom,
 ) -> Result<(), AllocError>
     ensures { let f = frame_seen frame.now in OnOk result (stores_seen stores.new ≡ fold (enter_by_index f.views f.items f.ordered) (stores_seen stores.old) (entered_by_index f)) }
 {
-    let lists = Lists::of_frame(alloc, frame)?;
-    enter_views(rasterizer, stores, frame, &lists, room)
+    lists.fill(frame)?;
+    enter_views(rasterizer, stores, frame, lists, room)
 }

@@ -1,5 +1,5 @@
 use Rattle.draw_encoder.specs.Seen.{numbers_of}
-use Rattle.render_core.proofs.OneRecording.{Counts}
+use Rattle.frame_record.proofs.OneRecording.{Counts}
 use Rattle.render_core.proofs.frame_tests.touches.Given as goal
 
 abbrev pub invariant-loop-view : goal.invariant-loop-view

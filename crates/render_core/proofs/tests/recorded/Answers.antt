@@ -5,7 +5,7 @@ use Rattle.draw_encoder.specs.declared.items.Item.{Item}
 use Rattle.draw_encoder.specs.declared.items.Recording.{Recording}
 use Rattle.frame_record.specs.Kept.{IsKept, IsCollectable}
 use Rattle.frame_record.specs.Seen.{entry_seen, recordings_seen}
-use Rattle.render_core.proofs.OneRecording.{IsAscending, collectable, kept}
+use Rattle.frame_record.proofs.OneRecording.{IsAscending, collectable, kept}
 use Rattle.render_core.proofs.tests.recorded.Goals as goal
 
 pub collect-requires : goal.collect-requires

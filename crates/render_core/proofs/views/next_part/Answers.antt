@@ -1,13 +1,10 @@
 use Rattle.std.proofs.Common.{◌≡◌, ◌-◌, ◌<◌, false, List, take, drop, length, slice_index_or, sym, subst, arith}
 use Rattle.std.proofs.lemmas.List.{get_or_read}
-use Rattle.draw_encoder.specs.declared.items.BlitItem.{BlitItem}
 use Rattle.frame_record.specs.declared.ordering.OrderedItem.{OrderedItem}
 use Rattle.frame_record.specs.declared.placing.PlacedBlit.{PlacedBlit}
 use Rattle.frame_record.specs.Ordered.{position_of}
-use Rattle.view_drawing.specs.declared.items.Recorded.{Recorded}
 use Rattle.render_core.specs.Lists.{IsPart}
 use Rattle.render_core.specs.Runs.{RunsFrom}
-use Rattle.render_core.specs.Seen.{frame_seen}
 use Rattle.render_core.proofs.Parts.{part_is}
 use Rattle.render_core.proofs.Runs.{NextRun, next_run}
 use Rattle.render_core.proofs.views.next_part.Goals as goal
@@ -34,9 +31,9 @@ returns c =
     let entered : c.index.result.now ≡ slice_index_or l.entered.items a.view false = get_or_read l.entered.items a.view c.index.result.now within c.index.ensures false in
     let part = part_is f l a.view a.position c.index.result.now a.drawn drawn.result a.copied copied.result c.requires.listed c.requires.view.0 c.requires.view.1 entered draws blits in
     record {
-      part = subst (λ (xs : List BlitItem). IsPart (frame_seen f) a.view c.index.result.now (take (copied.result - a.copied) (drop a.copied xs)) (take (drawn.result - a.drawn) (drop a.drawn c.deref-4.result.now)))
+      part = subst (λ (xs : List PlacedBlit). IsPart f a.view c.index.result.now (take (copied.result - a.copied) (drop a.copied xs)) (take (drawn.result - a.drawn) (drop a.drawn c.deref-4.result.now)))
           (sym c.deref-3.ensures.value)
-          (subst (λ (xs : List Recorded). IsPart (frame_seen f) a.view c.index.result.now (take (copied.result - a.copied) (drop a.copied l.copies.items)) (take (drawn.result - a.drawn) (drop a.drawn xs)))
+          (subst (λ (xs : List OrderedItem). IsPart f a.view c.index.result.now (take (copied.result - a.copied) (drop a.copied l.blits.items)) (take (drawn.result - a.drawn) (drop a.drawn xs)))
           (sym c.deref-4.ensures.value) part);
       draws = draws.next;
       blits = blits.next;
