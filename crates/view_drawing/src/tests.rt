@@ -1,5 +1,5 @@
 // Views whose pictures were worked out by hand.
-ghost use Rattle.std.specs.Prelude.{◌≡◌, ◌≤◌, length, IfOk};
+ghost use Rattle.std.specs.Prelude.{◌≡◌, ◌≤◌, ◌∷◌, ◌++◌, [], length, IfOk};
 ghost use Rattle.schedule_model.specs.Held.{Ascends};
 ghost use Rattle.draw_encoder.specs.Seen.{number_of, numbers_of};
 
@@ -112,13 +112,22 @@ fn framed(alloc: Global, items: Vec<Item>) -> Result<Frame, AllocError>
     ))
 }
 
+fn put(items: &mut Vec<Item>, item: Item) -> Result<(), AllocError>
+    ensures { IfOk result (λ _. items.new.items ≡ items.old.items ++ item ∷ []) }
+{
+    // The check asks that the types of an item's parts are seen where it is stored.
+    let _parts: Option<Parts> = None;
+    items.push(item)?;
+    Ok(())
+}
+
 // A frame of two items.
 fn two(alloc: Global, first: Item, second: Item) -> Result<Frame, AllocError>
     requires { (number_of first ≡ 0) × (number_of second ≡ 1) }
 {
     let mut items = Vec::new(alloc);
-    items.push(first)?;
-    items.push(second)?;
+    put(&mut items, first)?;
+    put(&mut items, second)?;
     framed(alloc, items)
 }
 

@@ -15,8 +15,8 @@ collect-requires c =
     let own : IsAscending r = subst (λ (is : List Item). IsAscending (record r { items = is })) (sym c.in_ok-own.ensures) (c.requires.few, c.requires.ascend) in
     subst IsCollectable (sym (c.deref.ensures.value ∙ items)) (collectable r own)
 
-pub new-requires : goal.new-requires
-new-requires c =
+pub new-requires-5 : goal.new-requires
+new-requires-5 c =
     let r = c.in_ok-own.own in
     let journal = c.in_ok-journal.journal.items in
     let items : c.push.new.self.items ≡ r ∷ [] = c.in_ok-push.ensures.items ∙ ap (λ (rs : List Recording). rs ++ r ∷ []) c.new-recordings.ensures.items in
