@@ -15,7 +15,7 @@ collect-requires c =
     let own : IsAscending r = subst (λ (is : List Item). IsAscending (record r { items = is })) (sym c.in_ok-own.ensures) (c.requires.few, c.requires.ascend) in
     subst IsCollectable (sym (c.deref.ensures.value ∙ items)) (collectable r own)
 
-pub new-requires-5 : goal.new-requires
+pub new-requires-5 : goal.new-requires-5
 new-requires-5 c =
     let r = c.in_ok-own.own in
     let journal = c.in_ok-journal.journal.items in
