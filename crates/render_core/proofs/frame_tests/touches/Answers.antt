@@ -1,6 +1,6 @@
 use Rattle.std.proofs.lemmas.List.{map-append}
 use Rattle.draw_encoder.specs.Seen.{number_of, numbers_of}
-use Rattle.render_core.proofs.OneRecording.{counts_more}
+use Rattle.frame_record.proofs.OneRecording.{counts_more}
 use Rattle.render_core.proofs.frame_tests.touches.Goals as goal
 
 pub loop-view-preserved : goal.loop-view-preserved
