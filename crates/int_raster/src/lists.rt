@@ -44,6 +44,16 @@ fn work_of(triangles: &[Setup], cut: &Rect) -> u64 {
     covered_by(triangles, cut).saturating_add(own)
 }
 
+/// Room for so many draws, or none where memory is wanting.
+fn room_for<'x>(alloc: Global, draws: usize) -> Vec<Listed<'x>>
+    ensures { result.items ≡ [] }
+{
+    match Vec::with_capacity(alloc, draws) {
+        Ok(room) => room,
+        Err(_) => Vec::new(alloc),
+    }
+}
+
 /// Draws with their triangles, in the order in which they are made.
 #[derive(Drop)]
 pub struct DrawList<'x> {
@@ -93,12 +103,13 @@ impl<'x> DrawList<'x> {
         }
     }
 
-    /// A list without draws, over the room of an earlier list. It takes no memory.
-    pub fn with_room(alloc: Global, room: DrawRoom) -> DrawList<'x>
+    /// A list without draws, over the room of an earlier list, and with room for so many draws, so that none of them takes memory for
+    /// itself. Where memory for all is wanting, each takes what it needs when it is pushed.
+    pub fn with_room(alloc: Global, room: DrawRoom, draws: usize) -> DrawList<'x>
         ensures { result ≡ [] }
     {
         DrawList {
-            draws: Vec::new(alloc),
+            draws: room_for(alloc, draws),
             triangles: room.triangles,
             work: 0,
         }

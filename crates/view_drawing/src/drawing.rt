@@ -38,7 +38,7 @@ fn draw_surface<D: Rasterizer>(
     ensures color { sides_seen surface.new.color ≡ sides_seen surface.old.color }
     ensures depth { option_map sides_seen surface.new.depth ≡ option_map sides_seen surface.old.depth }
 {
-    let mut list = DrawList::with_room(room.alloc, room.take_list());
+    let mut list = DrawList::with_room(room.alloc, room.take_list(), items.len());
     do_items(stage, buffers, frame, items, &mut list, room)?;
     rasterizer.draw(surface, &list);
     room.list = list.into_room();
