@@ -29,14 +29,14 @@ impl Rasterizer for SerialRasterizer {
     }
 }
 
-// The work, in pixels, that pays for one more thread: about 0.05 ms.
-const WORK_A_BAND: u64 = 65_536;
+// The work, in pixels, that pays for one more thread: about 0.1 to 0.2 ms.
+const WORK_A_BAND: u64 = 131_072;
 
 // More bands than this do not pay for their threads.
 const MOST_PAID: u64 = 8;
 
 /// Makes the draws in bands of whole rows, side by side, where their work is worth more threads than the one that calls: one
-/// band for each 65,536 pixels that the triangles cover by their areas, a triangle itself counting as 400 more, at most 8, and no
+/// band for each 131,072 pixels that the triangles cover by their areas, a triangle itself counting as 400 more, at most 8, and no
 /// more than there are processors, which are asked for once.
 #[derive(Drop)]
 pub struct BandRasterizer<'r, R> {
