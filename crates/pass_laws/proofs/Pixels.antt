@@ -93,7 +93,7 @@ each_apart f g kf kg e s = each_twice f g kf s ∙ (λ i. on_each_pixel (λ x y 
 -- changes under two tests that never both hold
 pub tested_apart : (a b : Bool) (f g : Pixel → Pixel) (p : Pixel) → (a && b) ≡ false
     → (if b then g (if a then f p else p) else (if a then f p else p)) ≡ (if a then f (if b then g p else p) else (if b then g p else p))
-tested_apart true true f g p e = absurd (both_ways true (sym e) refl)
+tested_apart true true f g p e = absurd (both_ways true e refl)
 tested_apart true false f g p e = refl
 tested_apart false b f g p e = refl
 

@@ -1,10 +1,10 @@
 -- A clear that may be made before a draw.
 use Rattle.std.proofs.Common.{◌≡◌, ◌⊎◌, inl, inr, ℕ, ◌+◌, Bool, true, false, List, [], ◌∷◌, Option, Some, None, refl, sym, ap, ◌∙◌, arith}
 use Rattle.std.specs.Prelude.{◌&&◌, ◌*◌, ◌/◌, ◌%◌, ◌^◌, not, if◌then◌else◌, fold, filter_map}
-use Rattle.gfx_model.specs.Words.{primitive_of, depth_test_of}
+use Rattle.gfx_model.specs.Words.{primitive_of, depth_test_of, writes_depth, on_stencil_fail, on_depth_fail, on_pass}
 use Rattle.gfx_model.specs.Vertex.{Color, VertexRange, IndexRange, triangles_of}
 use Rattle.gfx_model.specs.Raster.{Texels, Rect, contains, covers, fragment_at, passes_scissor, view_rect}
-use Rattle.gfx_model.specs.Pixel.{Pixel, Shaded, passes_stencil, passes_depth, step_with_depth, pixel_step}
+use Rattle.gfx_model.specs.Pixel.{Pixel, Shaded, passes_stencil, passes_depth, stencil_by, stored_color, step_with_depth, pixel_step}
 use Rattle.gfx_model.specs.Views.{View, Clear}
 use Rattle.gfx_model.specs.World.{Surface, Draw, Paint, Facing, painted, is_in_cut, covered_step, facing_step, after_facing, cleared, cleared_color, cleared_depth, cleared_word, clear_surface, on_each_pixel, placed_facing, draw_vertices}
 use Rattle.store_model.specs.Buffers.{Buffers}
@@ -28,7 +28,17 @@ either false p q a b = b
 
 deep_step : (color : Color) (depth stencil : ℕ) (shaded : Shaded) (state word : ℕ) → HasWord (step_with_depth color depth stencil shaded state word)
 deep_step color depth stencil shaded state word =
-    either (not (passes_stencil word stencil)) _ _ (_, refl) (either (not (passes_depth (depth_test_of state) shaded.depth depth)) _ _ (_, refl) (_, refl))
+    either (not (passes_stencil word stencil))
+    (record { color = color; depth = Some (depth + 2 ^ 24 * stencil_by word (on_stencil_fail word) stencil) })
+    (if not (passes_depth (depth_test_of state) shaded.depth depth)
+    then record { color = color; depth = Some (depth + 2 ^ 24 * stencil_by word (on_depth_fail word) stencil) }
+    else record { color = stored_color state shaded.color color; depth = Some ((if writes_depth state then shaded.depth else depth) + 2 ^ 24 * stencil_by word (on_pass word) stencil) })
+    (depth + 2 ^ 24 * stencil_by word (on_stencil_fail word) stencil, refl)
+    (either (not (passes_depth (depth_test_of state) shaded.depth depth))
+    (record { color = color; depth = Some (depth + 2 ^ 24 * stencil_by word (on_depth_fail word) stencil) })
+    (record { color = stored_color state shaded.color color; depth = Some ((if writes_depth state then shaded.depth else depth) + 2 ^ 24 * stencil_by word (on_pass word) stencil) })
+    (depth + 2 ^ 24 * stencil_by word (on_depth_fail word) stencil, refl)
+    ((if writes_depth state then shaded.depth else depth) + 2 ^ 24 * stencil_by word (on_pass word) stencil, refl))
 
 step_keeps : (p : Pixel) (shaded : Shaded) (state word : ℕ) (o : Option Texels) → Fits o p → Fits o (pixel_step p shaded state word)
 step_keeps p shaded state word None f = ap (λ z. (pixel_step (record { color = p.color; depth = z }) shaded state word).depth) f

@@ -2,6 +2,7 @@
 use Rattle.std.proofs.Common.{◌≡◌, ◌<◌, ◌≤◌, ◌⊎◌, inl, inr, ℕ, zero, suc, ◌+◌, ◌-◌, Bool, true, false, List, [], ◌∷◌, ◌++◌, map, take, drop, length, get_or, Option, Some, None, refl, sym, ap, subst, ◌∙◌, arith}
 use Rattle.std.specs.Prelude.{fold, flat_map}
 use Rattle.std.specs.List.{AllByRecursion, slice_get}
+use Rattle.std.proofs.lemmas.Option.{none-some}
 use Rattle.std.proofs.lemmas.List.{take_more, map-append, append-nil, append_assoc}
 use Rattle.std.proofs.lemmas.List.Sums.{fold-append}
 use Rattle.gfx_model.specs.Words.{Handle, ProgramKind}
@@ -93,7 +94,7 @@ get_behind [] ys i = refl
 get_behind (x ∷ xs) ys i = get_behind xs ys i
 
 get_before : {A : Type 0} (xs ys : List A) (i : ℕ) (x : A) → slice_get xs i ≡ Some x → slice_get (xs ++ ys) i ≡ Some x
-get_before [] ys i x e = cc e
+get_before [] ys i x e = absurd (none-some x e)
 get_before (y ∷ xs) ys zero x e = e
 get_before (y ∷ xs) ys (suc i) x e = get_before xs ys i x e
 
@@ -102,7 +103,7 @@ take_behind [] ys i = refl
 take_behind (x ∷ xs) ys i = ap (λ zs. x ∷ zs) (take_behind xs ys i)
 
 take_before : {A : Type 0} (xs ys : List A) (i : ℕ) (x : A) → slice_get xs i ≡ Some x → take (i + 1) (xs ++ ys) ≡ take (i + 1) xs
-take_before [] ys i x e = cc e
+take_before [] ys i x e = absurd (none-some x e)
 take_before (y ∷ xs) ys zero x e = refl
 take_before (y ∷ xs) ys (suc i) x e = ap (λ zs. y ∷ zs) (take_before xs ys i x e)
 
