@@ -19,7 +19,7 @@ clear_keeps : (c : Clear) (p : Pixel) (o : Option Texels) → Fits o p → Fits 
 clear_keeps c p None f = ap (cleared_depth c) f
 clear_keeps c p (Some d) f = (cleared_word c f.0, ap (cleared_depth c) f.1)
 
-HasWord : Pixel → Type 0
+abbrev HasWord : Pixel → Type 0
 HasWord p = (w : ℕ) × (p.depth ≡ Some w)
 
 either : (b : Bool) (p q : Pixel) → HasWord p → HasWord q → HasWord (if b then p else q)
@@ -55,7 +55,7 @@ facings_keep state paint x y p (t ∷ ts) o f =
 
 -- ---- a clear and a draw
 
-cut_apart : (a b c d : Bool) → (a && d) ≡ false → ((a && (b && c)) && d) ≡ false
+cut_apart : (a b c d : Bool) → (a && d) ≡ false → (((a && b) && c) && d) ≡ false
 cut_apart true true true d e = e
 cut_apart true true false d e = refl
 cut_apart true false c d e = refl

@@ -15,10 +15,10 @@ record IsIn (r : Rect) (x y : ℕ) : Type 0 where
 
 is_in : (r : Rect) (x y : ℕ) → contains r x y ≡ true → IsIn r x y
 is_in r x y e =
-    let a = and_parts (nat_le r.x x) (nat_lt x (r.x + r.w) && nat_le r.y y && nat_lt y (r.y + r.h)) e in
-    let b = and_parts (nat_lt x (r.x + r.w)) (nat_le r.y y && nat_lt y (r.y + r.h)) a.1 in
-    let c = and_parts (nat_le r.y y) (nat_lt y (r.y + r.h)) b.1 in
-    record { right = leb-true r.x x a.0; left = ltb-true x (r.x + r.w) b.0; below = leb-true r.y y c.0; above = ltb-true y (r.y + r.h) c.1 }
+    let a = and_parts (nat_le r.x x && nat_lt x (r.x + r.w) && nat_le r.y y) (nat_lt y (r.y + r.h)) e in
+    let b = and_parts (nat_le r.x x && nat_lt x (r.x + r.w)) (nat_le r.y y) a.0 in
+    let c = and_parts (nat_le r.x x) (nat_lt x (r.x + r.w)) b.0 in
+    record { right = leb-true r.x x c.0; left = ltb-true x (r.x + r.w) c.1; below = leb-true r.y y b.1; above = ltb-true y (r.y + r.h) a.1 }
 
 -- no pixel is in two rectangles that are beside each other
 not_both : (a b : Rect) (x y : ℕ) → AreBeside a b → IsIn a x y → IsIn b x y → ⊥

@@ -18,6 +18,7 @@ use int_raster::Rasterizer;
 use pass_laws::pass_law;
 use render_stores::RenderStores;
 use std::alloc::AllocError;
+use view_table::View;
 
 // A view is tested against each other of its pass.
 const MOST_VIEWS: usize = 64;
@@ -48,30 +49,30 @@ fn enter_pass<D: Rasterizer>(
     draw_listed(rasterizer, stores, target, views, room)
 }
 
-/// Whether a view may be drawn at one go with those of a pass before it.
-fn joins(target: Option<Handle>, before: &[ViewPart<'_>], next: &ViewPart<'_>) -> bool
+/// Whether a view may be drawn at one go with those of a pass before it, which are of the first view's target.
+fn joins(first: &View, before: &[ViewPart<'_>], next: &ViewPart<'_>) -> bool
     ensures none { IsTrue result → HasNoBlits (part_seen next.now) }
-    ensures same { IsTrue result → (view_seen next.now.view.now).target ≡ target }
+    ensures same { IsTrue result → (view_seen next.now.view.now).target ≡ (view_seen first.now).target }
     ensures before { IsTrue result → AllByRecursion (λ t. ClearsBefore t.view (view_seen next.now.view.now)) (map turn_seen before.now) }
 {
     if !next.blits.is_empty() {
         return false;
     }
-    if next.view.target != target {
+    if next.view.target != first.target {
         return false;
     }
     clears_before(before, next.view)
 }
 
-/// How many of the views, the first of which has no blits, are drawn at one go.
-fn length_of_pass(target: Option<Handle>, views: &[ViewPart<'_>]) -> usize
+/// How many of the views are drawn at one go, the first of which is given; none, where that has blits.
+fn length_of_pass(first: &View, views: &[ViewPart<'_>]) -> usize
     requires plain { AllByRecursion IsPlain (map part_seen views.now) }
     ensures length { result ≤ length views.now }
-    ensures pass { IsPass target (map turn_seen (take result views.now)) }
+    ensures pass { IsPass (view_seen first.now).target (map turn_seen (take result views.now)) }
     ensures none { AllByRecursion HasNoBlits (map part_seen (take result views.now)) }
 {
     for count in 0..views.len().min(MOST_VIEWS) {
-        if !joins(target, &views[..count], &views[count]) {
+        if !joins(first, &views[..count], &views[count]) {
             return count;
         }
     }
@@ -92,7 +93,7 @@ fn enter_first<D: Rasterizer>(
     ensures entered { IfOk result (λ n. stores_seen stores.new ≡ fold after_part (stores_seen stores.old) (map part_seen (take n views.now))) }
 {
     let first = views[0];
-    let count = length_of_pass(first.view.target, views);
+    let count = length_of_pass(first.view, views);
     if count == 0 {
         enter_view(
             rasterizer,
