@@ -34,12 +34,18 @@ pub take_one : {X : Type 0} (xs : List X) (x : X) → 0 < length xs → x ≡ ge
 take_one [] x within is = absurd (omega (arith, within))
 take_one (y ∷ xs) x within is = ap (λ z. z ∷ []) (sym is)
 
+abbrev nothing : {X : Type 0} → List X
+nothing = []
+
+take_nil : {X : Type 0} (n : ℕ) → take n (nothing {X = X}) ≡ nothing {X = X}
+take_nil zero = refl
+take_nil (suc n) = refl
+
 -- a part and the part behind it
 take_then : {X : Type 0} (n m : ℕ) (xs : List X) → take (n + m) xs ≡ take n xs ++ take m (drop n xs)
-take_then zero m xs = refl
-take_then (suc n) zero [] = refl
-take_then (suc n) (suc m) [] = refl
-take_then (suc n) m (x ∷ xs) = ap (λ ys. x ∷ ys) (take_then n m xs)
+take_then zero m xs = let none : 0 + m ≡ m = omega arith in ap (λ k. take k xs) none
+take_then (suc n) m [] = take_nil (suc n + m) ∙ sym (take_nil m)
+take_then (suc n) m (x ∷ xs) = let one : suc n + m ≡ suc (n + m) = omega arith in ap (λ k. take k (x ∷ xs)) one ∙ ap (λ ys. x ∷ ys) (take_then n m xs)
 
 pub all_dropped : {X Y : Type 0} (P : Y → Type 0) (f : X → Y) (n : ℕ) (xs : List X) → AllByRecursion P (map f xs) → AllByRecursion P (map f (drop n xs))
 all_dropped P f zero xs a = a
@@ -90,8 +96,8 @@ items_all [] us = refl
 items_all (t ∷ ts) us = ap (λ xs. t.items ++ xs) (items_all ts us) ∙ sym (append_assoc t.items (all_items ts) (all_items us))
 
 get_behind : {A : Type 0} (xs ys : List A) (i : ℕ) → slice_get (xs ++ ys) (length xs + i) ≡ slice_get ys i
-get_behind [] ys i = refl
-get_behind (x ∷ xs) ys i = get_behind xs ys i
+get_behind [] ys i = let none : 0 + i ≡ i = omega arith in ap (slice_get ys) none
+get_behind (x ∷ xs) ys i = let one : suc (length xs) + i ≡ suc (length xs + i) = omega arith in ap (slice_get (x ∷ (xs ++ ys))) one ∙ get_behind xs ys i
 
 get_before : {A : Type 0} (xs ys : List A) (i : ℕ) (x : A) → slice_get xs i ≡ Some x → slice_get (xs ++ ys) i ≡ Some x
 get_before [] ys i x e = absurd (none-some x e)
@@ -99,16 +105,18 @@ get_before (y ∷ xs) ys zero x e = e
 get_before (y ∷ xs) ys (suc i) x e = get_before xs ys i x e
 
 take_behind : {A : Type 0} (xs ys : List A) (i : ℕ) → take (length xs + i) (xs ++ ys) ≡ xs ++ take i ys
-take_behind [] ys i = refl
-take_behind (x ∷ xs) ys i = ap (λ zs. x ∷ zs) (take_behind xs ys i)
+take_behind [] ys i = let none : 0 + i ≡ i = omega arith in ap (λ k. take k ys) none
+take_behind (x ∷ xs) ys i = let one : suc (length xs) + i ≡ suc (length xs + i) = omega arith in ap (λ k. take k (x ∷ (xs ++ ys))) one ∙ ap (λ zs. x ∷ zs) (take_behind xs ys i)
 
 take_before : {A : Type 0} (xs ys : List A) (i : ℕ) (x : A) → slice_get xs i ≡ Some x → take (i + 1) (xs ++ ys) ≡ take (i + 1) xs
 take_before [] ys i x e = absurd (none-some x e)
 take_before (y ∷ xs) ys zero x e = refl
-take_before (y ∷ xs) ys (suc i) x e = ap (λ zs. y ∷ zs) (take_before xs ys i x e)
+take_before (y ∷ xs) ys (suc i) x e =
+    let one : suc i + 1 ≡ suc (i + 1) = omega arith in
+    ap (λ k. take k (y ∷ (xs ++ ys))) one ∙ ap (λ zs. y ∷ zs) (take_before xs ys i x e) ∙ sym (ap (λ k. take k (y ∷ xs)) one)
 
 -- a list of draws and touches that stopped, between others of which those before are done
-stops_between : (programs : List (Option ProgramKind)) (xs ys zs : List Item) (old mid new : Buffers) → mid ≡ fold values_after old xs → StopsAtDraw programs ys mid new → StopsAtDraw programs (xs ++ ys ++ zs) old new
+stops_between : (programs : List (Option ProgramKind)) (xs ys zs : List Item) (old mid new : Buffers) → mid ≡ fold values_after old xs → StopsAtDraw programs ys mid new → StopsAtDraw programs (xs ++ (ys ++ zs)) old new
 stops_between programs xs ys zs old mid new before stops = record {
   before = length xs + stops.before;
   item = stops.item;
@@ -117,7 +125,7 @@ stops_between programs xs ys zs old mid new before stops = record {
   given =
       stops.given ∙ ap (λ b. fold values_after b (take (stops.before + 1) ys)) before
       ∙ sym (fold-append values_after old xs (take (stops.before + 1) ys))
-      ∙ ap (fold values_after old) (ap (λ ws. xs ++ ws) (sym (take_before ys zs stops.before stops.item stops.there)) ∙ sym (take_behind xs (ys ++ zs) (stops.before + 1)) ∙ ap (λ n. take n (xs ++ ys ++ zs)) on);
+      ∙ ap (fold values_after old) (ap (λ ws. xs ++ ws) (sym (take_before ys zs stops.before stops.item stops.there)) ∙ sym (take_behind xs (ys ++ zs) (stops.before + 1)) ∙ ap (λ n. take n (xs ++ (ys ++ zs))) on);
 }
   where
     on : length xs + (stops.before + 1) ≡ length xs + stops.before + 1
@@ -132,9 +140,11 @@ stops_at_turn programs turn xs i x old mid new within is before stops =
     split : {A : Type 0} (ys : List A) (j : ℕ) (y : A) → j < length ys → y ≡ get_or ys j y → ys ≡ take j ys ++ y ∷ drop (j + 1) ys
     split [] j y lt e = absurd (omega (arith, lt))
     split (z ∷ ys) zero y lt e = ap (λ w. w ∷ ys) (sym e)
-    split (z ∷ ys) (suc j) y lt e = ap (λ ws. z ∷ ws) (split ys j y (omega (arith, lt)) e)
+    split (z ∷ ys) (suc j) y lt e =
+        let one : suc j + 1 ≡ suc (j + 1) = omega arith in
+        ap (λ ws. z ∷ ws) (split ys j y (omega (arith, lt)) e) ∙ ap (λ k. z ∷ (take j ys ++ y ∷ drop k (z ∷ ys))) (sym one)
 
-    parts : all_items (map turn xs) ≡ all_items (map turn (take i xs)) ++ (turn x).items ++ all_items (map turn (drop (i + 1) xs))
+    parts : all_items (map turn xs) ≡ all_items (map turn (take i xs)) ++ ((turn x).items ++ all_items (map turn (drop (i + 1) xs)))
     parts =
         ap (λ ys. all_items (map turn ys)) (split xs i x within is)
         ∙ ap all_items (map-append turn (take i xs) (x ∷ drop (i + 1) xs))

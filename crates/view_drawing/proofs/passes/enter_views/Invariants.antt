@@ -1,8 +1,11 @@
-use Rattle.std.proofs.Common.{◌≡◌, ◌≤◌, length, map, take}
+use Rattle.std.proofs.Common.{◌≡◌, ◌≤◌, ◌-◌, length, map, take}
 use Rattle.std.specs.Prelude.{fold}
 use Rattle.render_stores.specs.Seen.{stores_seen}
 use Rattle.view_drawing.specs.Passes.{after_part, part_seen}
 use Rattle.view_drawing.proofs.passes.enter_views.Given as goal
+
+abbrev pub decreases-loop-at : goal.decreases-loop-at
+decreases-loop-at g l = length l.views - l.at
 
 abbrev pub invariant-loop-at : goal.invariant-loop-at
 invariant-loop-at g l = record {
