@@ -158,8 +158,9 @@ fn views_more_than_a_pass_has(rt: HostRuntime) -> Result<(), Fail> {
 // The things of `things`, a texture of two texels with a frame buffer, a program that samples, and a texture for blits.
 fn with_target(alloc: Global) -> Result<Vec<Command>, Fail> {
     let mut all = Vec::new(alloc);
-    for command in things(0)? {
-        all.push(command)?;
+    let first = things(0)?;
+    for command in first.as_slice() {
+        all.push(*command)?;
     }
     for index in 0..2u16 {
         all.push(Command::CreateTexture {
@@ -230,8 +231,8 @@ fn with_blit(alloc: Global) -> Result<Vec<Item>, Fail>
 {
     // The check asks that the types of an item's parts are seen where it is stored.
     let _parts: Option<Parts> = None;
-    let first = draw(0, COLORS, 0)?;
-    let mut last = draw(2, COLORS, 0)?;
+    let (mut first, mut last) = (draw(0, COLORS, 0)?, draw(2, COLORS, 0)?);
+    first.number = 0;
     last.number = 2;
     last.program = Handle::of(Kind::Program, 1, 3, Info::Plain);
     last.textures[0] = Some(Handle::of(Kind::Texture, 1, 4, Info::Plain));
