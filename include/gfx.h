@@ -75,6 +75,9 @@ enum { GFX_DISCARD_BINDINGS = 1, GFX_DISCARD_INDEX_BUFFER = 2, GFX_DISCARD_STATE
 /* What is told of a frame: its number, how many bytes of picture were written, and the sum of the numbers that its encoders ended with. */
 typedef struct gfx_framed { uint32_t number; size_t picture; uint64_t dropped; } gfx_framed;
 
+/* How many bytes the buffer for a picture of these sides has at least. */
+#define GFX_PICTURE_BYTES(width, height) (3 * (size_t)(width) * (size_t)(height) + 17)
+
 /* ---- a context; each of its calls by one thread at a time */
 
 /* Makes a context with pictures of these sides, 1 to 2048, and a back buffer of zeros with depth and stencil, for a handle that is null.
@@ -96,7 +99,7 @@ gfx_status gfx_begin(gfx_context *context, gfx_encoder *encoder, uint32_t items,
 gfx_status gfx_collect(gfx_context *context, uint32_t *off);
 
 /* Ends the frame, renders it, and writes its picture as a P6 text: "P6\nWIDTH HEIGHT\n255\n" and three bytes a pixel. The buffer has at
- * least 3 * width * height + 17 bytes. GFX_NO_OBJECT, GFX_ENDED, GFX_TOO_SMALL; GFX_TRY_AGAIN where an encoder has not come back, and then
+ * least GFX_PICTURE_BYTES(width, height) bytes. GFX_NO_OBJECT, GFX_ENDED, GFX_TOO_SMALL; GFX_TRY_AGAIN where an encoder has not come back, and then
  * what has come is kept and nothing is lost; GFX_FRAMES_SPENT. After GFX_OUT_OF_MEMORY the context is ended. */
 gfx_status gfx_frame(gfx_context *context, uint8_t *picture, size_t picture_length, gfx_framed *framed);
 
