@@ -7,12 +7,14 @@
  * next, where the two are ordered by a lock, a thread's start or join, or a seq_cst atomic.
  *
  * Things. Layouts, buffers, textures, frame buffers, programs and uniforms are named by words. 0 names none. Any word may be
- * passed: one that names nothing that was made by this context, or what is gone, is refused by GFX_STALE.
+ * passed: one that names nothing that was made by this context, or what is gone, is refused by GFX_STALE. A word does not tell of which
+ * context it is: one of another context is a number like any other, and may name a thing of this one.
  *
  * Numbers. Positions, transforms and vec4 values are in units of 1/65536. Depths are 0 to 16777215. There are 512 views.
  *
  * Statuses. Each call answers 0 or why it did nothing. After any answer but 0 all is as it was, except where a call says otherwise. Where
- * several reasons hold, the first in the order of the call's list is answered; GFX_OUT_OF_MEMORY may come before others.
+ * several reasons hold, the first in the order of the call's list is answered. GFX_OUT_OF_MEMORY comes from the calls alone that list it; it is
+ * the last, but from gfx_init, gfx_begin and gfx_create_texture it may come before others.
  */
 #ifndef GFX_H
 #define GFX_H
@@ -220,7 +222,8 @@ gfx_status gfx_touch(gfx_encoder *encoder, uint16_t view);
 gfx_status gfx_blit(gfx_encoder *encoder, uint16_t view, gfx_thing dst, uint16_t dx, uint16_t dy, gfx_thing src, uint16_t sx, uint16_t sy, uint16_t w, uint16_t h);
 
 /* Ends an encoder with a number of the caller's own. Its handle is null from then on, and what it recorded waits to be collected.
- * GFX_TRY_AGAIN where another waits in its place; the encoder is as it was. */
+ * GFX_TRY_AGAIN where another waits in its place; the encoder is as it was. An encoder of a frame has its place alone, so this is not to be
+ * expected. */
 gfx_status gfx_end(gfx_encoder *encoder, uint32_t dropped);
 
 /* Gives an encoder up with what it recorded. Its handle is null from then on. Its number stays off: the frame cannot end any more. */
