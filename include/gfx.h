@@ -10,7 +10,7 @@
  * passed: one that names nothing that was made by this context, or what is gone, is refused by GFX_STALE. A word does not tell of which
  * context it is: one of another context is a number like any other, and may name a thing of this one.
  *
- * Numbers. Positions, transforms and vec4 values are in units of 1/65536. Depths are 0 to 16777215. There are 512 views.
+ * Numbers. Positions, transforms and vec4 values are in units of 1/65536. Depths of pixels are 0 to 16777215. There are 512 views.
  *
  * Statuses. Each call answers 0 or why it did nothing. After any answer but 0 all is as it was, except where a call says otherwise. Where
  * several reasons hold, the first in the order of the call's list is answered. GFX_OUT_OF_MEMORY comes from the calls alone that list it; it is
@@ -86,7 +86,7 @@ typedef struct gfx_framed { uint32_t number; size_t picture; uint64_t dropped; }
  * GFX_TAKEN, GFX_BAD_SIZE, GFX_OUT_OF_MEMORY. */
 gfx_status gfx_init(gfx_context *context, uint16_t width, uint16_t height);
 
-/* Gives a context up with all that was made. Encoders that are off may still be ended or dropped. GFX_NO_OBJECT. */
+/* Gives a context up with all that was made. Encoders that are off may still record, and be ended or dropped. GFX_NO_OBJECT. */
 gfx_status gfx_shutdown(gfx_context *context);
 
 /* Tells the number of the frame that is recorded, from 0. GFX_NO_OBJECT. */
@@ -211,7 +211,8 @@ gfx_status gfx_set_texture(gfx_encoder *encoder, uint8_t stage, gfx_thing textur
 gfx_status gfx_set_vec4(gfx_encoder *encoder, gfx_thing uniform, int32_t x, int32_t y, int32_t z, int32_t w);
 gfx_status gfx_set_int(gfx_encoder *encoder, gfx_thing uniform, int32_t value);
 
-/* Puts down a draw with the current state and the uniform values, and resets the parts that `discard` names (GFX_DISCARD_BINDINGS ..).
+/* Puts down a draw with the current state and the uniform values, and resets the parts that `discard` names (GFX_DISCARD_BINDINGS .., or 255
+ * for all). `depth` is any number, which orders the draws of a view by its mode; it has nothing to do with positions.
  * GFX_BAD_VIEW, GFX_WRONG_KIND, GFX_STALE, GFX_ROOM_FULL. */
 gfx_status gfx_submit(gfx_encoder *encoder, uint16_t view, gfx_thing program, uint32_t depth, uint8_t discard);
 
