@@ -1,20 +1,23 @@
-/* What a touch and a submit cost from C, by one thread: 8,000 calls of each kind in a frame, the least time of some rounds. The calls are
+/* What a touch and a submit cost from C, by one thread: so many calls of one kind in a frame, the least time of some rounds. The calls are
  * those of tools/bench/layers/encoders.txt, and so are the lines that are written: what, and nanoseconds. `submit` keeps all that was set,
- * `reset` sets all back, `draw` sets a uniform and vertices before.
+ * `reset` sets all back, `draw` sets a uniform and vertices before. The heap gives no memory back to the system meanwhile: fresh pages
+ * and records that have left the caches cost more than the calls, and would be measured in their place.
  *
- * usage: cost [ROUNDS] */
+ * usage: cost [ROUNDS [CALLS]]    CALLS at most 8,191 */
 #include "gfx.h"
 
 #include <inttypes.h>
+#include <malloc.h>
 #include <stdio.h>
 #include <stdlib.h>
 #include <time.h>
 
-enum { CALLS = 8000, KINDS = 4 };
+enum { KINDS = 4 };
 
 static gfx_context context;
 static gfx_encoder encoder;
 static gfx_thing layout, corners, color, program;
+static uint32_t calls;
 
 static void must(gfx_status status, const char *call) {
     if (status != GFX_DONE) {
@@ -33,19 +36,19 @@ static uint64_t now(void) {
 /* Each answers how many calls were refused. */
 static uint32_t touches(void) {
     uint32_t refused = 0;
-    for (uint32_t i = 0; i < CALLS; i++) refused += gfx_touch(&encoder, 0) != GFX_DONE;
+    for (uint32_t i = 0; i < calls; i++) refused += gfx_touch(&encoder, 0) != GFX_DONE;
     return refused;
 }
 
 static uint32_t submits(uint8_t discard) {
     uint32_t refused = 0;
-    for (uint32_t depth = 0; depth < CALLS; depth++) refused += gfx_submit(&encoder, 0, program, depth, discard) != GFX_DONE;
+    for (uint32_t depth = 0; depth < calls; depth++) refused += gfx_submit(&encoder, 0, program, depth, discard) != GFX_DONE;
     return refused;
 }
 
 static uint32_t draws(void) {
     uint32_t refused = 0;
-    for (uint32_t depth = 0; depth < CALLS; depth++) {
+    for (uint32_t depth = 0; depth < calls; depth++) {
         refused += gfx_set_vec4(&encoder, color, (int32_t)depth, 0, 0, 65536) != GFX_DONE;
         refused += gfx_set_vertices(&encoder, corners, 0, 3) != GFX_DONE;
         refused += gfx_submit(&encoder, 0, program, depth, 255) != GFX_DONE;
@@ -67,7 +70,10 @@ int main(int argc, char **argv) {
     static const uint8_t bytes[24];
     uint8_t picture[GFX_PICTURE_BYTES(1, 1)];
     uint64_t least[KINDS] = {UINT64_MAX, UINT64_MAX, UINT64_MAX, UINT64_MAX};
-    long rounds = argc > 1 ? strtol(argv[1], 0, 10) : 12;
+    long rounds = argc > 1 ? strtol(argv[1], 0, 10) : 300;
+    calls = argc > 2 ? (uint32_t)strtol(argv[2], 0, 10) : 500;
+    mallopt(M_MMAP_THRESHOLD, 1 << 30);
+    mallopt(M_TRIM_THRESHOLD, INT32_MAX);
     gfx_part corner = {GFX_POSITION, GFX_FIXED, 2};
     MUST(gfx_init(&context, 1, 1));
     MUST(gfx_create_layout(&context, &corner, 1, &layout));
@@ -88,7 +94,7 @@ int main(int argc, char **argv) {
         }
     }
     MUST(gfx_shutdown(&context));
-    printf("calls %d\n", CALLS);
+    printf("calls %" PRIu32 "\n", calls);
     for (int kind = 0; kind < KINDS; kind++) printf("%s %" PRIu64 "\n", NAMES[kind], least[kind]);
     return 0;
 }
