@@ -1,5 +1,6 @@
 mod Counts
 mod EndedFrames
+mod EnteredParts
 mod OneWay
 mod Parts
 mod Pieces

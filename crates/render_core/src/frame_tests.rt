@@ -19,7 +19,7 @@ use view_table::ViewTable;
 
 // A layout of two numbers, a vertex buffer of a payload, and a program that paints white, for it finds no uniform. The payload 0 is a
 // triangle round the whole picture, and there are three payloads.
-fn things(payload: u32) -> Result<[Command; 3], Fail> {
+pub(crate) fn things(payload: u32) -> Result<[Command; 3], Fail> {
     Ok([
         Command::CreateLayout {
             index: 0,
@@ -35,7 +35,7 @@ fn things(payload: u32) -> Result<[Command; 3], Fail> {
 }
 
 // A draw of the vertex buffer's triangle in a view, with a state and a stencil word.
-fn draw(view: u16, state: u64, stencil: u32) -> Result<DrawItem, Fail> {
+pub(crate) fn draw(view: u16, state: u64, stencil: u32) -> Result<DrawItem, Fail> {
     let state = StateWord::read(state).map_err(|_| "state")?;
     let stencil = StencilWord::read(stencil).map_err(|_| "stencil")?;
     Ok(DrawItem {
@@ -66,7 +66,7 @@ fn draw(view: u16, state: u64, stencil: u32) -> Result<DrawItem, Fail> {
 }
 
 // The colours are written, without tests.
-const COLORS: u64 = 15;
+pub(crate) const COLORS: u64 = 15;
 
 fn drawn(
     alloc: Global,

@@ -18,6 +18,8 @@ pub use renderer::Renderer;
 #[cfg(test)]
 mod frame_tests;
 #[cfg(test)]
+mod pass_tests;
+#[cfg(test)]
 mod stray_tests;
 #[cfg(test)]
 mod tests;

@@ -67,6 +67,7 @@ impl Canvas {
     {
         execute_all(self.alloc, &mut self.stores, &frame.payloads, &frame.pre)?;
         draw_views(
+            self.alloc,
             rasterizer,
             &mut self.stores,
             frame,

@@ -1,12 +1,13 @@
 // Draws a frame's views in their order.
-ghost use Rattle.std.specs.Prelude.{◌≡◌, ◌<◌, ◌+◌, [], ◌∷◌, fold, filter, OnOk};
-ghost use Rattle.std.specs.List.{list_any};
+ghost use Rattle.std.specs.Prelude.{◌≡◌, ◌<◌, ◌+◌, [], ◌∷◌, fold, filter, map, IfOk, OnOk};
+ghost use Rattle.std.specs.List.{list_any, AllByRecursion};
 ghost use Rattle.gfx_model.specs.Views.{view_count, position_of_view};
 ghost use Rattle.gfx_model.specs.World.{is_of_view};
 ghost use Rattle.store_laws.specs.ByIndex.{enter_by_index, entered_by_index};
 ghost use Rattle.frame_record.specs.Ordered.{position_of};
 ghost use Rattle.render_stores.specs.Seen.{stores_seen};
-ghost use Rattle.render_core.specs.Lists.{AreListed, IsPart};
+ghost use Rattle.view_drawing.specs.Passes.{part_seen, IsPlain};
+ghost use Rattle.render_core.specs.Lists.{AreListed, IsPart, EntersMore};
 ghost use Rattle.render_core.specs.Runs.{RunsFrom};
 ghost use Rattle.render_core.specs.Seen.{frame_seen};
 
@@ -14,29 +15,33 @@ use crate::lists::Lists;
 use frame_record::{Frame, OrderedItem, PlacedBlit, end_of_blits, end_of_run};
 use int_raster::Rasterizer;
 use render_stores::RenderStores;
-use std::alloc::AllocError;
-use view_drawing::{DrawingRoom, enter_view};
+use std::alloc::{AllocError, Global};
+use view_drawing::{DrawingRoom, ViewPart, enter_views};
 
-/// Enters a view with its blits and items, where it has an item.
-fn enter_where<D: Rasterizer>(
-    rasterizer: &mut D,
-    stores: &mut RenderStores,
-    frame: &Frame,
+/// Puts a view with its blits and items behind the others, where it has an item.
+fn put_where<'a>(
+    parts: &mut Vec<ViewPart<'a>>,
+    frame: &'a Frame,
     view: u16,
     is_entered: bool,
-    blits: &[PlacedBlit],
-    items: &[OrderedItem],
-    room: &mut DrawingRoom,
+    blits: &'a [PlacedBlit],
+    items: &'a [OrderedItem],
 ) -> Result<(), AllocError>
     requires there { view < view_count frame.now.views }
     requires part { IsPart frame.now view is_entered blits.now items.now }
-    ensures { let f = frame_seen frame.now in
-        OnOk result (stores_seen stores.new ≡ fold (enter_by_index f.views f.items f.ordered) (stores_seen stores.old) (filter (λ v. list_any (is_of_view v) f.items) (view ∷ []))) }
+    ensures entered { let f = frame_seen frame.now in
+        OnOk result (EntersMore f.views f.items f.ordered (map part_seen parts.old.items) (filter (λ v. list_any (is_of_view v) f.items) (view ∷ [])) (map part_seen parts.new.items)) }
+    ensures plain { OnOk result (AllByRecursion IsPlain (map part_seen parts.old.items) → AllByRecursion IsPlain (map part_seen parts.new.items)) }
 {
     match frame.views.get(view) {
         Some(settings) => {
             if is_entered {
-                enter_view(rasterizer, stores, settings, frame, blits, items, room)?;
+                parts.push(ViewPart {
+                    view: settings,
+                    frame,
+                    blits,
+                    items,
+                })?;
             }
             Ok(())
         }
@@ -82,40 +87,40 @@ fn next_part<'a>(
     }
 }
 
-fn enter_views<D: Rasterizer>(
-    rasterizer: &mut D,
-    stores: &mut RenderStores,
-    frame: &Frame,
-    lists: &Lists,
-    room: &mut DrawingRoom,
-) -> Result<(), AllocError>
+/// The views that have an item, in the order of the views, with their parts of the frame's lists.
+fn parts_of<'a>(
+    alloc: Global,
+    frame: &'a Frame,
+    lists: &'a Lists,
+) -> Result<Vec<ViewPart<'a>>, AllocError>
     requires { AreListed frame.now lists.now }
-    ensures { let f = frame_seen frame.now in OnOk result (stores_seen stores.new ≡ fold (enter_by_index f.views f.items f.ordered) (stores_seen stores.old) (entered_by_index f)) }
+    ensures entered { let f = frame_seen frame.now in IfOk result (λ parts. EntersMore f.views f.items f.ordered [] (entered_by_index f) (map part_seen parts.items)) }
+    ensures plain { IfOk result (λ parts. AllByRecursion IsPlain (map part_seen parts.items)) }
 {
     frame.views.tell_facts();
+    let mut parts = Vec::new(alloc);
     let mut drawn = 0;
     let mut copied = 0;
     for position in 0..frame.views.count() {
         let view = frame.views.view_at(position);
         let part = next_part(frame, lists, view, position, drawn, copied);
-        enter_where(
-            rasterizer,
-            stores,
+        put_where(
+            &mut parts,
             frame,
             view,
             part.is_entered,
             part.blits,
             part.items,
-            room,
         )?;
         drawn = part.drawn;
         copied = part.copied;
     }
-    Ok(())
+    Ok(parts)
 }
 
 /// Draws each view that has an item, in the order of the views. It fills the lists with those of the frame.
 pub(crate) fn draw_views<D: Rasterizer>(
+    alloc: Global,
     rasterizer: &mut D,
     stores: &mut RenderStores,
     frame: &Frame,
@@ -125,5 +130,6 @@ pub(crate) fn draw_views<D: Rasterizer>(
     ensures { let f = frame_seen frame.now in OnOk result (stores_seen stores.new ≡ fold (enter_by_index f.views f.items f.ordered) (stores_seen stores.old) (entered_by_index f)) }
 {
     lists.fill(frame)?;
-    enter_views(rasterizer, stores, frame, lists, room)
+    let parts = parts_of(alloc, frame, lists)?;
+    enter_views(rasterizer, stores, &parts, room)
 }

@@ -1,4 +1,4 @@
--- The draws of a view on its target, taken out once.
+-- The draws of views on their target, taken out once.
 use Rattle.std.proofs.Common.{◌≡◌, ◌≢◌, ℕ, ◌+◌, ◌<◌, true, List, [], ◌∷◌, length, get_or, take, Option, Some, None, refl, sym, ap, subst, ◌∙◌, inl, inr, arith}
 use Rattle.std.proofs.lemmas.Option.{none-some, same_Some}
 use Rattle.std.specs.Prelude.{fold, map, ◌++◌, IfSome}
@@ -13,7 +13,8 @@ use Rattle.store_model.specs.Buffers.{Buffers}
 use Rattle.store_model.specs.Textures.{Textures, TargetSlot, IsTextures, target_texels, target_out, target_back, can_attach_at, TextureSlot}
 use Rattle.store_model.proofs.AttachLaws.{apart_of}
 use Rattle.store_laws.specs.ByIndex.{Stores, with_buffers, with_textures, on_target, textures_out, do_by_index}
-use Rattle.store_laws.specs.Listed.{Drawing, drawn_in, values_after, listed, IsApartTarget}
+use Rattle.store_laws.specs.Listed.{Drawing, drawn_in, values_after, IsApartTarget}
+use Rattle.pass_laws.specs.Passed.{Turn, all_drawn, all_values, all_listed}
 use Rattle.int_raster.specs.Drawing.{PreparedDraw, drawn_prepared}
 use Rattle.view_drawing.specs.Entered.{blit_in, StopsAtBlit, StopsAtDraw, HaveGiven, IsBegun}
 use Rattle.view_drawing.specs.Memory.{CanDraw}
@@ -32,44 +33,43 @@ values_drawn out programs view x [] = refl
 values_drawn out programs view x (i ∷ items) =
     values_drawn out programs view (drawn_in out programs view x i) items ∙ ap (λ b. fold values_after b items) (one_value out programs view x i)
 
+pub turns_drawn : (out : Textures) (programs : List (Option ProgramKind)) (x : Drawing) (ts : List Turn) → (all_drawn out programs x ts).buffers ≡ all_values x.buffers ts
+turns_drawn out programs x [] = refl
+turns_drawn out programs x (t ∷ ts) =
+    turns_drawn out programs (fold (drawn_in out programs t.view) x t.items) ts ∙ ap (λ b. all_values b ts) (values_drawn out programs t.view x t.items)
+
 -- ---- the list on what a target may be
 
-abbrev surface_after : Option Handle → View → Stores → List Item → Surface → Surface
-surface_after target view h items s = (fold (drawn_in (textures_out target h.textures) h.programs view) (record { buffers = h.buffers; surface = s }) items).surface
-
-abbrev listed_on : Option Handle → View → Stores → List Item → Stores
-listed_on target view h items = with_buffers (on_target h target (surface_after target view h items)) (fold values_after h.buffers items)
+abbrev surface_after : Option Handle → Stores → List Turn → Surface → Surface
+surface_after target h ts s = (all_drawn (textures_out target h.textures) h.programs (record { buffers = h.buffers; surface = s }) ts).surface
 
 -- on the back buffer
-pub listed_back : (view : View) (h : Stores) (items : List Item) (b : Buffers) (s : Surface) → view.target ≡ None
-    → fold (drawn_in h.textures h.programs view) (record { buffers = h.buffers; surface = h.back }) items ≡ record { buffers = b; surface = s }
-    → record { back = s; buffers = b; textures = h.textures; programs = h.programs } ≡ listed view h items
-listed_back view h items b s none e =
-    (λ j. record { back = (sym e j).surface; buffers = (ap (λ (x : Drawing). x.buffers) (sym e) ∙ values_drawn h.textures h.programs view (record { buffers = h.buffers; surface = h.back }) items) j; textures = h.textures; programs = h.programs })
-    ∙ sym (λ j. listed_on (none j) view h items)
+pub listed_back : (h : Stores) (ts : List Turn) (b : Buffers) (s : Surface)
+    → all_drawn h.textures h.programs (record { buffers = h.buffers; surface = h.back }) ts ≡ record { buffers = b; surface = s }
+    → record { back = s; buffers = b; textures = h.textures; programs = h.programs } ≡ all_listed None h ts
+listed_back h ts b s e =
+    λ j. record { back = (sym e j).surface; buffers = (ap (λ (x : Drawing). x.buffers) (sym e) ∙ turns_drawn h.textures h.programs (record { buffers = h.buffers; surface = h.back }) ts) j; textures = h.textures; programs = h.programs }
 
 -- on textures that are taken out
-pub listed_taken : (view : View) (h : Stores) (items : List Item) (b : Buffers) (s : Surface) (t : Handle) (p : Texels × Option Texels) (textures : Textures) → view.target ≡ Some t
+pub listed_taken : (h : Stores) (ts : List Turn) (b : Buffers) (s : Surface) (t : Handle) (p : Texels × Option Texels) (textures : Textures)
     → target_texels h.textures t.index ≡ Some p
-    → fold (drawn_in (target_out t.index h.textures) h.programs view) (record { buffers = h.buffers; surface = surface_with p }) items ≡ record { buffers = b; surface = s }
+    → all_drawn (target_out t.index h.textures) h.programs (record { buffers = h.buffers; surface = surface_with p }) ts ≡ record { buffers = b; surface = s }
     → textures ≡ target_back t.index s.color s.depth (target_out t.index h.textures)
-    → record { back = h.back; buffers = b; textures = textures; programs = h.programs } ≡ listed view h items
-listed_taken view h items b s t p textures some there e is =
-    (λ j. record {
+    → record { back = h.back; buffers = b; textures = textures; programs = h.programs } ≡ all_listed (Some t) h ts
+listed_taken h ts b s t p textures there e is =
+    λ j. record {
       back = h.back;
-      buffers = (ap (λ (x : Drawing). x.buffers) (sym e) ∙ values_drawn (target_out t.index h.textures) h.programs view (record { buffers = h.buffers; surface = surface_with p }) items) j;
-      textures = put_changed h.textures textures t.index p (surface_after (Some t) view h items) s there (ap (λ (x : Drawing). x.surface) (sym e)) is j;
+      buffers = (ap (λ (x : Drawing). x.buffers) (sym e) ∙ turns_drawn (target_out t.index h.textures) h.programs (record { buffers = h.buffers; surface = surface_with p }) ts) j;
+      textures = put_changed h.textures textures t.index p (surface_after (Some t) h ts) s there (ap (λ (x : Drawing). x.surface) (sym e)) is j;
       programs = h.programs;
-    })
-    ∙ sym (λ j. listed_on (some j) view h items)
+    }
 
 -- where they cannot be taken out
-pub listed_not_taken : (view : View) (h : Stores) (items : List Item) (b : Buffers) (t : Handle) (textures : Textures) → view.target ≡ Some t
-    → target_texels h.textures t.index ≡ None → textures ≡ target_out t.index h.textures → b ≡ fold values_after h.buffers items
-    → record { back = h.back; buffers = b; textures = textures; programs = h.programs } ≡ listed view h items
-listed_not_taken view h items b t textures some none is values =
-    (λ j. record { back = h.back; buffers = values j; textures = not_taken h.textures textures t.index (surface_after (Some t) view h items) none is j; programs = h.programs })
-    ∙ sym (λ j. listed_on (some j) view h items)
+pub listed_not_taken : (h : Stores) (ts : List Turn) (b : Buffers) (t : Handle) (textures : Textures)
+    → target_texels h.textures t.index ≡ None → textures ≡ target_out t.index h.textures → b ≡ all_values h.buffers ts
+    → record { back = h.back; buffers = b; textures = textures; programs = h.programs } ≡ all_listed (Some t) h ts
+listed_not_taken h ts b t textures none is values =
+    λ j. record { back = h.back; buffers = values j; textures = not_taken h.textures textures t.index (surface_after (Some t) h ts) none is j; programs = h.programs }
 
 -- ---- a frame buffer's textures are two
 

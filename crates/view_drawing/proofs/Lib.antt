@@ -1,3 +1,4 @@
+mod ApartLaws
 mod Blocks
 mod Clears
 mod CutLaws
@@ -8,6 +9,7 @@ mod Fetches
 mod Folds
 mod Fronts
 mod Parts
+mod PassLaws
 mod Places
 mod Stills
 mod TargetLaws

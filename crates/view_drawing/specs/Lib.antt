@@ -1,7 +1,9 @@
+pub mod Apart
 pub mod Cleared
 pub mod Entered
 pub mod Entries
 pub mod Prepared
+pub mod Passes
 pub mod Ranges
 pub mod Sampled
 pub mod Shapes

@@ -6,6 +6,7 @@ use Rattle.gfx_model.specs.World.{Surface, Item}
 use Rattle.store_model.specs.Buffers.{Buffers}
 use Rattle.store_model.specs.Textures.{Textures}
 use Rattle.store_laws.specs.Listed.{drawn_in}
+use Rattle.pass_laws.specs.Passed.{Turn, all_drawn}
 use Rattle.int_raster.specs.Drawing.{PreparedDraw, drawn_prepared}
 
 -- on each surface of these sides, the new list does what the old one does and then the change
@@ -21,3 +22,8 @@ DoesTo width height out programs view item old drawn new more = (s : Surface) �
 abbrev pub DoAllTo : (width height : ℕ) → Textures → List (Option ProgramKind) → View → List Item → Buffers → List PreparedDraw → Buffers → List PreparedDraw → Type 0
 DoAllTo width height out programs view items old drawn new more = (s : Surface) → s.color.width ≡ width → s.color.height ≡ height
     → fold (drawn_in out programs view) (record { buffers = old; surface = fold drawn_prepared s drawn }) items ≡ record { buffers = new; surface = fold drawn_prepared s more }
+
+-- the same of the draws and touches of views in order
+abbrev pub DoTurnsTo : (width height : ℕ) → Textures → List (Option ProgramKind) → List Turn → Buffers → List PreparedDraw → Buffers → List PreparedDraw → Type 0
+DoTurnsTo width height out programs turns old drawn new more = (s : Surface) → s.color.width ≡ width → s.color.height ≡ height
+    → all_drawn out programs (record { buffers = old; surface = fold drawn_prepared s drawn }) turns ≡ record { buffers = new; surface = fold drawn_prepared s more }

@@ -13,7 +13,7 @@ use int_raster::{Surface, view_rect};
 use view_table::{Clear, View};
 
 /// Whether a flag is set.
-fn has_flag(clear: &Clear, bit: u8) -> bool
+pub(crate) fn has_flag(clear: &Clear, bit: u8) -> bool
     requires { bit < 8 }
     ensures { result ≡ is_bit_set clear.now.flags bit }
 {

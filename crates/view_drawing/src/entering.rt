@@ -7,11 +7,13 @@ ghost use Rattle.store_laws.specs.ByIndex.{do_by_index};
 ghost use Rattle.render_stores.specs.Seen.{stores_seen};
 ghost use Rattle.view_drawing.specs.Entered.{entered, HaveGiven, IsBegun};
 ghost use Rattle.view_drawing.specs.Entries.{blits_of, items_of};
+ghost use Rattle.view_drawing.specs.Passes.{part_seen, IsPlain};
 
 use crate::blits::blit_all;
 use crate::drawing::draw_listed;
 use crate::room::DrawingRoom;
 use crate::targets::clear_target;
+use crate::view_parts::ViewPart;
 use frame_record::{Frame, OrderedItem, PlacedBlit};
 use int_raster::Rasterizer;
 use render_stores::RenderStores;
@@ -19,22 +21,21 @@ use std::alloc::AllocError;
 use store_laws::list_law;
 use view_table::View;
 
-/// Does draws and touches in order; their target is taken out once.
+/// Does the draws and touches of a view in order; their target is taken out once.
 fn draw_items<D: Rasterizer>(
     rasterizer: &mut D,
     stores: &mut RenderStores,
-    view: &View,
-    frame: &Frame,
-    items: &[OrderedItem],
+    part: &ViewPart<'_>,
     room: &mut DrawingRoom,
 ) -> Result<(), AllocError>
-    requires { AllByRecursion (λ i. is_blit i ≡ false) (items_of frame.now items.now) }
-    ensures done { OnOk result (stores_seen stores.new ≡ fold (do_by_index (view_seen view.now)) (stores_seen stores.old) (items_of frame.now items.now)) }
-    ensures begun { OnErr result (HaveGiven (items_of frame.now items.now) (stores_seen stores.old) (stores_seen stores.new)) }
+    requires { IsPlain (part_seen part.now) }
+    ensures done { OnOk result (stores_seen stores.new ≡ fold (do_by_index (part_seen part.now).view) (stores_seen stores.old) (part_seen part.now).items) }
+    ensures begun { OnErr result (HaveGiven (part_seen part.now).items (stores_seen stores.old) (stores_seen stores.new)) }
 {
     stores.textures.tell_facts();
     list_law();
-    draw_listed(rasterizer, stores, view, frame, items, room)
+    let views = [*part];
+    draw_listed(rasterizer, stores, part.view.target, &views, room)
 }
 
 /// Enters a view: clears its rectangle of its target, then copies its blits, then does its draws and touches, each in the order of its list;
@@ -59,5 +60,11 @@ pub fn enter_view<D: Rasterizer>(
 {
     clear_target(stores, view);
     blit_all(&mut stores.textures, frame, blits)?;
-    draw_items(rasterizer, stores, view, frame, items, room)
+    let part = ViewPart {
+        view,
+        frame,
+        blits,
+        items,
+    };
+    draw_items(rasterizer, stores, &part, room)
 }

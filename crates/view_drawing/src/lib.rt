@@ -1,12 +1,14 @@
 //! What entering a view does: its clear, its blits, and its draws and touches, each made on the stores of a renderer.
 #![tactic(auto)]
 
+mod apart;
 mod blits;
 mod clearing;
 mod drawing;
 mod entering;
 mod items;
 mod paints;
+mod passes;
 mod preparing;
 mod ranges;
 mod room;
@@ -15,7 +17,11 @@ mod still;
 mod targets;
 #[cfg(test)]
 mod tests;
+mod turns;
 mod uniforms;
+mod view_parts;
 
 pub use entering::enter_view;
+pub use passes::enter_views;
 pub use room::DrawingRoom;
+pub use view_parts::ViewPart;

@@ -1,16 +1,15 @@
 use Rattle.std.proofs.Common.{map}
 use Rattle.std.proofs.lemmas.Result.{on_ok_weaker, on_err_weaker}
 use Rattle.int_raster.specs.Seen.{surface_seen}
-use Rattle.view_table.specs.Seen.{view_seen}
 use Rattle.render_stores.specs.Seen.{stores_seen}
-use Rattle.view_drawing.specs.Entries.{items_of}
+use Rattle.view_drawing.specs.Passes.{turn_seen}
 use Rattle.view_drawing.proofs.DrawnLaws.{listed_back}
 use Rattle.view_drawing.proofs.drawing.draw_back.Goals as goal
 
 pub returns-clause-drawn : goal.returns-clause-drawn
 returns-clause-drawn g c =
     on_ok_weaker c.draw_surface-done.result
-    (λ e. listed_back (view_seen c.args.view.now) (stores_seen c.args.stores.now) (items_of c.args.frame.now c.args.items.now) c.draw_surface-done.new.buffers (surface_seen c.draw_surface-done.new.surface) c.requires e)
+    (λ e. listed_back (stores_seen c.args.stores.now) (map turn_seen c.args.views.now) c.draw_surface-done.new.buffers (surface_seen c.draw_surface-done.new.surface) e)
     c.draw_surface-done.ensures.drawn
 
 pub returns-clause-begun : goal.returns-clause-begun

@@ -1,14 +1,15 @@
-use Rattle.std.proofs.Common.{◌<◌, length, arith}
+use Rattle.std.proofs.Common.{◌<◌, length, map, arith}
+use Rattle.std.specs.Prelude.{fold}
 use Rattle.std.specs.List.{list_any}
 use Rattle.gfx_model.specs.World.{is_of_view}
 use Rattle.store_laws.specs.ByIndex.{enter_by_index}
-use Rattle.render_stores.specs.Seen.{stores_seen}
+use Rattle.view_drawing.specs.Passes.{after_part, part_seen}
 use Rattle.render_core.specs.Seen.{frame_seen}
 use Rattle.render_core.proofs.Turns.{number_turn}
-use Rattle.render_core.proofs.views.enter_views.Goals as goal
+use Rattle.render_core.proofs.views.parts_of.Goals as goal
 
 pub loop-position-preserved : goal.loop-position-preserved
-loop-position-preserved g c =
+loop-position-preserved c =
     let f = frame_seen c.args.frame.now in
     let i = c.loop-position in
     let v = c.view_at-view in
@@ -16,6 +17,7 @@ loop-position-preserved g c =
     record {
       draws = c.next_part-part.ensures.draws;
       blits = c.next_part-part.ensures.blits;
-      stores = number_turn (enter_by_index f.views f.items f.ordered) (λ n. list_any (is_of_view n) f.items) (stores_seen c.args.stores.now) f.sequence i.position v.result (stores_seen i.stores) (stores_seen c.enter_where.new.stores) within
-          v.ensures.view i.invariant.stores c.in_ok-enter_where.ensures;
+      entered = λ h. number_turn (enter_by_index f.views f.items f.ordered) (λ n. list_any (is_of_view n) f.items) h f.sequence i.position v.result (fold after_part h (map part_seen i.parts.items))
+          (fold after_part h (map part_seen c.put_where.new.parts.items)) within v.ensures.view (i.invariant.entered h) (c.in_ok-put_where.ensures.entered h);
+      plain = c.in_ok-put_where.ensures.plain i.invariant.plain;
     }

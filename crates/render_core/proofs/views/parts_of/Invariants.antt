@@ -1,0 +1,18 @@
+use Rattle.std.proofs.Common.{[], map, take, filter}
+use Rattle.std.specs.List.{list_any, AllByRecursion}
+use Rattle.gfx_model.specs.World.{is_of_view}
+use Rattle.frame_record.specs.Ordered.{position_of}
+use Rattle.view_drawing.specs.Passes.{part_seen, IsPlain}
+use Rattle.render_core.specs.Lists.{EntersMore}
+use Rattle.render_core.specs.Runs.{RunsFrom}
+use Rattle.render_core.specs.Seen.{frame_seen}
+use Rattle.render_core.proofs.views.parts_of.Given as goal
+
+abbrev pub invariant-loop-position : goal.invariant-loop-position
+invariant-loop-position l =
+    let f = frame_seen l.frame in record {
+      draws : RunsFrom position_of l.drawn l.position l.lists.ordered.items;
+      blits : RunsFrom (λ p. p.position) l.copied l.position l.lists.blits.items;
+      entered : EntersMore f.views f.items f.ordered [] (filter (λ v. list_any (is_of_view v) f.items) (take l.position f.sequence)) (map part_seen l.parts.items);
+      plain : AllByRecursion IsPlain (map part_seen l.parts.items);
+    }
