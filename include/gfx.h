@@ -7,12 +7,14 @@
  * next, where the two are ordered by a lock, a thread's start or join, or a seq_cst atomic.
  *
  * Things. Layouts, buffers, textures, frame buffers, programs and uniforms are named by words. 0 names none. Any word may be
- * passed: one that names nothing that was made by this context, or what is gone, is refused by GFX_STALE.
+ * passed: one that names nothing that was made by this context, or what is gone, is refused by GFX_STALE. A word does not tell of which
+ * context it is: one of another context is a number like any other, and may name a thing of this one.
  *
- * Numbers. Positions, transforms and vec4 values are in units of 1/65536. Depths are 0 to 16777215. There are 512 views.
+ * Numbers. Positions, transforms and vec4 values are in units of 1/65536. Depths of pixels are 0 to 16777215. There are 512 views.
  *
  * Statuses. Each call answers 0 or why it did nothing. After any answer but 0 all is as it was, except where a call says otherwise. Where
- * several reasons hold, the first in the order of the call's list is answered; GFX_OUT_OF_MEMORY may come before others.
+ * several reasons hold, the first in the order of the call's list is answered. GFX_OUT_OF_MEMORY comes from the calls alone that list it; it is
+ * the last, but from gfx_init, gfx_begin and gfx_create_texture it may come before others.
  */
 #ifndef GFX_H
 #define GFX_H
@@ -75,13 +77,16 @@ enum { GFX_DISCARD_BINDINGS = 1, GFX_DISCARD_INDEX_BUFFER = 2, GFX_DISCARD_STATE
 /* What is told of a frame: its number, how many bytes of picture were written, and the sum of the numbers that its encoders ended with. */
 typedef struct gfx_framed { uint32_t number; size_t picture; uint64_t dropped; } gfx_framed;
 
+/* How many bytes the buffer for a picture of these sides has at least. */
+#define GFX_PICTURE_BYTES(width, height) (3 * (size_t)(width) * (size_t)(height) + 17)
+
 /* ---- a context; each of its calls by one thread at a time */
 
 /* Makes a context with pictures of these sides, 1 to 2048, and a back buffer of zeros with depth and stencil, for a handle that is null.
  * GFX_TAKEN, GFX_BAD_SIZE, GFX_OUT_OF_MEMORY. */
 gfx_status gfx_init(gfx_context *context, uint16_t width, uint16_t height);
 
-/* Gives a context up with all that was made. Encoders that are off may still be ended or dropped. GFX_NO_OBJECT. */
+/* Gives a context up with all that was made. Encoders that are off may still record, and be ended or dropped. GFX_NO_OBJECT. */
 gfx_status gfx_shutdown(gfx_context *context);
 
 /* Tells the number of the frame that is recorded, from 0. GFX_NO_OBJECT. */
@@ -96,7 +101,7 @@ gfx_status gfx_begin(gfx_context *context, gfx_encoder *encoder, uint32_t items,
 gfx_status gfx_collect(gfx_context *context, uint32_t *off);
 
 /* Ends the frame, renders it, and writes its picture as a P6 text: "P6\nWIDTH HEIGHT\n255\n" and three bytes a pixel. The buffer has at
- * least 3 * width * height + 17 bytes. GFX_NO_OBJECT, GFX_ENDED, GFX_TOO_SMALL; GFX_TRY_AGAIN where an encoder has not come back, and then
+ * least GFX_PICTURE_BYTES(width, height) bytes. GFX_NO_OBJECT, GFX_ENDED, GFX_TOO_SMALL; GFX_TRY_AGAIN where an encoder has not come back, and then
  * what has come is kept and nothing is lost; GFX_FRAMES_SPENT. After GFX_OUT_OF_MEMORY the context is ended. */
 gfx_status gfx_frame(gfx_context *context, uint8_t *picture, size_t picture_length, gfx_framed *framed);
 
@@ -206,7 +211,8 @@ gfx_status gfx_set_texture(gfx_encoder *encoder, uint8_t stage, gfx_thing textur
 gfx_status gfx_set_vec4(gfx_encoder *encoder, gfx_thing uniform, int32_t x, int32_t y, int32_t z, int32_t w);
 gfx_status gfx_set_int(gfx_encoder *encoder, gfx_thing uniform, int32_t value);
 
-/* Puts down a draw with the current state and the uniform values, and resets the parts that `discard` names (GFX_DISCARD_BINDINGS ..).
+/* Puts down a draw with the current state and the uniform values, and resets the parts that `discard` names (GFX_DISCARD_BINDINGS .., or 255
+ * for all). `depth` is any number, which orders the draws of a view by its mode; it has nothing to do with positions.
  * GFX_BAD_VIEW, GFX_WRONG_KIND, GFX_STALE, GFX_ROOM_FULL. */
 gfx_status gfx_submit(gfx_encoder *encoder, uint16_t view, gfx_thing program, uint32_t depth, uint8_t discard);
 
@@ -217,7 +223,8 @@ gfx_status gfx_touch(gfx_encoder *encoder, uint16_t view);
 gfx_status gfx_blit(gfx_encoder *encoder, uint16_t view, gfx_thing dst, uint16_t dx, uint16_t dy, gfx_thing src, uint16_t sx, uint16_t sy, uint16_t w, uint16_t h);
 
 /* Ends an encoder with a number of the caller's own. Its handle is null from then on, and what it recorded waits to be collected.
- * GFX_TRY_AGAIN where another waits in its place; the encoder is as it was. */
+ * GFX_TRY_AGAIN where another waits in its place; the encoder is as it was. An encoder of a frame has its place alone, so this is not to be
+ * expected. */
 gfx_status gfx_end(gfx_encoder *encoder, uint32_t dropped);
 
 /* Gives an encoder up with what it recorded. Its handle is null from then on. Its number stays off: the frame cannot end any more. */

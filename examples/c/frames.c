@@ -4,7 +4,7 @@
 #include <stdio.h>
 #include <stdlib.h>
 
-enum { WIDTH = 160, HEIGHT = 120, FRAMES = 8, PICTURE = 3 * WIDTH * HEIGHT + 17 };
+enum { WIDTH = 160, HEIGHT = 120, FRAMES = 8, PICTURE = GFX_PICTURE_BYTES(WIDTH, HEIGHT) };
 
 /* Ends the program where a call was not done. */
 static void must(gfx_status status, const char *call) {

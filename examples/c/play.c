@@ -228,7 +228,7 @@ int main(void) {
         }
         if (is(0, "scene") || is(0, "latency")) continue;
         if (is(0, "size")) {
-            picture_length = 3u * side(1) * side(2) + 17;
+            picture_length = GFX_PICTURE_BYTES(side(1), side(2));
             picture = malloc(picture_length);
             if (!picture || gfx_init(&context, side(1), side(2)) != GFX_DONE) fail("no context");
         } else if (is(0, "encoders")) encoder_count = (int)number(1);

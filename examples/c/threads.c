@@ -7,7 +7,7 @@
 #include <stdio.h>
 #include <stdlib.h>
 
-enum { WIDTH = 160, HEIGHT = 120, FRAMES = 16, THREADS = 4, DRAWS = 50, PICTURE = 3 * WIDTH * HEIGHT + 17 };
+enum { WIDTH = 160, HEIGHT = 120, FRAMES = 16, THREADS = 4, DRAWS = 50, PICTURE = GFX_PICTURE_BYTES(WIDTH, HEIGHT) };
 
 static void must(gfx_status status, const char *call) {
     if (status != GFX_DONE) {

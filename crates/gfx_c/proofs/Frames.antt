@@ -124,6 +124,7 @@ module _ (frame : Frame) (dropped : ℕ) (before after : List ℕ) (old mid new 
   pub delivered_told : (result : Result Framed Fault) → Delivers result frame dropped before after mid new → FramesHere result before after old new
   delivered_told (Ok framed) d = record {
     runs = runs;
+    room = enough;
     mid = mid;
     frame = frame;
     made = subst (λ (n : ℕ). IsMade frame n old mid) (sym d.dropped_is) made;

@@ -102,6 +102,7 @@ Delivers result f dropped before after old new =
 -- the frame was made and delivered
 pub record IsFramed (framed : Framed) (before after : List ℕ) (old new : ContextView) : Type 0 where
   pub runs : is_over old ≡ false
+  pub room : old.most ≤ length before
   pub mid : ContextView
   pub frame : Frame
   pub made : IsMade frame framed.dropped old mid

@@ -10,6 +10,7 @@ use Rattle.std.specs.declared.option.Option.TheVariants.{None, Some}
 use Rattle.gfx_c.specs.declared.objects.Object.{Object as Inner}
 use Rattle.gfx_c.specs.contracts.objects.Object.{the_row}
 
+-- a pointer owns nothing at null, and else the box of a value
 abbrev pub kept : Global → Ptr → Option Inner → Fml
 kept a p None = feq Ptr p null_ptr
 kept a p (Some x) = box_owns (ghosts.dealloc_token a) the_row p x

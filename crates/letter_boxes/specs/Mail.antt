@@ -19,61 +19,75 @@ Letter = Recording × EncSeat
 abbrev pub Mine : Type 0
 Mine = Me (Option Letter) MailView
 
+-- what the first seat of a box knows: the table
 abbrev pub first_view : HoldTable → MailView
 first_view key = record { holds = 0; of = table_of key }
 
+-- a letter is of a table
 abbrev pub IsOf : TableId → Letter → Type 0
 IsOf table letter = enc_table letter.1 ≡ table
 
+-- a box is empty, is worked on by one seat, or has a letter
 pub data Phase : Type 0 where
   empty : Phase
   busy : Phase
   full : Letter → Phase
 
+-- the box's word
 abbrev pub code : Phase → ℕ
 code empty = 0
 code busy = 1
 code (full l) = 2
 
+-- what lies in the box's place, where no seat holds it
 abbrev pub home : Phase → maybe.Option (Option Letter)
 home empty = some None
 home busy = none
 home (full l) = some (Some l)
 
+-- how many seats hold the place
 abbrev pub holders : Phase → ℕ
 holders empty = 0
 holders busy = 1
 holders (full l) = 0
 
+-- a letter that lies in the box is of the table
 abbrev pub Fits : TableId → Phase → Type 0
 Fits table empty = Unit {0}
 Fits table busy = Unit {0}
 Fits table (full l) = IsOf table l
 
+-- how many seats say that they hold the place
 abbrev pub total : List MailView → ℕ
 total [] = 0
 total (v ∷ vs) = v.holds + total vs
 
+-- what the phase says is so, and each seat knows the table
 pub record Kept (table : TableId) (phase : Phase) (views : List MailView) : Type 0 where
   pub fits : Fits table phase
   pub sum : total views ≡ holders phase
   pub each : (i : ℕ) (v : MailView) → get_elem? views i ≡ some v → v.of ≡ table
 
+-- the rule: word and place are those of a phase
 pub record IsMail (key : HoldTable) (s : State (Option Letter) MailView) : Type 0 where
   pub phase : Phase
   pub words : s.words ≡ code phase ∷ []
   pub homes : s.homes ≡ home phase ∷ []
   pub kept : Kept (table_of key) phase s.views
 
+-- what a seat that holds the place has of it
 abbrev pub carrying : Option Letter → List (ℕ × Option Letter)
 carrying x = (0, x) ∷ []
 
+-- a seat that holds the place
 abbrev pub holding : MailView → MailView
 holding v = record v { holds = 1 }
 
+-- a seat that does not
 abbrev pub resting : MailView → MailView
 resting v = record v { holds = 0 }
 
+-- a seat is made
 abbrev pub Enters : Step (Option Letter) → Mine → ℕ → Mine → Type 0
 Enters st m r m' = m' ≡ m
 
@@ -85,5 +99,6 @@ Claims st m r m' = (r ≡ 0 → m' ≡ (holding m.0, carrying None)) × (r ≢ 0
 abbrev pub Grabs : Step (Option Letter) → Mine → ℕ → Mine → Type 0
 Grabs st m r m' = (r ≡ 2 → (l : Letter) × (m' ≡ (holding m.0, carrying (Some l))) × IsOf m.0.of l) × (r ≢ 2 → m' ≡ m)
 
+-- the place is given back
 abbrev pub Rests : Step (Option Letter) → Mine → ℕ → Mine → Type 0
 Rests st m r m' = m' ≡ (resting m.0, [])

@@ -66,9 +66,7 @@ fn put_view(
         .set_scissor(view, columns(reached, 1))
         .map_err(|_| "scissor")?;
     if let Some(color) = clear {
-        views
-            .set_clear(view, 1, color, 0, 0)
-            .map_err(|_| "clear")?;
+        views.set_clear(view, 1, color, 0, 0).map_err(|_| "clear")?;
     }
     Ok(())
 }
@@ -145,8 +143,18 @@ fn views_more_than_a_pass_has(rt: HostRuntime) -> Result<(), Fail> {
     let mut wanted = b"P6\n65 1\n255\n".to_vec(alloc)?;
     for view in 0..65u16 {
         let reached = if view % 2 == 0 { view } else { 65 };
-        put_view(&mut views, view, columns(view, 1), Some([view as u8, 7, 9, 255]), reached)?;
-        let pixel = if view % 2 == 0 { [255; 3] } else { [view as u8, 7, 9] };
+        put_view(
+            &mut views,
+            view,
+            columns(view, 1),
+            Some([view as u8, 7, 9, 255]),
+            reached,
+        )?;
+        let pixel = if view % 2 == 0 {
+            [255; 3]
+        } else {
+            [view as u8, 7, 9]
+        };
         wanted.extend_from_slice(&pixel)?;
     }
     let items = draws(alloc, draw(0, COLORS, 0)?, 65, 0)?;

@@ -1,0 +1,100 @@
+/* What a touch and a submit cost from C, by one thread: so many calls of one kind in a frame, the least time of some rounds. The calls are
+ * those of tools/bench/layers/encoders.txt, and so are the lines that are written: what, and nanoseconds. `submit` keeps all that was set,
+ * `reset` sets all back, `draw` sets a uniform and vertices before. The heap gives no memory back to the system meanwhile: fresh pages
+ * and records that have left the caches cost more than the calls, and would be measured in their place.
+ *
+ * usage: cost [ROUNDS [CALLS]]    CALLS at most 8,191 */
+#include "gfx.h"
+
+#include <inttypes.h>
+#include <malloc.h>
+#include <stdio.h>
+#include <stdlib.h>
+#include <time.h>
+
+enum { KINDS = 4 };
+
+static gfx_context context;
+static gfx_encoder encoder;
+static gfx_thing layout, corners, color, program;
+static uint32_t calls;
+
+static void must(gfx_status status, const char *call) {
+    if (status != GFX_DONE) {
+        fprintf(stderr, "cost: %s: status %u\n", call, (unsigned)status);
+        exit(1);
+    }
+}
+#define MUST(call) must(call, #call)
+
+static uint64_t now(void) {
+    struct timespec at;
+    clock_gettime(CLOCK_MONOTONIC, &at);
+    return (uint64_t)at.tv_sec * 1000000000u + (uint64_t)at.tv_nsec;
+}
+
+/* Each answers how many calls were refused. */
+static uint32_t touches(void) {
+    uint32_t refused = 0;
+    for (uint32_t i = 0; i < calls; i++) refused += gfx_touch(&encoder, 0) != GFX_DONE;
+    return refused;
+}
+
+static uint32_t submits(uint8_t discard) {
+    uint32_t refused = 0;
+    for (uint32_t depth = 0; depth < calls; depth++) refused += gfx_submit(&encoder, 0, program, depth, discard) != GFX_DONE;
+    return refused;
+}
+
+static uint32_t draws(void) {
+    uint32_t refused = 0;
+    for (uint32_t depth = 0; depth < calls; depth++) {
+        refused += gfx_set_vec4(&encoder, color, (int32_t)depth, 0, 0, 65536) != GFX_DONE;
+        refused += gfx_set_vertices(&encoder, corners, 0, 3) != GFX_DONE;
+        refused += gfx_submit(&encoder, 0, program, depth, 255) != GFX_DONE;
+    }
+    return refused;
+}
+
+static uint32_t recorded(int kind) {
+    switch (kind) {
+        case 0: return touches();
+        case 1: return submits(0);
+        case 2: return submits(255);
+        default: return draws();
+    }
+}
+
+int main(int argc, char **argv) {
+    static const char *const NAMES[KINDS] = {"touch", "submit", "reset", "draw"};
+    static const uint8_t bytes[24];
+    uint8_t picture[GFX_PICTURE_BYTES(1, 1)];
+    uint64_t least[KINDS] = {UINT64_MAX, UINT64_MAX, UINT64_MAX, UINT64_MAX};
+    long rounds = argc > 1 ? strtol(argv[1], 0, 10) : 300;
+    calls = argc > 2 ? (uint32_t)strtol(argv[2], 0, 10) : 500;
+    mallopt(M_MMAP_THRESHOLD, 1 << 30);
+    mallopt(M_TRIM_THRESHOLD, INT32_MAX);
+    gfx_part corner = {GFX_POSITION, GFX_FIXED, 2};
+    MUST(gfx_init(&context, 1, 1));
+    MUST(gfx_create_layout(&context, &corner, 1, &layout));
+    MUST(gfx_create_vertex_buffer(&context, layout, bytes, sizeof bytes, &corners));
+    MUST(gfx_create_uniform(&context, (const uint8_t *)"u_color", 7, GFX_VEC4, &color));
+    MUST(gfx_create_program(&context, GFX_SOLID, &program));
+    for (long round = 0; round < rounds; round++) {
+        for (int kind = 0; kind < KINDS; kind++) {
+            gfx_framed framed;
+            MUST(gfx_begin(&context, &encoder, 8191, 1048576, 8191));
+            uint64_t start = now();
+            uint32_t refused = recorded(kind);
+            uint64_t time = now() - start;
+            if (refused > 0) must(GFX_ROOM_FULL, NAMES[kind]);
+            if (time < least[kind]) least[kind] = time;
+            MUST(gfx_end(&encoder, 0));
+            MUST(gfx_frame(&context, picture, sizeof picture, &framed));
+        }
+    }
+    MUST(gfx_shutdown(&context));
+    printf("calls %" PRIu32 "\n", calls);
+    for (int kind = 0; kind < KINDS; kind++) printf("%s %" PRIu64 "\n", NAMES[kind], least[kind]);
+    return 0;
+}
