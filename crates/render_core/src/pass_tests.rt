@@ -7,13 +7,13 @@ use crate::Renderer;
 use crate::frame_tests::{COLORS, draw, things};
 use crate::tests::{Parts, recorded, row};
 use cmd_buffer::Command;
-use draw_encoder::{BlitCall, BlitItem, DrawItem, Item};
+use draw_encoder::{BlitCall, BlitItem, Item};
 use fix_math::Rect;
 use frame_record::Outcome;
 use gfx_words::{Handle, Info, Kind};
 use int_raster::SerialRasterizer;
 use io_edge::MemSink;
-use std::alloc::{AllocError, Global};
+use std::alloc::Global;
 use std::test::Fail;
 use view_table::ViewTable;
 
@@ -21,8 +21,8 @@ const RED: [u8; 4] = [255, 0, 0, 255];
 
 const GREEN: [u8; 4] = [0, 255, 0, 255];
 
-// A triangle round the whole target in each of the first views, white; by the program 1 in the odd ones, where they are to sample.
-fn draws(alloc: Global, one: DrawItem, count: u16, odd: u16) -> Result<Vec<Item>, AllocError>
+// A triangle round the whole target in each of the first views, white; in the odd ones by another program, which may sample the texture 0.
+fn draws(alloc: Global, count: u16, odd: u16) -> Result<Vec<Item>, Fail>
     requires { odd < 256 }
     ensures many { IfOk result (λ items. length (numbers_of items.items) ≡ count) }
     ensures ascend { IfOk result (λ items. Ascends (numbers_of items.items)) }
@@ -32,21 +32,13 @@ fn draws(alloc: Global, one: DrawItem, count: u16, odd: u16) -> Result<Vec<Item>
     let mut items = Vec::new(alloc);
     for view in 0..count {
         let index = if view % 2 == 1 { odd } else { 0 };
-        items.push(Item::Draw(DrawItem {
-            view,
-            number: view as u64,
-            program: Handle::of(Kind::Program, index, 3, Info::Plain),
-            ..one
-        }))?;
+        let mut one = draw(view, COLORS, 0)?;
+        one.textures[0] = Some(Handle::of(Kind::Texture, 0, 4, Info::Plain));
+        one.program = Handle::of(Kind::Program, index, 3, Info::Plain);
+        one.number = view as u64;
+        items.push(Item::Draw(one))?;
     }
     Ok(items)
-}
-
-// A draw that samples the texture 0, where its program samples.
-fn sampling() -> Result<DrawItem, Fail> {
-    let mut one = draw(0, COLORS, 0)?;
-    one.textures[0] = Some(Handle::of(Kind::Texture, 0, 4, Info::Plain));
-    Ok(one)
 }
 
 fn columns(x: u16, w: u16) -> Rect {
@@ -100,7 +92,7 @@ fn views_that_overlap(rt: HostRuntime) -> Result<(), Fail> {
     let mut views = ViewTable::new(alloc, 256)?;
     put_view(&mut views, 0, columns(0, 3), Some(RED), 1)?;
     put_view(&mut views, 1, columns(1, 3), Some(GREEN), 3)?;
-    let items = draws(alloc, draw(0, COLORS, 0)?, 2, 0)?;
+    let items = draws(alloc, 2, 0)?;
     let sink = shown(alloc, 4, views, &things(0)?, items)?;
     let wanted = b"P6\n4 1\n255\n\xff\0\0\0\xff\0\0\xff\0\xff\xff\xff";
     assert_eq!(rt; sink.bytes(), wanted.as_slice());
@@ -113,7 +105,7 @@ fn views_that_touch_at_an_edge(rt: HostRuntime) -> Result<(), Fail> {
     let mut views = ViewTable::new(alloc, 256)?;
     put_view(&mut views, 0, columns(2, 2), Some(RED), 2)?;
     put_view(&mut views, 1, columns(0, 2), Some(GREEN), 1)?;
-    let items = draws(alloc, draw(0, COLORS, 0)?, 2, 0)?;
+    let items = draws(alloc, 2, 0)?;
     let sink = shown(alloc, 4, views, &things(0)?, items)?;
     let wanted = b"P6\n4 1\n255\n\0\xff\0\xff\xff\xff\xff\xff\xff\xff\0\0";
     assert_eq!(rt; sink.bytes(), wanted.as_slice());
@@ -128,7 +120,7 @@ fn a_view_that_clears_nothing(rt: HostRuntime) -> Result<(), Fail> {
     put_view(&mut views, 0, columns(0, 4), Some(RED), 0)?;
     put_view(&mut views, 1, columns(0, 4), None, 1)?;
     put_view(&mut views, 2, columns(1, 2), Some(GREEN), 2)?;
-    let items = draws(alloc, draw(0, COLORS, 0)?, 3, 0)?;
+    let items = draws(alloc, 3, 0)?;
     let sink = shown(alloc, 4, views, &things(0)?, items)?;
     let wanted = b"P6\n4 1\n255\n\xff\xff\xff\0\xff\0\xff\xff\xff\xff\0\0";
     assert_eq!(rt; sink.bytes(), wanted.as_slice());
@@ -150,14 +142,14 @@ fn views_more_than_a_pass_has(rt: HostRuntime) -> Result<(), Fail> {
             Some([view as u8, 7, 9, 255]),
             reached,
         )?;
-        let pixel = if view % 2 == 0 {
+        let pixel: [u8; 3] = if view % 2 == 0 {
             [255; 3]
         } else {
             [view as u8, 7, 9]
         };
         wanted.extend_from_slice(&pixel)?;
     }
-    let items = draws(alloc, draw(0, COLORS, 0)?, 65, 0)?;
+    let items = draws(alloc, 65, 0)?;
     let sink = shown(alloc, 65, views, &things(0)?, items)?;
     assert_eq!(rt; sink.bytes(), wanted.as_slice());
     Ok(())
@@ -205,8 +197,9 @@ fn a_view_of_another_target_between(rt: HostRuntime) -> Result<(), Fail> {
     put_view(&mut views, 3, columns(0, 2), None, 1)?;
     views.set_target(0, target()).map_err(|_| "target")?;
     views.set_target(2, target()).map_err(|_| "target")?;
-    let items = draws(alloc, sampling()?, 4, 1)?;
-    let sink = shown(alloc, 2, views, &with_target(alloc)?, items)?;
+    let items = draws(alloc, 4, 1)?;
+    let pre = with_target(alloc)?;
+    let sink = shown(alloc, 2, views, &pre, items)?;
     let wanted = b"P6\n2 1\n255\n\xff\0\0\0\xff\0";
     assert_eq!(rt; sink.bytes(), wanted.as_slice());
     Ok(())
@@ -225,8 +218,9 @@ fn views_that_share_and_sample_a_target(rt: HostRuntime) -> Result<(), Fail> {
     for view in 0..3u16 {
         views.set_target(view, target()).map_err(|_| "target")?;
     }
-    let items = draws(alloc, sampling()?, 4, 1)?;
-    let sink = shown(alloc, 2, views, &with_target(alloc)?, items)?;
+    let items = draws(alloc, 4, 1)?;
+    let pre = with_target(alloc)?;
+    let sink = shown(alloc, 2, views, &pre, items)?;
     let wanted = b"P6\n2 1\n255\n\0\0\0\xff\0\0";
     assert_eq!(rt; sink.bytes(), wanted.as_slice());
     Ok(())
@@ -239,8 +233,9 @@ fn with_blit(alloc: Global) -> Result<Vec<Item>, Fail>
 {
     // The check asks that the types of an item's parts are seen where it is stored.
     let _parts: Option<Parts> = None;
-    let (mut first, mut last) = (draw(0, COLORS, 0)?, draw(2, COLORS, 0)?);
+    let mut first = draw(0, COLORS, 0)?;
     first.number = 0;
+    let mut last = draw(2, COLORS, 0)?;
     last.number = 2;
     last.program = Handle::of(Kind::Program, 1, 3, Info::Plain);
     last.textures[0] = Some(Handle::of(Kind::Texture, 1, 4, Info::Plain));
@@ -275,7 +270,9 @@ fn a_blit_between(rt: HostRuntime) -> Result<(), Fail> {
     put_view(&mut views, 2, columns(0, 2), None, 1)?;
     views.set_target(0, target()).map_err(|_| "target")?;
     views.set_target(1, target()).map_err(|_| "target")?;
-    let sink = shown(alloc, 2, views, &with_target(alloc)?, with_blit(alloc)?)?;
+    let items = with_blit(alloc)?;
+    let pre = with_target(alloc)?;
+    let sink = shown(alloc, 2, views, &pre, items)?;
     let wanted = b"P6\n2 1\n255\n\0\0\0\xff\xff\xff";
     assert_eq!(rt; sink.bytes(), wanted.as_slice());
     Ok(())
