@@ -14,8 +14,6 @@ mod c_updates;
 mod c_views;
 mod context;
 mod creates;
-#[cfg(test)]
-mod drawn_tests;
 mod encoder;
 mod frame;
 mod held;
