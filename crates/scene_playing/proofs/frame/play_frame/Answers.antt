@@ -51,9 +51,9 @@ end_frame-requires-clause-recorded g c κs within =
     let k = c.args.context.now.book.resources.frame in
     let f = frame_seen c.args.frame.now in
     let first = recording_after s k f c.in_ok-before.before c.args.handles.now c.play_lines.new.handles c.args.context.now c.play_lines.new.calls c.requires.at c.requires.there (subst (λ (ls : List _). LinesPlayed s.names (map resource_line_seen ls) c.in_ok-before.before c.args.context.now.book c.play_lines.new.calls.book c.args.handles.now c.play_lines.new.handles) c.as_slice.ensures (subst (λ (ns : List _). LinesPlayed (map name_seen ns) (map resource_line_seen c.as_slice.result.now) c.in_ok-before.before c.args.context.now.book c.play_lines.new.calls.book c.args.handles.now c.play_lines.new.handles) c.as_slice-names.ensures c.in_ok-before.ensures.played)) c.play_lines.ensures.rest in
-    let all : c.record_blocks-all.new.context.begun ≡ s.encoders = c.record_blocks-all.ensures.all c.in_ok-beside.ensures.played.0 in
+    let all : c.record_blocks-all.new.context.begun ≡ s.encoders = c.record_blocks-all.ensures.all c.in-Ok.ensures.played.0 in
     let begun : HasBegun s.encoders c.play_lines.new.calls c.record_blocks-all.new.context = subst (λ n. HasBegun n c.play_lines.new.calls c.record_blocks-all.new.context) all c.record_blocks-all.ensures.same in
-    let last = recorded_after s k f c.in_ok-beside.beside c.play_lines.new.handles c.play_beside-beside.new.handles c.play_lines.new.calls c.record_blocks-all.new.context c.play_beside-beside.new.context first.0 begun c.in_ok-beside.ensures.played.1 c.play_beside-beside.ensures.rest first.3 in
+    let last = recorded_after s k f c.in-Ok.beside c.play_lines.new.handles c.play_beside-beside.new.handles c.play_lines.new.calls c.record_blocks-all.new.context c.play_beside-beside.new.context first.0 begun c.in-Ok.ensures.played.1 c.play_beside-beside.ensures.rest first.3 in
     recorded_now s k f c.play_beside-beside.new.handles c.play_beside-beside.new.context last.0
 
 pub end_frame-requires-clause-dropped : goal.end_frame-requires-clause-dropped
@@ -62,10 +62,10 @@ end_frame-requires-clause-dropped g c κs within =
     let k = c.args.context.now.book.resources.frame in
     let f = frame_seen c.args.frame.now in
     let first = recording_after s k f c.in_ok-before.before c.args.handles.now c.play_lines.new.handles c.args.context.now c.play_lines.new.calls c.requires.at c.requires.there (subst (λ (ls : List _). LinesPlayed s.names (map resource_line_seen ls) c.in_ok-before.before c.args.context.now.book c.play_lines.new.calls.book c.args.handles.now c.play_lines.new.handles) c.as_slice.ensures (subst (λ (ns : List _). LinesPlayed (map name_seen ns) (map resource_line_seen c.as_slice.result.now) c.in_ok-before.before c.args.context.now.book c.play_lines.new.calls.book c.args.handles.now c.play_lines.new.handles) c.as_slice-names.ensures c.in_ok-before.ensures.played)) c.play_lines.ensures.rest in
-    let all : c.record_blocks-all.new.context.begun ≡ s.encoders = c.record_blocks-all.ensures.all c.in_ok-beside.ensures.played.0 in
+    let all : c.record_blocks-all.new.context.begun ≡ s.encoders = c.record_blocks-all.ensures.all c.in-Ok.ensures.played.0 in
     let begun : HasBegun s.encoders c.play_lines.new.calls c.record_blocks-all.new.context = subst (λ n. HasBegun n c.play_lines.new.calls c.record_blocks-all.new.context) all c.record_blocks-all.ensures.same in
-    let last = recorded_after s k f c.in_ok-beside.beside c.play_lines.new.handles c.play_beside-beside.new.handles c.play_lines.new.calls c.record_blocks-all.new.context c.play_beside-beside.new.context first.0 begun c.in_ok-beside.ensures.played.1 c.play_beside-beside.ensures.rest first.3 in
-    (λ i. c.from.ensures i + c.from-2.ensures i) ∙ dropped_now s k f c.play_beside-beside.new.handles c.play_beside-beside.new.context c.in_ok-before.before c.in_ok-beside.beside last.0 first.1 last.1
+    let last = recorded_after s k f c.in-Ok.beside c.play_lines.new.handles c.play_beside-beside.new.handles c.play_lines.new.calls c.record_blocks-all.new.context c.play_beside-beside.new.context first.0 begun c.in-Ok.ensures.played.1 c.play_beside-beside.ensures.rest first.3 in
+    (λ i. c.from.ensures i + c.from-2.ensures i) ∙ dropped_now s k f c.play_beside-beside.new.handles c.play_beside-beside.new.context c.in_ok-before.before c.in-Ok.beside last.0 first.1 last.1
 
 pub returns-clause-ended : goal.returns-clause-ended
 returns-clause-ended g c =
@@ -73,9 +73,9 @@ returns-clause-ended g c =
     let k = c.args.context.now.book.resources.frame in
     let f = frame_seen c.args.frame.now in
     let first = recording_after s k f c.in_ok-before.before c.args.handles.now c.play_lines.new.handles c.args.context.now c.play_lines.new.calls c.requires.at c.requires.there (subst (λ (ls : List _). LinesPlayed s.names (map resource_line_seen ls) c.in_ok-before.before c.args.context.now.book c.play_lines.new.calls.book c.args.handles.now c.play_lines.new.handles) c.as_slice.ensures (subst (λ (ns : List _). LinesPlayed (map name_seen ns) (map resource_line_seen c.as_slice.result.now) c.in_ok-before.before c.args.context.now.book c.play_lines.new.calls.book c.args.handles.now c.play_lines.new.handles) c.as_slice-names.ensures c.in_ok-before.ensures.played)) c.play_lines.ensures.rest in
-    let all : c.record_blocks-all.new.context.begun ≡ s.encoders = c.record_blocks-all.ensures.all c.in_ok-beside.ensures.played.0 in
+    let all : c.record_blocks-all.new.context.begun ≡ s.encoders = c.record_blocks-all.ensures.all c.in-Ok.ensures.played.0 in
     let begun : HasBegun s.encoders c.play_lines.new.calls c.record_blocks-all.new.context = subst (λ n. HasBegun n c.play_lines.new.calls c.record_blocks-all.new.context) all c.record_blocks-all.ensures.same in
-    let last = recorded_after s k f c.in_ok-beside.beside c.play_lines.new.handles c.play_beside-beside.new.handles c.play_lines.new.calls c.record_blocks-all.new.context c.play_beside-beside.new.context first.0 begun c.in_ok-beside.ensures.played.1 c.play_beside-beside.ensures.rest first.3 in
+    let last = recorded_after s k f c.in-Ok.beside c.play_lines.new.handles c.play_beside-beside.new.handles c.play_lines.new.calls c.record_blocks-all.new.context c.play_beside-beside.new.context first.0 begun c.in-Ok.ensures.played.1 c.play_beside-beside.ensures.rest first.3 in
     let kept = rest_kept s.encoders c.args.context.now c.play_lines.new.calls c.record_blocks-all.new.context c.play_beside-beside.new.context c.play_lines.ensures.rest begun c.play_beside-beside.ensures.rest in
     ended_since c.end_frame.result s c.play_beside-beside.new.context.book.resources.frame k f c.play_beside-beside.new.handles c.args.context.now c.play_beside-beside.new.context c.end_frame.new.context
     (number_recorded s k f c.play_beside-beside.new.handles c.play_beside-beside.new.context last.0) kept.0 c.end_frame.ensures.ended
@@ -86,9 +86,9 @@ returns-clause-back g c =
     let k = c.args.context.now.book.resources.frame in
     let f = frame_seen c.args.frame.now in
     let first = recording_after s k f c.in_ok-before.before c.args.handles.now c.play_lines.new.handles c.args.context.now c.play_lines.new.calls c.requires.at c.requires.there (subst (λ (ls : List _). LinesPlayed s.names (map resource_line_seen ls) c.in_ok-before.before c.args.context.now.book c.play_lines.new.calls.book c.args.handles.now c.play_lines.new.handles) c.as_slice.ensures (subst (λ (ns : List _). LinesPlayed (map name_seen ns) (map resource_line_seen c.as_slice.result.now) c.in_ok-before.before c.args.context.now.book c.play_lines.new.calls.book c.args.handles.now c.play_lines.new.handles) c.as_slice-names.ensures c.in_ok-before.ensures.played)) c.play_lines.ensures.rest in
-    let all : c.record_blocks-all.new.context.begun ≡ s.encoders = c.record_blocks-all.ensures.all c.in_ok-beside.ensures.played.0 in
+    let all : c.record_blocks-all.new.context.begun ≡ s.encoders = c.record_blocks-all.ensures.all c.in-Ok.ensures.played.0 in
     let begun : HasBegun s.encoders c.play_lines.new.calls c.record_blocks-all.new.context = subst (λ n. HasBegun n c.play_lines.new.calls c.record_blocks-all.new.context) all c.record_blocks-all.ensures.same in
-    let last = recorded_after s k f c.in_ok-beside.beside c.play_lines.new.handles c.play_beside-beside.new.handles c.play_lines.new.calls c.record_blocks-all.new.context c.play_beside-beside.new.context first.0 begun c.in_ok-beside.ensures.played.1 c.play_beside-beside.ensures.rest first.3 in
+    let last = recorded_after s k f c.in-Ok.beside c.play_lines.new.handles c.play_beside-beside.new.handles c.play_lines.new.calls c.record_blocks-all.new.context c.play_beside-beside.new.context first.0 begun c.in-Ok.ensures.played.1 c.play_beside-beside.ensures.rest first.3 in
     let kept = rest_kept s.encoders c.args.context.now c.play_lines.new.calls c.record_blocks-all.new.context c.play_beside-beside.new.context c.play_lines.ensures.rest begun c.play_beside-beside.ensures.rest in
     back_since c.end_frame.result c.args.context.now c.play_beside-beside.new.context c.end_frame.new.context kept.1 c.end_frame.ensures.back
 
@@ -98,7 +98,7 @@ returns-clause-allowed g c =
     let k = c.args.context.now.book.resources.frame in
     let f = frame_seen c.args.frame.now in
     let first = recording_after s k f c.in_ok-before.before c.args.handles.now c.play_lines.new.handles c.args.context.now c.play_lines.new.calls c.requires.at c.requires.there (subst (λ (ls : List _). LinesPlayed s.names (map resource_line_seen ls) c.in_ok-before.before c.args.context.now.book c.play_lines.new.calls.book c.args.handles.now c.play_lines.new.handles) c.as_slice.ensures (subst (λ (ns : List _). LinesPlayed (map name_seen ns) (map resource_line_seen c.as_slice.result.now) c.in_ok-before.before c.args.context.now.book c.play_lines.new.calls.book c.args.handles.now c.play_lines.new.handles) c.as_slice-names.ensures c.in_ok-before.ensures.played)) c.play_lines.ensures.rest in
-    let all : c.record_blocks-all.new.context.begun ≡ s.encoders = c.record_blocks-all.ensures.all c.in_ok-beside.ensures.played.0 in
+    let all : c.record_blocks-all.new.context.begun ≡ s.encoders = c.record_blocks-all.ensures.all c.in-Ok.ensures.played.0 in
     let begun : HasBegun s.encoders c.play_lines.new.calls c.record_blocks-all.new.context = subst (λ n. HasBegun n c.play_lines.new.calls c.record_blocks-all.new.context) all c.record_blocks-all.ensures.same in
-    let last = recorded_after s k f c.in_ok-beside.beside c.play_lines.new.handles c.play_beside-beside.new.handles c.play_lines.new.calls c.record_blocks-all.new.context c.play_beside-beside.new.context first.0 begun c.in_ok-beside.ensures.played.1 c.play_beside-beside.ensures.rest first.3 in
+    let last = recorded_after s k f c.in-Ok.beside c.play_lines.new.handles c.play_beside-beside.new.handles c.play_lines.new.calls c.record_blocks-all.new.context c.play_beside-beside.new.context first.0 begun c.in-Ok.ensures.played.1 c.play_beside-beside.ensures.rest first.3 in
     allowed_since c.end_frame.result (order_seen c.args.order) c.play_beside-beside.new.context.book.resources.frame k (number_recorded s k f c.play_beside-beside.new.handles c.play_beside-beside.new.context last.0) c.end_frame.ensures.allowed
