@@ -1,12 +1,17 @@
 -- The bundles of a frame are gathered, one after another.
-use Rattle.std.proofs.Common.{◌≡◌, ℕ, ◌+◌, List, [], ◌∷◌, ◌++◌, length, sym, ap, ◌∙◌, subst, arith, append_assoc}
+use Rattle.std.proofs.Common.{◌≡◌, ℕ, ◌+◌, Bool, true, false, List, [], ◌∷◌, ◌++◌, length, Option, Some, None, Result, Ok, Err, MatchOption, sym, ap, ◌∙◌, subst, arith, append_assoc}
 use Rattle.gfx_model.specs.World.{Item}
+use Rattle.gfx_model.specs.Resources.{Refusal}
+use Rattle.gfx_model.specs.FrameCalls.{end_frame, frame_refusal}
+use Rattle.gfx_words.specs.declared.refusals.Refusal as words
+use Rattle.gfx_words.specs.Seen.{refusal_seen}
 use Rattle.hold_table.specs.Views.{SeatView, joined_with}
 use Rattle.draw_encoder.specs.declared.items.Recording.{Recording}
 use Rattle.gfx_context.specs.Gathered.{AreGathered, with_gathered}
 use Rattle.gfx_context.specs.Kept.{IsContext}
-use Rattle.gfx_context.specs.Ended.{Collects, Gathers}
-use Rattle.gfx_context.specs.States.{ContextView}
+use Rattle.gfx_context.specs.declared.report.FrameReport.{FrameReport}
+use Rattle.gfx_context.specs.Ended.{Collects, Gathers, GivesWhere, IsEnd}
+use Rattle.gfx_context.specs.States.{ContextView, state_of, untouched}
 use Rattle.gfx_context.proofs.Gathers.{of_frame}
 use Rattle.scene_playing.specs.Recording.{HasBegun}
 
@@ -49,3 +54,23 @@ off_begun {L} admits views old new k l none has =
     let after = l.gathered.count in
     let same = ap (λ (x : ContextView L). length x.gathered) has.same in
     omega (arith, before, after, same, none)
+
+-- lines that are played leave the encoders that are off
+pub off_kept : {L : Type 0} (old new : ContextView L) → untouched new ≡ untouched old → new.seat.off ≡ old.seat.off
+off_kept old new e = ap (λ v. v.seat.off) e
+
+-- ---- the end of a frame
+
+none_off_given : {L : Type 0} (given : Bool) (mid new : ContextView L) → GivesWhere given mid new → mid.seat.off ≡ [] → new.seat.off ≡ []
+none_off_given true mid new g none = ap (λ (s : SeatView). s.off) g.seat ∙ none
+none_off_given {L} false mid new g none = ap (λ (c : ContextView L). c.seat.off) g ∙ none
+
+none_off_refused : {L : Type 0} (r : Option Refusal) (mid new : ContextView L)
+    → MatchOption r ((frame_refusal (state_of mid) end_frame ≡ None) × (new ≡ record mid { is_ended = true })) (λ x. (frame_refusal (state_of mid) end_frame ≡ Some x) × (new ≡ mid)) → mid.seat.off ≡ [] → new.seat.off ≡ []
+none_off_refused {L} None mid new e none = ap (λ (c : ContextView L). c.seat.off) e.1 ∙ none
+none_off_refused {L} (Some x) mid new e none = ap (λ (c : ContextView L). c.seat.off) e.1 ∙ none
+
+-- no encoder is off after it
+pub none_off_ended : {L : Type 0} (result : Result FrameReport words.Refusal) (mid new : ContextView L) → IsEnd result mid new → mid.seat.off ≡ [] → new.seat.off ≡ []
+none_off_ended (Ok report) mid new e none = none_off_given report.given mid new e.gives none
+none_off_ended (Err r) mid new e none = none_off_refused (refusal_seen r) mid new e none
