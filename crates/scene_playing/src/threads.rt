@@ -27,6 +27,14 @@ use std::sync::{Arc, Wait};
 use std::thread;
 use std::thread::Threads;
 
+// How many recorders are started: one for each encoder but the first.
+fn recorders(encoders: u8) -> u8
+    requires { 1 ≤ encoders }
+    ensures { result + 1 ≡ encoders }
+{
+    encoders - 1
+}
+
 // The desk is captured by value: what a scope's closure ensures is lost where it captures a reference to a type with a lifetime.
 fn with_recorders<
     't,
@@ -73,9 +81,9 @@ fn with_recorders<
             ensures origin { L.origin result.link ≡ L.origin link }
         {
             let desk = desk;
-            start_all(scope, rt, gate, &desk, scene.encoders - 1);
-            let mut recorders = AtDesk::new(rt, gate, shared, &desk);
-            let played = play_named(&mut recorders, alloc, shared, None, scene, seat, link);
+            start_all(scope, rt, gate, &desk, recorders(scene.encoders));
+            let mut at_desk = AtDesk::new(rt, gate, shared, &desk);
+            let played = play_named(&mut at_desk, alloc, shared, None, scene, seat, link);
             desk.stop();
             played
         },

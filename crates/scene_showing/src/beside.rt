@@ -78,10 +78,10 @@ pub(crate) fn render_beside<P: Sink + Send + Drop, R: Threads + Wait + Sync, G: 
                         outcome,
                         is_whole,
                     } = played;
-                    let mut api = link.into_end();
-                    api.stop();
+                    let mut given = link.into_end();
+                    given.stop();
                     let (renderer, end) = handle.join(rt);
-                    api.close(end);
+                    given.close(end);
                     Ok(Rendered {
                         renderer,
                         journal,
