@@ -366,8 +366,8 @@ fn a_thread_records(rt: HostRuntime) -> Result<(), Fail> {
 }
 
 // The context is shut down while a frame is out, an encoder has ended, and a thread ends another one. What came back.
-fn shut<'r, C: Naming + Send + Sync, R: Threads + Wait + Sync>(
-    rt: &'r R,
+fn shut<C: Naming + Send + Sync, R: Threads + Wait + Sync>(
+    rt: &R,
     alloc: Global,
     table: HoldTable,
     seat: ApiSeat,
@@ -388,7 +388,7 @@ fn shut<'r, C: Naming + Send + Sync, R: Threads + Wait + Sync>(
         {
             open.end(rt, 0);
         },
-        || -> Closed<ListLink<'r, R>>
+        || -> Closed<ListLink<'_, R>>
             ensures table { api_table result.seat ≡ C.table }
             ensures off { (api_view result.seat).off ≡ [] }
         { context.shutdown(rt) },
