@@ -37,22 +37,22 @@ pub(crate) trait Recorders<J, B> {
 
 /// This thread records the first job, and recorder threads the others, which wait at a desk.
 #[derive(Drop)]
-pub(crate) struct AtDesk<'a, 't, C: Naming, R, G> {
-    rt: &'a R,
-    gate: &'a G,
+pub(crate) struct AtDesk<'r, 'g, 'd, 't, C: Naming, R, G> {
+    rt: &'r R,
+    gate: &'g G,
     shared: &'t Shared<C>,
-    desk: &'a Desk<'t, C>,
+    desk: &'d Desk<'t, C>,
     mine: Option<Job<'t, C>>,
 }
 
-impl<'a, 't, C: Naming, R, G> AtDesk<'a, 't, C, R, G> {
+impl<'r, 'g, 'd, 't, C: Naming, R, G> AtDesk<'r, 'g, 'd, 't, C, R, G> {
     /// By a desk, for encoders that end into the queue.
     pub(crate) fn new(
-        rt: &'a R,
-        gate: &'a G,
+        rt: &'r R,
+        gate: &'g G,
         shared: &'t Shared<C>,
-        desk: &'a Desk<'t, C>,
-    ) -> AtDesk<'a, 't, C, R, G> {
+        desk: &'d Desk<'t, C>,
+    ) -> AtDesk<'r, 'g, 'd, 't, C, R, G> {
         AtDesk {
             rt,
             gate,
@@ -63,8 +63,8 @@ impl<'a, 't, C: Naming, R, G> AtDesk<'a, 't, C, R, G> {
     }
 }
 
-impl<'a, 't, C: Naming, R: Wait, G: Gate> Recorders<Job<'t, C>, Bundle<C>>
-    for AtDesk<'a, 't, C, R, G>
+impl<'r, 'g, 'd, 't, C: Naming, R: Wait, G: Gate> Recorders<Job<'t, C>, Bundle<C>>
+    for AtDesk<'r, 'g, 'd, 't, C, R, G>
 {
     ghost owes = { λ s n. Unit {0} };
 
