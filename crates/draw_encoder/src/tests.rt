@@ -286,7 +286,10 @@ fn a_bundle_without_a_queue(rt: HostRuntime) -> Result<(), Fail> {
     let (table, api) = HoldTable::new(rt.alloc(), 0)?;
     let (recording, next) = finished::<Brand>(rt.alloc(), table, api).ok_or("memory")?;
     assert_eq!(rt; (recording.encoder, recording.frame), (3, 0));
-    assert_eq!(rt; (recording.items.as_slice().len(), recording.dropped), (1, 7));
+    assert_eq!(rt;
+        (recording.items.as_slice().len(), recording.dropped),
+        (1, 7)
+    );
     assert_eq!(rt; next, 1, "the first number of the next frame");
     Ok(())
 }

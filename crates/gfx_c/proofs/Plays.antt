@@ -26,8 +26,10 @@ module _ (text : List ℕ) (j : Journal) (shown told : List ℕ) (first second t
   shown_out e p q r s a out = by e out where
     run : Run
     run = played false (λ s. j) text
+
     is : IsPlayed false text run
     is = (j, subst (λ (o : Result Scene Fault). IsLawfulFor j o) (sym a.0.is.1) a.0.lawful, refl)
+
     by : (e : PlayEnd) → AreHandedOut e shown told p q r s → Plays e text p q r s
     by (Done m n) o = (run, is, a.0.done, subst (λ (x : List ℕ). AreHandedOut (Done m n) x run.noted p q r s) (same_Some shown run.pictures a.0.put) (subst (λ (x : List ℕ). AreHandedOut (Done m n) shown x p q r s) (same_Some told run.noted a.1) o))
     by (TooSmall m n) o = (run, is, a.0.done, subst (λ (x : List ℕ). AreHandedOut (TooSmall m n) x run.noted p q r s) (same_Some shown run.pictures a.0.put) (subst (λ (x : List ℕ). AreHandedOut (TooSmall m n) shown x p q r s) (same_Some told run.noted a.1) o))

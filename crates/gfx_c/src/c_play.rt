@@ -7,8 +7,11 @@ use crate::playing::{PlayEnd, Played, play_text};
 use std::alloc::Global;
 
 const OUT_OF_MEMORY: u32 = 17;
+
 const TOO_SMALL: u32 = 103;
+
 const NO_SCENE: u32 = 106;
+
 const TOO_LONG: u32 = 107;
 
 // Tells C how a play ended.

@@ -122,11 +122,7 @@ impl<'t, C: Naming, L: FrameLink + Drop, H: HistoryNaming> ResLock<'t, C, L, H> 
     /// `Ended` exactly where an earlier frame was not given; then `FramesSpent` exactly where the number is 1,073,741,823. A frame that
     /// is not given makes an entry that ends the context, with the outcome of `FrameReport.back`, which is that of the frame that came
     /// back, or with want of memory where the context had none; then the answer is `OutOfMemory`.
-    pub fn frame<R: Wait>(
-        &self,
-        rt: &R,
-        pass: &mut ResPass,
-    ) -> Result<FrameReport, LockRefusal>
+    pub fn frame<R: Wait>(&self, rt: &R, pass: &mut ResPass) -> Result<FrameReport, LockRefusal>
         requires table { pass_table pass.old ≡ H.table }
         requires few { made_by pass.old < 4294967295 }
         ensures pass { IsSamePass pass.old pass.new }

@@ -184,7 +184,10 @@ fn frames_on_one_thread(rt: HostRuntime) -> Result<(), Fail> {
     let mut notes = MemSink::new(alloc, 100, 100, Vec::new(alloc))?;
     let played = play_bytes_here(alloc, false, b"scene 1\nsize 1 x\n", pictures, &mut notes);
     assert_eq!(rt; played.status, Status::Scene { line: 2, cause: 6 });
-    assert_eq!(rt; notes.bytes(), b"scene refused at line 2 for cause 6\n".as_slice());
+    assert_eq!(rt;
+        notes.bytes(),
+        b"scene refused at line 2 for cause 6\n".as_slice()
+    );
     Ok(())
 }
 

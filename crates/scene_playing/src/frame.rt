@@ -137,12 +137,7 @@ fn end_frame<'t, C: Naming, L: FrameLink + Drop, W: Recorders<Job<'t, C>, Bundle
 
 /// Plays the frame whose number the context has: its lines before, the blocks, its lines beside; and ends it. `Err` for want of
 /// memory: then the frame was not given, and encoders that were begun are gathered.
-pub(crate) fn play_frame<
-    't,
-    C: Naming,
-    L: FrameLink + Drop,
-    W: Recorders<Job<'t, C>, Bundle<C>>,
->(
+pub(crate) fn play_frame<'t, C: Naming, L: FrameLink + Drop, W: Recorders<Job<'t, C>, Bundle<C>>>(
     recorders: &mut W,
     alloc: Global,
     order: Option<&Journal>,

@@ -207,12 +207,7 @@ fn rooms(alloc: Global, scene: &Scene) -> Result<(Told, Vec<Option<Handle>>), Al
 }
 
 /// Plays the frames of a scene over a new context.
-pub(crate) fn play_named<
-    't,
-    C: Naming,
-    L: FrameLink + Drop,
-    W: Recorders<Job<'t, C>, Bundle<C>>,
->(
+pub(crate) fn play_named<'t, C: Naming, L: FrameLink + Drop, W: Recorders<Job<'t, C>, Bundle<C>>>(
     recorders: &mut W,
     alloc: Global,
     shared: &'t Shared<C>,

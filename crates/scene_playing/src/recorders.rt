@@ -64,8 +64,7 @@ impl<'r, 'g, 'd, 't, C: Naming, R, G> AtDesk<'r, 'g, 'd, 't, C, R, G> {
 }
 
 impl<'r, 'g, 'd, 't, C: Naming, R: Wait, G: Gate> Recorders<Job<'t, C>, Bundle<C>>
-    for AtDesk<'r, 'g, 'd, 't, C, R, G>
-{
+    for AtDesk<'r, 'g, 'd, 't, C, R, G> {
     ghost owes = { λ s n. Unit {0} };
 
     fn take(&mut self, job: Job<'t, C>) {
