@@ -107,7 +107,7 @@ buffers_last h b (Some t) f = refl
 one_turn : (target : Option Handle) (h : Stores) (b : Buffers) (f : Surface → Surface) (e : Turn) → KeepsSides f → IsApartTarget h target → e.view.target ≡ target → AllByRecursion (λ i. is_blit i ≡ false) e.items
     → after_turn (on_target (with_buffers h b) target f) e
     ≡ on_target (with_buffers h (fold values_after b e.items)) target
-      (λ s. (fold (drawn_in (textures_out target h.textures) h.programs e.view) (record { buffers = b; surface = clear_surface e.view (f s) }) e.items).surface)
+    (λ s. (fold (drawn_in (textures_out target h.textures) h.programs e.view) (record { buffers = b; surface = clear_surface e.view (f s) }) e.items).surface)
 one_turn target h b f e k a same plain = subst goal same own (apart_with h b target a)
   where
     goal : Option Handle → Type 0
@@ -121,7 +121,7 @@ one_turn target h b f e k a same plain = subst goal same own (apart_with h b tar
         ap (λ x. fold (do_by_index e.view) x e.items) (again (with_buffers h b) e.view.target f (clear_surface e.view) k (clear_sides e.view) ap-target)
         ∙ list_after (with_buffers h b) e.view (λ s. clear_surface e.view (f s)) e.items (both_keep f (clear_surface e.view) k (clear_sides e.view)) ap-target plain
         ∙ buffers_over h b (fold values_after b e.items) e.view.target
-          (λ s. (fold (drawn_in (textures_out e.view.target h.textures) h.programs e.view) (record { buffers = b; surface = clear_surface e.view (f s) }) e.items).surface)
+        (λ s. (fold (drawn_in (textures_out e.view.target h.textures) h.programs e.view) (record { buffers = b; surface = clear_surface e.view (f s) }) e.items).surface)
 
 -- views of one target in turn
 from_surface : (target : Option Handle) (h : Stores) (b : Buffers) (f : Surface → Surface) (es : List Turn) → KeepsSides f → IsApartTarget h target
