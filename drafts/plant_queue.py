@@ -17,10 +17,10 @@ while len(done) < len(names):
         except FileExistsError: done.add(name); continue
         with open("/work/h/seed.lock", "w") as lock:
             fcntl.flock(lock, fcntl.LOCK_EX)
-            subprocess.run(["nice", "-n", "10", "python3", "/work/h/drafts/seed.py", "/work/h/plants"], stdout=subprocess.DEVNULL)
+            subprocess.run(["nice", "-n", "10", "python3", "/work/h/seed.py", "/work/h/plants"], stdout=subprocess.DEVNULL)
         t = time.time()
         with os.fdopen(fd, "w") as out:
-            run = subprocess.run(["nice", "-n", os.environ.get("PNICE", "19"), "rt", "plant", "--all", "--minutes", minutes, "--max", "400", "--jobs", "1"], cwd=f"/work/h/plants/crates/{name}", stdout=out, stderr=subprocess.STDOUT)
+            run = subprocess.run(["nice", "-n", open("/work/h/slots/plantnice").read().strip(), "rt", "plant", "--all", "--minutes", minutes, "--max", "400", "--jobs", "1"], cwd=f"/work/h/plants/crates/{name}", stdout=out, stderr=subprocess.STDOUT)
             out.write(f"\nstatus {run.returncode} seconds {time.time()-t:.0f}\n")
         done.add(name); ran = True
         break
