@@ -15,6 +15,3 @@ pub use job::{Job, block_lines};
 pub use lines::record_line;
 pub use steps::Steps;
 pub use threads::{help, serve, start_all};
-
-#[cfg(test)]
-mod tests;

@@ -9,8 +9,6 @@ mod ending;
 mod freeing;
 mod gathering;
 mod marks;
-#[cfg(test)]
-mod tests;
 mod updates;
 mod views;
 

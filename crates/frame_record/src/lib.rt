@@ -14,6 +14,3 @@ pub use gfx_words::JournalEntry;
 pub use link::FrameLink;
 pub use ordering::{OrderedItem, end_of_run};
 pub use placing::{PlacedBlit, end_of_blits};
-
-#[cfg(test)]
-mod tests;

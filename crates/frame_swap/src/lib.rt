@@ -17,8 +17,3 @@ pub use here::{back_here, give_here, return_here};
 pub use view::{
     BackHere, Claim, Give, Law, Learn, Part, Return, Stop, Take, TakeBack, TakeHere, View,
 };
-
-#[cfg(test)]
-mod field_tests;
-#[cfg(test)]
-mod tests;

@@ -9,8 +9,6 @@ mod creates;
 mod ending;
 mod gathering;
 mod report;
-#[cfg(test)]
-mod tests;
 mod updates;
 mod views;
 

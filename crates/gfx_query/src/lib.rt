@@ -24,6 +24,3 @@ pub use counting::{DrawWords, InstanceRoom, count_draw};
 pub use run::run_queries;
 pub use sides::TargetSides;
 pub use status::QueryStatus;
-
-#[cfg(test)]
-mod tests;

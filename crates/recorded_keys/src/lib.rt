@@ -7,6 +7,3 @@ pub mod laws;
 mod marking;
 
 pub use frames::recorded_views;
-
-#[cfg(test)]
-mod tests;

@@ -14,12 +14,3 @@ mod views;
 pub use in_place::InPlaceLink;
 pub use int_raster::{BandRasterizer, Rasterizer, SerialRasterizer};
 pub use renderer::Renderer;
-
-#[cfg(test)]
-mod frame_tests;
-#[cfg(test)]
-mod pass_tests;
-#[cfg(test)]
-mod stray_tests;
-#[cfg(test)]
-mod tests;

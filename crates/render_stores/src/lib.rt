@@ -12,6 +12,3 @@ mod texture_commands;
 pub use commands::execute_all;
 pub use programs::ProgramRow;
 pub use stores::RenderStores;
-
-#[cfg(test)]
-mod tests;

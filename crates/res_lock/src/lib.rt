@@ -12,8 +12,6 @@ mod log;
 mod naming;
 mod state;
 mod table;
-#[cfg(test)]
-mod tests;
 mod things;
 mod view;
 

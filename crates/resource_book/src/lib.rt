@@ -15,8 +15,6 @@ mod settings;
 mod shelf;
 mod stacks;
 mod table;
-#[cfg(test)]
-mod tests;
 mod textures;
 mod updates;
 

@@ -16,6 +16,3 @@ pub use playing::play_lines;
 pub fn places_law()
     ensures { PlacesLaw }
 {}
-
-#[cfg(test)]
-mod tests;

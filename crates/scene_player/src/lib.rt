@@ -15,10 +15,3 @@ mod words;
 pub use played::Played;
 pub use run::play;
 pub use status::Status;
-
-#[cfg(test)]
-mod gated_tests;
-#[cfg(test)]
-mod tests;
-#[cfg(test)]
-mod worked_tests;

@@ -8,8 +8,6 @@ mod in_place;
 mod rendered;
 mod replaying;
 mod showing;
-#[cfg(test)]
-mod tests;
 
 pub use counting::item_counts;
 pub use replaying::replay_scene;

@@ -45,8 +45,3 @@ pub use scene_writing::write;
 pub use sequence::Sequence;
 pub use text::read;
 pub use view_table::Clear;
-
-#[cfg(test)]
-mod journal_tests;
-#[cfg(test)]
-mod tests;

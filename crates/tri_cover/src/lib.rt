@@ -23,6 +23,3 @@ pub use sides::Sides;
 pub use stepping::{Quotient, advanced};
 pub use steps::Steps;
 pub use triangles::Setup;
-
-#[cfg(test)]
-mod tests;

@@ -15,8 +15,6 @@ mod room;
 mod shapes;
 mod still;
 mod targets;
-#[cfg(test)]
-mod tests;
 mod turns;
 mod uniforms;
 mod view_parts;

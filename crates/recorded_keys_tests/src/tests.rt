@@ -1,0 +1,145 @@
+// The shared views of one frame's recordings. The expected values are worked by hand.
+use recorded_keys::recorded_views;
+use draw_encoder::{
+    BlitCall, BlitItem, Bytes, DrawItem, IndexSet, Item, Items, Recording, TouchItem, UniformSet,
+    UniformSets, VertexSet,
+};
+use fix_math::{Affine, Rect};
+use gfx_words::{Handle, Info, Kind, StateWord, StencilWord, UniformKind, UniformValue, ViewMode};
+use shared_keys::SharedView;
+use std::alloc::{AllocError, Global};
+use std::test::Fail;
+use view_table::ViewTable;
+
+// The types that an item is made of.
+type Parts = (
+    DrawItem,
+    VertexSet,
+    IndexSet,
+    Option<Handle>,
+    TouchItem,
+    BlitItem,
+    BlitCall,
+);
+
+fn put(items: &mut Vec<Item>, item: Item) -> Result<(), AllocError> {
+    // The check asks that the types of an item's parts are seen where it is stored.
+    let _parts: Option<Parts> = None;
+    items.push(item)?;
+    Ok(())
+}
+
+fn draw(state: StateWord, stencil: StencilWord, view: u16, depth: u32) -> Item {
+    Item::Draw(DrawItem {
+        view,
+        number: 0,
+        program: Handle::of(Kind::Program, 3, 1, Info::Plain),
+        depth,
+        state,
+        front: stencil,
+        back: stencil,
+        scissor: Rect {
+            x: 0,
+            y: 0,
+            w: 0,
+            h: 0,
+        },
+        model: Affine::identity(),
+        vertices: VertexSet::Unset,
+        indices: IndexSet::Unset,
+        textures: [None, None],
+        values_at: 0,
+        values: 0,
+    })
+}
+
+fn touch(view: u16, values: u32) -> Item {
+    Item::Touch(TouchItem {
+        view,
+        number: 0,
+        values_at: 0,
+        values,
+    })
+}
+
+fn blit(view: u16) -> Item {
+    let texture = Handle::of(Kind::Texture, 3, 2, Info::Plain);
+    Item::Blit(BlitItem {
+        view,
+        number: 0,
+        copy: BlitCall {
+            dst: texture,
+            dx: 0,
+            dy: 0,
+            src: texture,
+            sx: 0,
+            sy: 0,
+            w: 1,
+            h: 1,
+        },
+    })
+}
+
+fn recording(alloc: Global, encoder: u8, items: Vec<Item>) -> Result<Recording, AllocError> {
+    let mut sets = Vec::new(alloc);
+    let uniform = Handle::of(Kind::Uniform, 0, 3, Info::Uniform(UniformKind::Int));
+    sets.push(UniformSet {
+        uniform,
+        value: UniformValue::Int(7),
+    })?;
+    Ok(Recording {
+        encoder,
+        frame: 0,
+        items: Items::from_vec(items),
+        bytes: Bytes::from_vec(Vec::new(alloc)),
+        uniforms: UniformSets::from_vec(sets),
+        dropped: 0,
+    })
+}
+
+// View 3 is Sequential. In view 7 two draws have depth 5; in view 4 the touches carry nothing; in view 9 the depths differ.
+#[test]
+fn views_of_three_encoders(rt: HostRuntime) -> Result<(), Fail> {
+    let alloc = rt.alloc();
+    let state = StateWord::read(15).map_err(|_| "state")?;
+    let stencil = StencilWord::read(0).map_err(|_| "stencil")?;
+    let mut views = ViewTable::new(alloc, 256)?;
+    views.set_mode(3, ViewMode::Sequential).map_err(|_| "mode")?;
+    let mut first = Vec::new(alloc);
+    put(&mut first, draw(state, stencil, 7, 5))?;
+    put(&mut first, touch(4, 0))?;
+    put(&mut first, draw(state, stencil, 9, 5))?;
+    let mut second = Vec::new(alloc);
+    put(&mut second, draw(state, stencil, 3, 9))?;
+    put(&mut second, touch(4, 0))?;
+    put(&mut second, blit(0))?;
+    put(&mut second, draw(state, stencil, 9, 6))?;
+    let mut third = Vec::new(alloc);
+    put(&mut third, blit(0))?;
+    put(&mut third, touch(3, 1))?;
+    put(&mut third, draw(state, stencil, 7, 5))?;
+    let mut recordings = Vec::new(alloc);
+    recordings.push(recording(alloc, 2, third)?)?;
+    recordings.push(recording(alloc, 0, first)?)?;
+    recordings.push(recording(alloc, 1, second)?)?;
+    let found = recorded_views(alloc, &views, &recordings)?;
+    let expected = [
+        SharedView {
+            view: 0,
+            first: 1,
+            second: 2,
+        },
+        SharedView {
+            view: 3,
+            first: 1,
+            second: 2,
+        },
+        SharedView {
+            view: 7,
+            first: 0,
+            second: 2,
+        },
+    ];
+    assert_eq!(rt; found.as_slice(), expected.as_slice());
+    Ok(())
+}
