@@ -7,3 +7,6 @@ mod uniform;
 mod vertices;
 
 pub use store::BufferStore;
+
+#[cfg(test)]
+mod tests;

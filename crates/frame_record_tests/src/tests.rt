@@ -6,13 +6,13 @@ ghost use Rattle.draw_encoder.specs.Seen.{number_of, numbers_of};
 ghost use Rattle.frame_record.specs.Kept.{IsCollectable, numbers_in};
 ghost use Rattle.frame_record.specs.Seen.{recordings_seen};
 
-use frame_record::{Frame, JournalEntry, OrderedItem, PlacedBlit, collect, end_of_run};
 use cmd_buffer::CmdBuffer;
 use draw_encoder::{
     BlitCall, BlitItem, Bytes, DrawItem, IndexSet, Item, Items, Recording, TouchItem, UniformSets,
     VertexSet,
 };
 use fix_math::{Affine, Rect};
+use frame_record::{Frame, JournalEntry, OrderedItem, PlacedBlit, collect, end_of_run};
 use gfx_words::{Handle, Info, Kind, StateWord, StencilWord, ViewMode};
 use std::alloc::{AllocError, Global};
 use std::test::Fail;

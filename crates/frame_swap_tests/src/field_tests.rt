@@ -6,13 +6,13 @@ ghost use Rattle.frame_record.specs.Links.{frames_of};
 ghost use Rattle.frame_record.specs.Seen.{recordings_seen};
 ghost use Rattle.frame_swap.specs.Ends.{api_table, api_knows, render_table, render_knows};
 
-use frame_swap::{ApiEnd, RenderEnd, swap_pair};
 use cmd_buffer::{CmdBuffer, CmdBytes, Command};
 use draw_encoder::{
     BlitCall, BlitItem, Bytes, DrawItem, IndexSet, Item, Items, Recording, TouchItem, UniformSet,
     UniformSets, VertexSet,
 };
 use frame_record::{Frame, FrameLink, Outcome, RenderedFrame, collect};
+use frame_swap::{ApiEnd, RenderEnd, swap_pair};
 use gfx_words::{Handle, Info, Kind, UniformValue, ViewMode};
 use std::alloc::{AllocError, Global};
 use std::snapshot::Snapshot;

@@ -3,9 +3,9 @@ ghost use Rattle.std.specs.Prelude.{◌≡◌, ◌+◌, ◌≤◌, [], length, I
 ghost use Rattle.frame_record.specs.Links.{frames_of};
 ghost use Rattle.frame_swap.specs.Ends.{api_table, api_knows, render_table, render_knows};
 
-use frame_swap::{ApiEnd, RenderEnd, swap_pair};
 use cmd_buffer::CmdBuffer;
 use frame_record::{Frame, FrameLink, Outcome, RenderedFrame};
+use frame_swap::{ApiEnd, RenderEnd, swap_pair};
 use std::snapshot::Snapshot;
 use std::sync::Wait;
 use std::test::Fail;

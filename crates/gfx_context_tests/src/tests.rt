@@ -7,8 +7,8 @@ ghost use Rattle.hold_table.specs.Seats.{table_of, api_table, api_view};
 ghost use Rattle.hold_table.specs.Views.{first_view};
 ghost use Rattle.frame_record.specs.Links.{frames_of};
 
-use gfx_context::*;
 use frame_record::{Frame, FrameLink, Outcome, RenderedFrame};
+use gfx_context::*;
 use gfx_words::{Format, Handle, ProgramKind, Refusal};
 use hold_table::{ApiSeat, HoldTable};
 use resource_book::ResourceCalls;

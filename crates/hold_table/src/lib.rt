@@ -6,3 +6,6 @@ mod table;
 mod view;
 
 pub use table::{ApiSeat, EncSeat, HoldTable};
+
+#[cfg(test)]
+mod tests;

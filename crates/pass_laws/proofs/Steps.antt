@@ -1,16 +1,16 @@
 -- A clear that may be made before a draw.
-use Rattle.std.proofs.Common.{◌≡◌, ◌⊎◌, inl, inr, ℕ, ◌+◌, Bool, true, false, List, [], ◌∷◌, Option, Some, None, refl, sym, ap, ◌∙◌, arith}
+use Rattle.std.proofs.Common.{◌≡◌, inl, inr, ℕ, ◌+◌, Bool, true, false, List, [], ◌∷◌, Option, Some, None, refl, sym, ap, ◌∙◌, arith}
 use Rattle.std.specs.Prelude.{◌&&◌, ◌*◌, ◌/◌, ◌%◌, ◌^◌, not, if◌then◌else◌, fold, filter_map}
 use Rattle.gfx_model.specs.Words.{primitive_of, depth_test_of, writes_depth, on_stencil_fail, on_depth_fail, on_pass}
-use Rattle.gfx_model.specs.Vertex.{Color, VertexRange, IndexRange, triangles_of}
+use Rattle.gfx_model.specs.Vertex.{Color, triangles_of}
 use Rattle.gfx_model.specs.Raster.{Texels, Rect, contains, covers, fragment_at, passes_scissor, view_rect}
 use Rattle.gfx_model.specs.Pixel.{Pixel, Shaded, passes_stencil, passes_depth, stencil_by, stored_color, step_with_depth, pixel_step}
 use Rattle.gfx_model.specs.Views.{View, Clear}
-use Rattle.gfx_model.specs.World.{Surface, Draw, Paint, Facing, painted, is_in_cut, covered_step, facing_step, after_facing, cleared, cleared_color, cleared_depth, cleared_word, clear_surface, on_each_pixel, placed_facing, draw_vertices}
+use Rattle.gfx_model.specs.World.{Surface, Draw, Paint, Facing, painted, is_in_cut, covered_step, facing_step, after_facing, cleared, cleared_color, cleared_depth, cleared_word, clear_surface, placed_facing, draw_vertices}
 use Rattle.store_model.specs.Buffers.{Buffers}
 use Rattle.store_laws.specs.ByIndex.{vertices_at, indices_at}
 use Rattle.store_laws.specs.Listed.{painted_in}
-use Rattle.pass_laws.specs.Passed.{AreApart, ClearsNothing, ClearsBefore}
+use Rattle.pass_laws.specs.Passed.{ClearsNothing, ClearsBefore}
 use Rattle.pass_laws.proofs.Pixels.{Fits, Keeps, each_apart, tested_apart, tested_keeps}
 
 -- ---- what keeps depth words

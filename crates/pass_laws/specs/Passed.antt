@@ -1,5 +1,5 @@
 -- Views of one target that are drawn at one go.
-use Rattle.std.specs.Prelude.{◌≡◌, ◌⊎◌, ℕ, Bool, false, ◌&&◌, List, [], ◌∷◌, fold, Option}
+use Rattle.std.specs.Prelude.{◌≡◌, ◌⊎◌, ℕ, false, ◌&&◌, List, [], ◌∷◌, fold, Option}
 use Rattle.std.specs.List.{AllByRecursion}
 use Rattle.gfx_model.specs.Number.{is_bit_set}
 use Rattle.gfx_model.specs.Words.{ProgramKind, Handle}

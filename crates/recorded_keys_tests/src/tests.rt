@@ -1,11 +1,11 @@
 // The shared views of one frame's recordings. The expected values are worked by hand.
-use recorded_keys::recorded_views;
 use draw_encoder::{
     BlitCall, BlitItem, Bytes, DrawItem, IndexSet, Item, Items, Recording, TouchItem, UniformSet,
     UniformSets, VertexSet,
 };
 use fix_math::{Affine, Rect};
 use gfx_words::{Handle, Info, Kind, StateWord, StencilWord, UniformKind, UniformValue, ViewMode};
+use recorded_keys::recorded_views;
 use shared_keys::SharedView;
 use std::alloc::{AllocError, Global};
 use std::test::Fail;

@@ -1,6 +1,5 @@
 mod Counts
 mod EndedFrames
-mod EnteredParts
 mod OneWay
 mod Parts
 mod Pieces

@@ -3,7 +3,6 @@ ghost use Rattle.std.specs.Prelude.{◌≡◌, ◌<◌, ◌≤◌, length, IfOk}
 ghost use Rattle.schedule_model.specs.Held.{Ascends};
 ghost use Rattle.draw_encoder.specs.Seen.{numbers_of};
 
-use render_core::Renderer;
 use crate::frame_tests::{COLORS, draw, things};
 use crate::tests::{Parts, recorded, row};
 use cmd_buffer::Command;
@@ -13,6 +12,7 @@ use frame_record::Outcome;
 use gfx_words::{Handle, Info, Kind};
 use int_raster::SerialRasterizer;
 use io_edge::MemSink;
+use render_core::Renderer;
 use std::alloc::Global;
 use std::test::Fail;
 use view_table::ViewTable;

@@ -1,7 +1,6 @@
 // Frames that no context makes.
 ghost use Rattle.std.specs.Prelude.{◌≡◌, ◌≤◌, ◌<◌};
 
-use render_core::Renderer;
 use crate::tests::{framed, row};
 use cmd_buffer::Command;
 use draw_encoder::{BlitCall, BlitItem, DrawItem, IndexSet, Item, VertexSet};
@@ -10,6 +9,7 @@ use frame_record::{Frame, Outcome};
 use gfx_words::{Handle, Info, Kind, StateWord, StencilWord};
 use int_raster::SerialRasterizer;
 use io_edge::MemSink;
+use render_core::Renderer;
 use std::alloc::Global;
 use std::test::Fail;
 use vertex_layout::{Attr, AttrType, LayoutBuilder, VertexLayout};

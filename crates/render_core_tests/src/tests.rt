@@ -5,7 +5,6 @@ ghost use Rattle.draw_encoder.specs.Seen.{numbers_of};
 ghost use Rattle.frame_record.specs.Links.{frames_of};
 ghost use Rattle.frame_swap.specs.Ends.{api_table, api_knows, render_table, render_knows};
 
-use render_core::{InPlaceLink, Renderer};
 use cmd_buffer::{CmdBuffer, CmdBytes, Command};
 use draw_encoder::{
     BlitCall, BlitItem, Bytes, DrawItem, IndexSet, Item, Items, Recording, TouchItem, UniformSets,
@@ -17,6 +16,7 @@ use frame_swap::{ApiEnd, RenderEnd, swap_pair};
 use gfx_words::{Handle, Info, Kind, StateWord, StencilWord};
 use int_raster::{BandRasterizer, SerialRasterizer};
 use io_edge::{MemSink, NoGate};
+use render_core::{InPlaceLink, Renderer};
 use std::alloc::{AllocError, Global};
 use std::snapshot::Snapshot;
 use std::sync::Wait;

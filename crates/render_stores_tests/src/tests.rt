@@ -1,7 +1,7 @@
 // Commands executed on stores.
-use render_stores::{RenderStores, execute_all};
 use cmd_buffer::{CmdBuffer, CmdBytes, Command};
 use gfx_words::{Kind, ProgramKind};
+use render_stores::{RenderStores, execute_all};
 use std::alloc::{AllocError, Global};
 use std::test::Fail;
 

@@ -12,12 +12,12 @@ ghost use Rattle.res_lock.specs.Seats.{table_of, pass_table, pass_view, made_by,
 ghost use Rattle.res_lock.specs.Views.{first_view};
 ghost use Rattle.res_lock.specs.Called.{IsSamePass};
 
-use res_lock::*;
 use fix_math::{Affine, Rect};
 use frame_record::{Frame, FrameLink, Outcome, RenderedFrame};
 use gfx_context::{Context, Naming, Shared, Start};
 use gfx_words::{Format, Handle, ProgramKind, Refusal, Room, TexSource, UniformKind, ViewMode};
 use hold_table::{ApiSeat, HoldTable};
+use res_lock::*;
 use std::alloc::Global;
 use std::marker::Brand;
 use std::snapshot::Snapshot;

@@ -1,9 +1,9 @@
 // The calls from outside: handles, refusals, references and holders.
 ghost use Rattle.std.specs.Prelude.{◌≤◌};
 
-use resource_book::{Book, Start, Work};
 use fix_math::Rect;
 use gfx_words::{Format, Handle, Info, Kind, ProgramKind, Refusal, UniformKind};
+use resource_book::{Book, Start, Work};
 use std::alloc::{AllocError, Global};
 use texture_store::TexSource;
 use vertex_layout::{Attr, AttrType, LayoutBuilder};

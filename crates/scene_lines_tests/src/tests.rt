@@ -1,10 +1,10 @@
 // Lines on a book, from outside.
 ghost use Rattle.std.specs.Prelude.{◌≡◌, ◌≤◌, length};
 
-use scene_lines::play_lines;
 use fix_math::{Affine, Rect};
 use gfx_words::{Format, Handle, Info, Kind, ProgramKind, TexSource, UniformKind, ViewMode};
 use resource_book::{Book, Start};
+use scene_lines::play_lines;
 use scene_text::{LayoutPart, ResLine, SceneName, Sequence};
 use std::alloc::{AllocError, Global};
 use std::process::Abort;

@@ -1,7 +1,7 @@
 // Gates that hold a thread until another one came: recorders run beside each other and beside this thread, and the renderer beside
 // the play. The expected pictures are those of the schedule that a gate forces.
-use scene_player::*;
 use io_edge::{Gate, MemSink, MemSource};
+use scene_player::*;
 use std::alloc::{AllocError, Global};
 use std::sync::Wait;
 use std::sync::atomic::{AtomicU32, Ordering};

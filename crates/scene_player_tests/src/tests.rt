@@ -1,6 +1,6 @@
 // Runs in memory: what is refused, what fails, and what ends well.
-use scene_player::*;
 use io_edge::{MemSink, MemSource, NoGate};
+use scene_player::*;
 use std::alloc::{AllocError, Global};
 use std::sync::Wait;
 use std::test::Fail;

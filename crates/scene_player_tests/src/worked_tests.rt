@@ -1,6 +1,6 @@
 // Worked runs in memory, whose pictures and notes are known: by hand, or by another program.
-use scene_player::*;
 use io_edge::{MemSink, MemSource, NoGate};
+use scene_player::*;
 use std::alloc::{AllocError, Global};
 use std::sync::Wait;
 use std::test::Fail;

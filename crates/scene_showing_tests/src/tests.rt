@@ -1,6 +1,6 @@
 // Scenes shown, by their texts.
-use scene_showing::{End, item_counts, show_scene};
 use io_edge::{MemSink, NoGate};
+use scene_showing::{End, item_counts, show_scene};
 use scene_text::read;
 use std::test::Fail;
 

@@ -1,8 +1,10 @@
 -- What is tested and read of digits of sixteen is what the definition reads.
-use Rattle.std.proofs.Common.{◌≡◌, ℕ, zero, suc, ◌+◌, ◌*◌, ◌-◌, ◌%◌, ◌<◌, ◌≤◌, nat_le, Bool, true, false, ◌&&◌, ◌||◌, cond, List, [], ◌∷◌, ◌++◌, length, take, drop, get_or, slice_set, Option, Some, None, Ok, Err, refl, ap, sym, ◌∙◌, arith}
+use Rattle.std.proofs.Common.{◌≡◌, ℕ, zero, suc, ◌+◌, ◌*◌, ◌-◌, ◌%◌, ◌<◌, ◌≤◌, nat_le, leb, Bool, true, false, ◌&&◌, ◌||◌, cond, List, [], ◌∷◌, ◌++◌, map, length, take, drop, replicate, get_or, slice_set, Option, Some, None, Ok, Err, w8, refl, ap, sym, subst, ◌∙◌, arith, take-add}
 use Rattle.std.specs.List.{list_all}
 use Rattle.std.proofs.lemmas.Bool.Decides.{nat_tests}
 use Rattle.std.proofs.lemmas.List.{append_assoc, append-nil, drop_all, length-drop, get_or-drop, drop-drop, take_more_set, take_all}
+use Rattle.std.proofs.lemmas.Simd.{zip2_splat, tops_compared, length-chunk, take_more_put_chunk}
+use lib.Lanes.{zip2, sel_l, pick_l, chunk, put_chunk, top}
 use Rattle.scene_model.specs.Field.{Read, ◌>>=◌, hex_value, hex_byte, hex_pairs, joined, misspelt}
 use Rattle.scene_text.specs.Digits.{is_hex, digit_of, pair_of, pairs_of}
 
@@ -113,3 +115,73 @@ pairs_end xs out i whole l le e =
 -- a vector whose every byte was written
 pub written_whole : (new items : List ℕ) (len : ℕ) → length new ≡ len → length items ≡ len → take len (new ++ drop (length new) items) ≡ new
 written_whole new items len n i = ap (λ ys. take len (new ++ ys)) (drop_all (length new) items (omega (arith, n, i))) ∙ ap (take len) (append-nil new) ∙ take_all len new (omega (arith, n))
+
+-- ---- sixteen pairs at a time
+
+sel_maps : (p : ℕ → Bool) (f g : ℕ → ℕ) (xs : List ℕ) → sel_l (map p xs) (map f xs) (map g xs) ≡ map (λ x. cond (p x) (f x) (g x)) xs
+sel_maps p f g [] = refl
+sel_maps p f g (x ∷ xs) = ap (λ r. cond (p x) (f x) (g x) ∷ r) (sel_maps p f g xs)
+
+sel_of_maps : (p : ℕ → Bool) (f g : ℕ → ℕ) (vs : List ℕ) {ms : List Bool} {xs ys : List ℕ} → ms ≡ map p vs → xs ≡ map f vs → ys ≡ map g vs → sel_l ms xs ys ≡ map (λ x. cond (p x) (f x) (g x)) vs
+sel_of_maps p f g vs m x y = (λ j. sel_l (m j) (x j) (y j)) ∙ sel_maps p f g vs
+
+-- a lane is compared, and one of two numbers is taken from it
+pub lanes_right : (v : List ℕ) → length v ≡ 16 → sel_l (map (top 7) (zip2 (λ a b. cond (leb a b) 255 0) v (replicate 16 57))) (zip2 (λ a b. (a + (256 - b)) % 256) v (replicate 16 48)) (zip2 (λ a b. (a + (256 - b)) % 256) v (replicate 16 87)) ≡ map digit_of v
+lanes_right v long =
+    sel_of_maps (λ x. leb x 57) (λ x. (x + 208) % 256) (λ x. (x + 169) % 256) v (tops_compared w8 leb v (replicate 16 57) ∙ zip2_splat leb v 16 57 long) (zip2_splat {Y = ℕ} (λ a b. (a + (256 - b)) % 256) v 16 48 long)
+    (zip2_splat {Y = ℕ} (λ a b. (a + (256 - b)) % 256) v 16 87 long)
+
+-- every second place
+steps : ℕ → ℕ → List ℕ
+steps i zero = []
+steps i (suc n) = i ∷ steps (i + 2) n
+
+-- pairs that are picked by their places
+picked : (xs : List ℕ) (i n : ℕ) → length xs ≡ i + 2 * n → map (λ k. pair_of (get_or xs k 0) (get_or xs (k + 1) 0)) (steps i n) ≡ pairs_of (drop i xs)
+unfolding steps
+picked xs i zero e = sym (no_pair (drop i xs) (omega (arith, length-drop i xs, e)))
+picked xs i (suc n) e =
+    let two : 2 ≤ length (drop i xs) = omega (arith, length-drop i xs, e) in
+    let none : i ≡ i + 0 = omega arith in
+    let first : get_or xs i 0 ≡ get_or (drop i xs) 0 0 = ap (λ k. get_or xs k 0) none ∙ sym (get_or-drop i xs 0 0) in
+    let second : get_or xs (i + 1) 0 ≡ get_or (drop i xs) 1 0 = sym (get_or-drop i xs 1 0) in
+    let rest : map (λ k. pair_of (get_or xs k 0) (get_or xs (k + 1) 0)) (steps (i + 2) n) ≡ pairs_of (drop 2 (drop i xs)) = picked xs (i + 2) n (omega (arith, e)) ∙ ap pairs_of (sym (drop-drop 2 i xs)) in
+    (λ j. pair_of (first j) (second j) ∷ rest j) ∙ sym (pair_next (drop i xs) 0 two)
+
+-- the first digits of sixteen pairs, and the second ones, make their bytes
+pub lanes_joined : (xs high low : List ℕ) → length xs ≡ 32 → high ≡ map digit_of (pick_l 0 xs (0 ∷ 2 ∷ 4 ∷ 6 ∷ 8 ∷ 10 ∷ 12 ∷ 14 ∷ 16 ∷ 18 ∷ 20 ∷ 22 ∷ 24 ∷ 26 ∷ 28 ∷ 30 ∷ []))
+    → low ≡ map digit_of (pick_l 0 xs (1 ∷ 3 ∷ 5 ∷ 7 ∷ 9 ∷ 11 ∷ 13 ∷ 15 ∷ 17 ∷ 19 ∷ 21 ∷ 23 ∷ 25 ∷ 27 ∷ 29 ∷ 31 ∷ []))
+    → zip2 (λ a b. (a + b) % 256) (zip2 (λ a b. a * b % 256) high (replicate 16 16)) low ≡ pairs_of xs
+unfolding steps
+lanes_joined xs high low long h l = (λ j. zip2 (λ a b. (a + b) % 256) (zip2 (λ a b. a * b % 256) (h j) (replicate 16 16)) (l j)) ∙ picked xs 0 16 (omega (arith, long))
+
+-- two vectors behind each other
+pub two_chunks : (xs : List ℕ) (i : ℕ) → chunk i 16 xs ++ chunk (i + 16) 16 xs ≡ chunk i 32 xs
+two_chunks xs i = ap (λ ys. chunk i 16 xs ++ take 16 ys) (sym (drop-drop 16 i xs)) ∙ sym (take-add 16 16 (drop i xs))
+
+pairs_long : (xs : List ℕ) (n : ℕ) → length xs ≡ 2 * n → length (pairs_of xs) ≡ n
+pairs_long [] n e = omega (arith, e)
+pairs_long (a ∷ []) n e = absurd (omega (arith, e))
+pairs_long (a ∷ b ∷ xs) zero e = absurd (omega (arith, e))
+pairs_long (a ∷ b ∷ xs) (suc n) e = omega (arith, pairs_long xs n (omega (arith, e)))
+
+cut_step : (n : ℕ) (xs : List ℕ) → ((ys : List ℕ) → pairs_of (take n ys) ++ pairs_of (drop n ys) ≡ pairs_of ys) → pairs_of (take (suc (suc n)) xs) ++ pairs_of (drop (suc (suc n)) xs) ≡ pairs_of xs
+cut_step n [] h = refl
+cut_step n (a ∷ []) h = refl
+cut_step n (a ∷ b ∷ xs) h = ap (λ r. pair_of a b ∷ r) (h xs)
+
+-- an even number of digits, and those behind them
+pairs_cut : (n : ℕ) (xs : List ℕ) → pairs_of (take (2 * n) xs) ++ pairs_of (drop (2 * n) xs) ≡ pairs_of xs
+pairs_cut zero xs = refl
+pairs_cut (suc n) xs = let two : suc (suc (2 * n)) ≡ 2 * suc n = omega arith in subst (λ m. pairs_of (take m xs) ++ pairs_of (drop m xs) ≡ pairs_of xs) two (cut_step (2 * n) xs (pairs_cut n))
+
+-- sixteen pairs more are put
+pub sixteen_more : (xs out v : List ℕ) (i : ℕ) (whole : List ℕ) → length xs ≡ 2 * length out → i + 16 ≤ length out → v ≡ pairs_of (chunk (2 * i) 32 xs) → take i out ++ pairs_of (drop (2 * i) xs) ≡ whole
+    → take (i + 16) (put_chunk i out v) ++ pairs_of (drop (2 * (i + 16)) xs) ≡ whole
+sixteen_more xs out v i whole l le is e =
+    let long : length v ≡ 16 = ap length is ∙ pairs_long (chunk (2 * i) 32 xs) 16 (length-chunk (2 * i) 32 xs (omega (arith, l, le))) in
+    let k : 2 * i + 32 ≡ 2 * (i + 16) = omega arith in
+    let ahead : drop (2 * (i + 16)) xs ≡ drop 32 (drop (2 * i) xs) = ap (λ n. drop n xs) (sym k) ∙ sym (drop-drop 32 (2 * i) xs) in
+    ap (λ ys. ys ++ pairs_of (drop (2 * (i + 16)) xs)) (take_more_put_chunk i out v (i + 16) (omega (arith, long)) le) ∙ append_assoc (take i out) v (pairs_of (drop (2 * (i + 16)) xs))
+    ∙ ap (λ ys. take i out ++ ys) ((λ j. is j ++ pairs_of (ahead j)) ∙ pairs_cut 16 (drop (2 * i) xs))
+    ∙ e

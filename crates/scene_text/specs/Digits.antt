@@ -1,13 +1,13 @@
 -- Digits of sixteen as the code tests and reads them.
-use Rattle.std.specs.Prelude.{ℕ, ◌+◌, ◌*◌, ◌%◌, ◌-◌, nat_le, Bool, true, false, ◌&&◌, ◌||◌, if◌then◌else◌, List, [], ◌∷◌}
+use Rattle.std.specs.Prelude.{ℕ, ◌+◌, ◌*◌, ◌%◌, nat_le, Bool, true, false, ◌&&◌, ◌||◌, if◌then◌else◌, List, [], ◌∷◌}
 
 -- 0 to 9, a to f
 abbrev pub is_hex : ℕ → Bool
 is_hex b = (nat_le 48 b && nat_le b 57) || (nat_le 97 b && nat_le b 102)
 
--- the value of a byte that is a digit
+-- the value of a byte that is a digit, below 256 for any byte
 abbrev pub digit_of : ℕ → ℕ
-digit_of b = if nat_le b 57 then b - 48 else b - 87
+digit_of b = if nat_le b 57 then (b + 208) % 256 else (b + 169) % 256
 
 -- the byte of two digits
 abbrev pub pair_of : ℕ → ℕ → ℕ

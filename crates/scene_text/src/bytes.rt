@@ -1,5 +1,5 @@
 // Bytes and colours.
-ghost use Rattle.std.specs.Prelude.{◌≡◌, ◌*◌, length};
+ghost use Rattle.std.specs.Prelude.{◌≡◌, ◌+◌, ◌*◌, ◌≤◌, ◌++◌, map, length, take, drop};
 ghost use Rattle.std.specs.List.{list_all};
 ghost use Rattle.scene_model.specs.Field.{hex_byte, hex_pairs, hex_bytes, color_field, source_field};
 ghost use Rattle.scene_text.specs.Digits.{is_hex, digit_of, pair_of, pairs_of};
@@ -11,6 +11,7 @@ use crate::sequence::Sequence;
 use crate::words::is;
 use gfx_words::TexSource;
 use std::alloc::Global;
+use std::simd::prelude::*;
 
 /// Whether a byte is a digit of sixteen: 0 to 9 or a to f.
 #[inline(always)]
@@ -26,9 +27,9 @@ fn digit_of(byte: u8) -> u8
     ensures { result ≡ digit_of byte }
 {
     if byte <= b'9' {
-        byte.saturating_sub(48)
+        byte.wrapping_sub(48)
     } else {
-        byte.saturating_sub(87)
+        byte.wrapping_sub(87)
     }
 }
 
@@ -78,14 +79,57 @@ fn all_hex(digits: &[u8]) -> bool
     all
 }
 
-/// Puts the bytes of pairs of digits in their places.
+/// The values of sixteen digits.
+#[inline(always)]
+fn digits_of(digits: u8x16) -> u8x16
+    ensures { result ≡ map digit_of digits }
+{
+    digits
+        .simd_le(u8x16::splat(b'9'))
+        .select(digits - u8x16::splat(48), digits - u8x16::splat(87))
+}
+
+/// The bytes of the sixteen pairs of digits from a place on.
+#[inline(always)]
+fn sixteen_pairs(digits: &[u8], from: usize) -> u8x16
+    requires { from + 32 ≤ length digits.now }
+    ensures { result ≡ pairs_of (take 32 (drop from digits.now)) }
+{
+    let first = u8x16::from_slice(&digits[from..]);
+    let second = u8x16::from_slice(&digits[from + 16..]);
+    let high = digits_of(first.shuffle(
+        second,
+        [0, 2, 4, 6, 8, 10, 12, 14, 16, 18, 20, 22, 24, 26, 28, 30],
+    ));
+    let low = digits_of(first.shuffle(
+        second,
+        [1, 3, 5, 7, 9, 11, 13, 15, 17, 19, 21, 23, 25, 27, 29, 31],
+    ));
+    high * u8x16::splat(16) + low
+}
+
+/// Puts the bytes of pairs of digits in their places, those before a place being there.
+fn put_rest(digits: &[u8], bytes: &mut [u8], from: usize)
+    requires sized { length digits.now ≡ 2 * length bytes.old }
+    requires begun { take from bytes.old ++ pairs_of (drop (2 * from) digits.now) ≡ pairs_of digits.now }
+    ensures { bytes.new ≡ pairs_of digits.now }
+{
+    for place in from..bytes.len() {
+        bytes[place] = pair_of(digits[2 * place], digits[2 * place + 1]);
+    }
+}
+
+/// Puts the bytes of pairs of digits in their places, sixteen at a time as far as they go.
 fn put_pairs(digits: &[u8], bytes: &mut [u8])
     requires { length digits.now ≡ 2 * length bytes.old }
     ensures { bytes.new ≡ pairs_of digits.now }
 {
-    for place in 0..bytes.len() {
-        bytes[place] = pair_of(digits[2 * place], digits[2 * place + 1]);
+    let mut from = 0;
+    while bytes.len() - from >= 16 {
+        sixteen_pairs(digits, 2 * from).copy_to_slice(&mut bytes[from..]);
+        from += 16;
     }
+    put_rest(digits, bytes, from);
 }
 
 /// The bytes of pairs of digits.

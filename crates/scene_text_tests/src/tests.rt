@@ -341,6 +341,57 @@ fn every_form_is_written_as_it_is_read(rt: HostRuntime) -> Result<(), Fail> {
     Ok(())
 }
 
+// The bytes from 00 to 27 in digits of sixteen.
+const DIGITS: &[u8] =
+    b"000102030405060708090a0b0c0d0e0f101112131415161718191a1b1c1d1e1f2021222324252627";
+
+// Bytes of a field that are no digits, the neighbours of digits among them.
+const NO_DIGITS: &[u8] = b"!/:@AF`g~";
+
+/// An `ib` line of these digits.
+fn index_line(alloc: Global, digits: &[u8]) -> Result<Vec<u8>, AllocError> {
+    let mut line = Vec::from_slice(alloc, b"ib i ")?;
+    line.extend_from_slice(digits)?;
+    Ok(line)
+}
+
+// Whole sixteens of bytes, and rests of each length.
+#[test]
+fn bytes_are_written_as_they_are_read(rt: HostRuntime) -> Result<(), Fail> {
+    let alloc = rt.alloc();
+    for count in 1..41usize {
+        let end = DIGITS.len().min(2 * count);
+        let line = index_line(alloc, &DIGITS[..end])?;
+        let text = changed(alloc, 5, &line)?;
+        let scene = read_small(alloc, &text)?;
+        let written = write(alloc, &scene)?;
+        let wanted = with_room(alloc, &text)?;
+        assert_eq!(rt; written.as_slice(), wanted.as_slice(), "{count}");
+    }
+    Ok(())
+}
+
+/// The fault of a text with another byte in place of one of the digits.
+fn digit_fault(alloc: Global, place: usize, byte: u8) -> Result<Option<(u32, u8)>, AllocError> {
+    let mut digits = Vec::from_slice(alloc, DIGITS)?;
+    if let Some(digit) = digits.get_mut(place) {
+        *digit = byte;
+    }
+    let line = index_line(alloc, &digits)?;
+    Ok(changed_fault(alloc, 5, &line))
+}
+
+#[test]
+fn each_digit_is_tested(rt: HostRuntime) -> Result<(), Fail> {
+    for byte in NO_DIGITS {
+        for place in 0..DIGITS.len() {
+            let found = digit_fault(rt.alloc(), place, *byte)?;
+            assert_eq!(rt; found, Some((5, 11)), "{place}");
+        }
+    }
+    Ok(())
+}
+
 static TWO_FRAMES: &[u8] =
     b"scene 2\nsize 3 4\nencoders 2\nroom 10 20 30\nlatency 2\nframe\nview 511 clear 3 01020304 5 0\nencoder 0\ntouch 0\nencoder 1\ntouch 511\nbeside\nview 0 clear 1 ff0000ff 0 0\nframe\nencoder 1\ntouch 1\ndone\n";
 

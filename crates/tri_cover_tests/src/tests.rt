@@ -1,8 +1,8 @@
 // Placed vertices and covered columns that were worked out by hand, and ramps beside the exact means.
-use tri_cover::{ScreenVertex, Setup, place};
 use fix_math::{Affine, Point, Rect};
 use std::process::Abort;
 use std::test::Fail;
+use tri_cover::{ScreenVertex, Setup, place};
 use vertex_layout::Vertex;
 
 const SQUARE: Rect = Rect {

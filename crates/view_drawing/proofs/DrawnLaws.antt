@@ -19,7 +19,7 @@ use Rattle.int_raster.specs.Drawing.{PreparedDraw, drawn_prepared}
 use Rattle.view_drawing.specs.Entered.{blit_in, StopsAtBlit, StopsAtDraw, HaveGiven, IsBegun}
 use Rattle.view_drawing.specs.Memory.{CanDraw}
 use Rattle.view_drawing.specs.Prepared.{DoAllTo}
-use Rattle.view_drawing.proofs.TargetLaws.{surface_with, put_changed, not_taken}
+use Rattle.view_drawing.proofs.TargetLaws.{surface_with, put_changed}
 
 -- ---- the buffers of a list
 
@@ -63,13 +63,6 @@ listed_taken h ts b s t p textures there e is =
       textures = put_changed h.textures textures t.index p (surface_after (Some t) h ts) s there (ap (λ (x : Drawing). x.surface) (sym e)) is j;
       programs = h.programs;
     }
-
--- where they cannot be taken out
-pub listed_not_taken : (h : Stores) (ts : List Turn) (b : Buffers) (t : Handle) (textures : Textures)
-    → target_texels h.textures t.index ≡ None → textures ≡ target_out t.index h.textures → b ≡ all_values h.buffers ts
-    → record { back = h.back; buffers = b; textures = textures; programs = h.programs } ≡ all_listed (Some t) h ts
-listed_not_taken h ts b t textures none is values =
-    λ j. record { back = h.back; buffers = values j; textures = not_taken h.textures textures t.index (surface_after (Some t) h ts) none is j; programs = h.programs }
 
 -- ---- a frame buffer's textures are two
 

@@ -1,4 +1,3 @@
-mod ApartLaws
 mod Blocks
 mod Clears
 mod CutLaws

@@ -30,10 +30,7 @@ pub step_more : {X Y B : Type 0} (f : B → Y → B) (g : X → Y) (first mid la
 step_more f g first mid last xs i x within is before one =
     one ∙ ap (λ b. f b (g x)) before ∙ sym (ap (fold f first) (map_more g xs i x within is) ∙ fold-append f first (map g (take i xs)) (g x ∷ []))
 
-pub take_one : {X : Type 0} (xs : List X) (x : X) → 0 < length xs → x ≡ get_or xs 0 x → take 1 xs ≡ x ∷ []
-take_one [] x within is = absurd (omega (arith, within))
-take_one (y ∷ xs) x within is = ap (λ z. z ∷ []) (sym is)
-
+-- a list without elements
 abbrev nothing : {X : Type 0} → List X
 nothing = []
 

@@ -3,7 +3,6 @@ ghost use Rattle.std.specs.Prelude.{◌≡◌, ◌≤◌, ◌∷◌, ◌++◌, [
 ghost use Rattle.schedule_model.specs.Held.{Ascends};
 ghost use Rattle.draw_encoder.specs.Seen.{number_of, numbers_of};
 
-use view_drawing::{DrawingRoom, enter_view};
 use cmd_buffer::CmdBuffer;
 use draw_encoder::{
     BlitCall, BlitItem, Bytes, DrawItem, IndexSet, Item, Items, Recording, TouchItem, UniformSet,
@@ -21,6 +20,7 @@ use std::process::Abort;
 use std::test::Fail;
 use texture_store::TexelSource;
 use vertex_layout::{Attr, AttrType, LayoutBuilder};
+use view_drawing::{DrawingRoom, enter_view};
 use view_table::{Clear, View, ViewTable};
 
 // The types that an item is made of.

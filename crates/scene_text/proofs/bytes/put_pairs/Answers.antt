@@ -1,13 +1,14 @@
 use Rattle.std.proofs.Common.{◌*◌, ap, sym, ◌∙◌, arith}
-use Rattle.std.proofs.lemmas.List.{length-set}
-use Rattle.scene_text.proofs.HexDigits.{pairs_more, pairs_end}
+use Rattle.std.proofs.lemmas.Simd.{length-put_chunk}
+use Rattle.scene_text.proofs.HexDigits.{sixteen_more}
 use Rattle.scene_text.proofs.bytes.put_pairs.Goals as goal
 
-pub loop-place-preserved : goal.loop-place-preserved
-loop-place-preserved c = record {
-  pairs = rw c.pair_of.ensures (pairs_more c.args.digits.now c.loop-place.bytes c.loop-place.place 0 _ c.loop-place.invariant.length (omega (arith, c.loop-place-test.true, c.loop-place.auto.bytes)) c.loop-place.invariant.pairs);
-  length = c.loop-place.invariant.length ∙ ap (λ n. 2 * n) (sym (length-set c.loop-place.bytes c.loop-place.place c.pair_of.result));
-}
-
-pub returns : goal.returns
-returns c = pairs_end c.args.digits.now c.loop-place.bytes c.loop-place.place _ c.loop-place.invariant.length (omega (arith, c.loop-place-test.false, c.loop-place.auto.bytes)) c.loop-place.invariant.pairs
+pub loop-bytes-preserved : goal.loop-bytes-preserved
+loop-bytes-preserved c =
+    let l = c.loop-bytes in
+    let v = c.sixteen_pairs.result in
+    record {
+      within = omega (arith, length-put_chunk l.from l.bytes v, c.loop-bytes-test.true);
+      sized = l.invariant.sized ∙ ap (λ n. 2 * n) (sym (length-put_chunk l.from l.bytes v));
+      pairs = sixteen_more c.args.digits.now l.bytes v l.from _ l.invariant.sized (omega (arith, c.loop-bytes-test.true)) c.sixteen_pairs.ensures l.invariant.pairs;
+    }
