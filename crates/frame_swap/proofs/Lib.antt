@@ -5,3 +5,4 @@ pub mod Slots
 pub mod WholeSeat
 pub mod Events
 pub mod Parts
+mod Fours
