@@ -1,6 +1,6 @@
 // What no clause says at once: when an index comes again, and what encoders answer to the program that had it; the limits; who
 // holds a texture; a thread that records while a frame ends, or while the context does; and an encoder that is begun again.
-ghost use Rattle.std.specs.Prelude.{◌≡◌, ◌≤◌, ◌+◌, ◌++◌, ℕ, List, [], map};
+ghost use Rattle.std.specs.Prelude.{◌≡◌, ◌≤◌, ◌+◌, ◌++◌, ℕ, List, [], map, false, IfSome};
 ghost use Rattle.gfx_model.specs.Views.{fewest_views};
 ghost use Rattle.gfx_model.specs.World.{Item as SeenItem};
 ghost use Rattle.hold_table.specs.Seats.{table_of, api_table, api_view};
@@ -30,7 +30,8 @@ const ROOM: Room = Room {
 
 // Frames wait in a list, and come back as shown, the oldest first.
 #[derive(Drop)]
-struct ListLink {
+struct ListLink<'r, R> {
+    rt: &'r R,
     latency: u8,
     out: Vec<Frame>,
     backs: Vec<Snapshot<RenderedFrame>>,
@@ -44,7 +45,7 @@ fn wait<R: Wait>(rt: &R)
     unreachable!()
 }
 
-impl FrameLink for ListLink {
+impl<'r, R: Wait> FrameLink for ListLink<'r, R> {
     ghost use Rattle.std.specs.Prelude.{map, ◌++◌};
     ghost use Rattle.frame_record.specs.Links.{frames_of};
 
@@ -58,44 +59,45 @@ impl FrameLink for ListLink {
 
     ghost origin = { λ l. tt };
 
-    fn give<R: Threads + Wait + Sync>(&mut self, rt: &R, frame: Frame) {
+    fn give(&mut self, frame: Frame) {
         if self.out.push(frame).is_err() {
-            wait(rt);
+            wait(self.rt);
         }
     }
 
-    fn try_take_back<R: Wait>(&mut self, rt: &R) -> Option<RenderedFrame> {
-        let _ = rt;
+    fn try_take_back(&mut self) -> Option<RenderedFrame> {
         None
     }
 
-    fn take_back<R: Threads + Wait + Sync>(&mut self, rt: &R) -> RenderedFrame {
+    fn take_back(&mut self) -> RenderedFrame {
         let frame = self.out.remove(0);
         let rendered = RenderedFrame {
             frame,
             outcome: Outcome::Shown,
         };
         if self.backs.push(Snapshot::of(&rendered)).is_err() {
-            wait(rt);
+            wait(self.rt);
         }
         rendered
     }
 }
 
-fn begun<'t, C: Naming>(
+fn begun<'t, 'r, C: Naming, R: Wait>(
+    rt: &'r R,
     alloc: Global,
     shared: &'t Shared<C>,
     seat: ApiSeat,
     frame: u32,
     serial: u32,
     latency: u8,
-) -> Option<Context<'t, C, ListLink>>
+) -> Option<Context<'t, C, ListLink<'r, R>>>
     requires table { api_table seat ≡ C.table }
     requires seat { api_view seat ≡ first_view frame }
     requires frame { frame ≤ 1073741823 }
     requires serial { 1 ≤ serial }
     requires views { C.views ≡ fewest_views }
     requires latency { (1 ≤ latency) × (latency ≤ 3) }
+    ensures new { IfSome result (λ c. (c.is_ended ≡ false) × (c.seat.off ≡ [])) }
 {
     let start = Start {
         frame,
@@ -104,6 +106,7 @@ fn begun<'t, C: Naming>(
         latency,
     };
     let link = ListLink {
+        rt,
         latency,
         out: Vec::new(alloc),
         backs: Vec::new(alloc),
@@ -112,8 +115,8 @@ fn begun<'t, C: Naming>(
 }
 
 // The answer to a begin, and to the end of a frame, where the context is not ended.
-fn begun_one<'t, C: Naming>(
-    context: &mut Context<'t, C, ListLink>,
+fn begun_one<'t, C: Naming, R: Wait>(
+    context: &mut Context<'t, C, ListLink<'_, R>>,
 ) -> Option<Result<Encoder<'t, C>, Refusal>> {
     if context.is_ended() {
         return None;
@@ -121,9 +124,9 @@ fn begun_one<'t, C: Naming>(
     Some(context.begin(ROOM))
 }
 
-fn ended<C: Naming, R: Threads + Wait + Sync>(
+fn ended<C: Naming, R: Wait>(
     rt: &R,
-    context: &mut Context<'_, C, ListLink>,
+    context: &mut Context<'_, C, ListLink<'_, R>>,
 ) -> Option<Result<FrameReport, Refusal>> {
     if context.is_ended() {
         return None;
@@ -144,7 +147,7 @@ fn made_again<C: Naming, R: Threads + Wait + Sync>(
     requires latency { (1 ≤ latency) × (latency ≤ 3) }
 {
     let shared = Shared::<C>::new(alloc, table).ok()?;
-    let mut context = begun(alloc, &shared, seat, 0, 1, latency)?;
+    let mut context = begun(rt, alloc, &shared, seat, 0, 1, latency)?;
     let first = context.create_program(ProgramKind::Solid).ok()?;
     context.destroy(first).ok()?;
     let mut indices = [0u16; 4];
@@ -189,7 +192,7 @@ fn dead_program<C: Naming, R: Threads + Wait + Sync>(
     requires admits { (e f d : ℕ) (items : List SeenItem) → C.admits e f items d }
 {
     let shared = Shared::<C>::new(alloc, table).ok()?;
-    let mut context = begun(alloc, &shared, seat, 0, 1, 1)?;
+    let mut context = begun(rt, alloc, &shared, seat, 0, 1, 1)?;
     let program = context.create_program(ProgramKind::Solid).ok()?;
     let mut answers = [None; 3];
     for answer in &mut answers {
@@ -237,7 +240,7 @@ fn limits<C: Naming, R: Threads + Wait + Sync>(
     requires admits { (e f d : ℕ) (items : List SeenItem) → C.admits e f items d }
 {
     let shared = Shared::<C>::new(alloc, table).ok()?;
-    let mut context = begun(alloc, &shared, seat, 1_073_741_823, 4_294_967_295, 1)?;
+    let mut context = begun(rt, alloc, &shared, seat, 1_073_741_823, 4_294_967_295, 1)?;
     context.create_program(ProgramKind::Solid).ok()?;
     let serials = refused(&mut context);
     for _ in 0..8u8 {
@@ -264,7 +267,8 @@ fn the_limits(rt: HostRuntime) -> Result<(), Fail> {
 }
 
 // The answer to the destroy of a texture that a frame buffer holds, and the frame buffer.
-fn held<C: Naming>(
+fn held<C: Naming, R: Wait>(
+    rt: &R,
     alloc: Global,
     table: HoldTable,
     seat: ApiSeat,
@@ -273,7 +277,7 @@ fn held<C: Naming>(
     requires views { C.views ≡ fewest_views }
 {
     let shared = Shared::<C>::new(alloc, table).ok()?;
-    let mut context = begun(alloc, &shared, seat, 0, 1, 1)?;
+    let mut context = begun(rt, alloc, &shared, seat, 0, 1, 1)?;
     let texture = context
         .create_texture(1, 1, Format::Rgba8, false, TexSource::Fill([0; 4]))
         .ok()?;
@@ -284,7 +288,7 @@ fn held<C: Naming>(
 #[test]
 fn a_texture_is_held(rt: HostRuntime) -> Result<(), Fail> {
     let (table, seat) = HoldTable::new(rt.alloc(), 0)?;
-    let (answer, holder) = held::<Brand>(rt.alloc(), table, seat).ok_or("memory")?;
+    let (answer, holder) = held::<Brand, _>(&rt, rt.alloc(), table, seat).ok_or("memory")?;
     assert_eq!(rt; answer, Err(Refusal::Attached { holder }));
     Ok(())
 }
@@ -301,7 +305,7 @@ fn held_again<C: Naming, R: Threads + Wait + Sync>(
     requires views { C.views ≡ fewest_views }
 {
     let shared = Shared::<C>::new(alloc, table).ok()?;
-    let mut context = begun(alloc, &shared, seat, 0, 1, 1)?;
+    let mut context = begun(rt, alloc, &shared, seat, 0, 1, 1)?;
     let texture = context
         .create_texture(1, 1, Format::Rgba8, false, TexSource::Fill([0; 4]))
         .ok()?;
@@ -336,7 +340,7 @@ fn beside<C: Naming + Send + Sync, R: Threads + Wait + Sync>(
     requires admits { (e f d : ℕ) (items : List SeenItem) → C.admits e f items d }
 {
     let shared = Shared::<C>::new(alloc, table).ok()?;
-    let mut context = begun(alloc, &shared, seat, 0, 1, 1)?;
+    let mut context = begun(rt, alloc, &shared, seat, 0, 1, 1)?;
     let mut encoder = begun_one(&mut context)?.ok()?;
     let (_, report) = thread::join(
         rt,
@@ -373,7 +377,7 @@ fn shut<C: Naming + Send + Sync, R: Threads + Wait + Sync>(
     requires admits { (e f d : ℕ) (items : List SeenItem) → C.admits e f items d }
 {
     let shared = Shared::<C>::new(alloc, table).ok()?;
-    let mut context = begun(alloc, &shared, seat, 0, 1, 1)?;
+    let mut context = begun(rt, alloc, &shared, seat, 0, 1, 1)?;
     ended(rt, &mut context)?.ok()?;
     begun_one(&mut context)?.ok()?.end(rt, 0);
     let open = begun_one(&mut context)?.ok()?;
@@ -384,7 +388,7 @@ fn shut<C: Naming + Send + Sync, R: Threads + Wait + Sync>(
         {
             open.end(rt, 0);
         },
-        || -> Closed<ListLink>
+        || -> Closed<ListLink<'_, R>>
             ensures table { api_table result.seat ≡ C.table }
             ensures off { (api_view result.seat).off ≡ [] }
         { context.shutdown(rt) },
@@ -410,6 +414,40 @@ fn a_context_is_shut_down(rt: HostRuntime) -> Result<(), Fail> {
     Ok(())
 }
 
+// A frame with one encoder, whose bundle goes into no queue, and the close. The number of items, the sum of the dropped, and what came
+// back at the close.
+fn gathered<C: Naming, R: Wait>(
+    rt: &R,
+    alloc: Global,
+    table: HoldTable,
+    seat: ApiSeat,
+) -> Option<(usize, u64, [Option<BackNote>; 3])>
+    requires table { (table_of table ≡ C.table) × (api_table seat ≡ C.table) × (api_view seat ≡ first_view 0) }
+    requires views { C.views ≡ fewest_views }
+    requires admits { (e f d : ℕ) (items : List SeenItem) → C.admits e f items d }
+{
+    let shared = Shared::<C>::new(alloc, table).ok()?;
+    let mut context = begun(rt, alloc, &shared, seat, 0, 1, 1)?;
+    let mut encoder = context.begin(ROOM).ok()?;
+    let _ = encoder.touch(0);
+    context.gather(encoder.finish(5));
+    let report = context.end().ok()?;
+    let closed = context.close();
+    Some((report.journal.len(), report.dropped, closed.backs))
+}
+
+#[test]
+fn a_frame_without_a_queue(rt: HostRuntime) -> Result<(), Fail> {
+    let (table, seat) = HoldTable::new(rt.alloc(), 0)?;
+    let told = gathered::<Brand, _>(&rt, rt.alloc(), table, seat).ok_or("memory")?;
+    let first = BackNote {
+        number: 0,
+        outcome: Outcome::Shown,
+    };
+    assert_eq!(rt; told, (1, 5, [Some(first), None, None]));
+    Ok(())
+}
+
 // An encoder is begun, and begun again where there was no memory: its number, how many were begun, and the items of its frame.
 fn begun_again<C: Naming, R: Threads + Wait + Sync>(
     rt: &R,
@@ -422,7 +460,7 @@ fn begun_again<C: Naming, R: Threads + Wait + Sync>(
     requires admits { (e f d : ℕ) (items : List SeenItem) → C.admits e f items d }
 {
     let shared = Shared::<C>::new(alloc, table).ok()?;
-    let mut context = begun(alloc, &shared, seat, 0, 1, 1)?;
+    let mut context = begun(rt, alloc, &shared, seat, 0, 1, 1)?;
     let mut encoder = match begun_one(&mut context)? {
         Err(Refusal::OutOfMemory) => begun_one(&mut context)?.ok()?,
         one => one.ok()?,
