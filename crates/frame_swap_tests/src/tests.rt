@@ -5,7 +5,8 @@ ghost use Rattle.frame_swap.specs.Ends.{api_table, api_knows, render_table, rend
 
 use cmd_buffer::CmdBuffer;
 use frame_record::{Frame, FrameLink, Outcome, RenderedFrame};
-use frame_swap::{ApiEnd, ApiEnd, RenderEnd, RenderEnd, WaitingEnd, swap_pair, swap_pair};
+use frame_swap::{ApiEnd, RenderEnd, WaitingEnd, swap_pair};
+use std::snapshot::Snapshot;
 use std::sync::Wait;
 use std::test::Fail;
 use std::thread::{Promise, Threads};
