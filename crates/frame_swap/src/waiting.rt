@@ -22,7 +22,7 @@ impl<'r, R> WaitingEnd<'r, R> {
 
     /// The end, at which a stop can be given and which can be closed.
     pub fn into_end(self) -> ApiEnd
-        ensures { result ≡ self.end }
+        ensures { result ≡ self.entry.end }
     {
         self.end
     }
