@@ -180,7 +180,12 @@ where
     requires admits { (e f d : ℕ) (items : List SeenItem) → C.admits e f items d }
 {
     let jobs = two_jobs(alloc, shared, api, lines)?;
-    let desk = Arc::new(alloc, Desk::new(alloc).ok()?).ok()?;
+    let Ok(desk) = Desk::new(alloc) else {
+        return None;
+    };
+    let Ok(desk) = Arc::new(alloc, desk) else {
+        return None;
+    };
     recorded(rt, gate, desk, jobs);
     Some(collected(rt, shared))
 }

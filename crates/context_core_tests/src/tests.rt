@@ -40,8 +40,12 @@ fn opened(alloc: Global) -> Option<(HoldTable, ContextCore)>
 // A program is made and destroyed: its index and its serial.
 fn made(alloc: Global) -> Option<(u16, u32)> {
     let (table, mut core) = opened(alloc)?;
-    let program = core.create_program(&table, ProgramKind::Solid).ok()?;
-    core.destroy(&table, program).ok()?;
+    let Ok(program) = core.create_program(&table, ProgramKind::Solid) else {
+        return None;
+    };
+    let Ok(_) = core.destroy(&table, program) else {
+        return None;
+    };
     Some((program.index(), program.serial()))
 }
 
@@ -54,7 +58,9 @@ fn a_program_is_made_and_destroyed(rt: HostRuntime) -> Result<(), Fail> {
 // An encoder is begun, and the end of the frame is not prepared while it is off: how many are begun, and how many off.
 fn encoder_off(alloc: Global) -> Option<(bool, u32, u32)> {
     let (table, mut core) = opened(alloc)?;
-    let recorder = core.begin(&table, ROOM).ok()?;
+    let Ok(recorder) = core.begin(&table, ROOM) else {
+        return None;
+    };
     let is_off = match core.prepare() {
         Err(NotReady::EncodersOff) => true,
         _ => false,

@@ -97,10 +97,13 @@ struct Words {
 }
 
 fn plain_words() -> Option<Words> {
-    Some(Words {
-        state: StateWord::read(15).ok()?,
-        stencil: StencilWord::read(0).ok()?,
-    })
+    let Ok(state) = StateWord::read(15) else {
+        return None;
+    };
+    let Ok(stencil) = StencilWord::read(0) else {
+        return None;
+    };
+    Some(Words { state, stencil })
 }
 
 fn draw(words: Words, number: u64, view: u16, program: Handle, depth: u32) -> Item

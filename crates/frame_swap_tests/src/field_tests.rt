@@ -278,7 +278,7 @@ fn make_room<R: Wait>(
         return out;
     }
     let back = api.take_back(rt);
-    came.push(back).ok();
+    let _ = came.push(back);
     out - 1
 }
 
@@ -304,7 +304,7 @@ fn turns<R: Wait>(
     }
     for _ in 0..out {
         let back = api.take_back(rt);
-        came.push(back).ok();
+        let _ = came.push(back);
     }
     came
 }

@@ -28,6 +28,14 @@ const ROOM: Room = Room {
     uniforms: 0,
 };
 
+// The refusal of a call.
+fn refusal_of<T: Drop>(answer: Result<T, Refusal>) -> Option<Refusal> {
+    match answer {
+        Ok(_made) => None,
+        Err(refusal) => Some(refusal),
+    }
+}
+
 // Frames wait in a list, and come back as shown, the oldest first.
 #[derive(Drop)]
 struct ListLink<'r, R> {
@@ -110,7 +118,10 @@ fn begun<'t, 'r, C: Naming, R: Wait>(
         out: Vec::new(alloc),
         backs: Vec::new(alloc),
     };
-    Context::init(alloc, shared, seat, link, start).ok()
+    match Context::init(alloc, shared, seat, link, start) {
+        Ok(context) => Some(context),
+        Err(_) => None,
+    }
 }
 
 // The answer to a begin, and to the end of a frame, where the context is not ended.
@@ -145,14 +156,25 @@ fn made_again<C: Naming, R: Threads + Wait + Sync>(
     requires views { C.views ≡ fewest_views }
     requires latency { (1 ≤ latency) × (latency ≤ 3) }
 {
-    let shared = Shared::<C>::new(alloc, table).ok()?;
+    let Ok(shared) = Shared::<C>::new(alloc, table) else {
+        return None;
+    };
     let mut context = begun(rt, alloc, &shared, seat, 0, 1, latency)?;
-    let first = context.create_program(ProgramKind::Solid).ok()?;
-    context.destroy(first).ok()?;
+    let Ok(first) = context.create_program(ProgramKind::Solid) else {
+        return None;
+    };
+    let Ok(_) = context.destroy(first) else {
+        return None;
+    };
     let mut indices = [0u16; 4];
     for place in &mut indices {
-        ended(rt, &mut context)?.ok()?;
-        *place = context.create_program(ProgramKind::Solid).ok()?.index();
+        let Ok(_) = ended(rt, &mut context)? else {
+            return None;
+        };
+        let Ok(program) = context.create_program(ProgramKind::Solid) else {
+            return None;
+        };
+        *place = program.index();
     }
     Some(indices)
 }
@@ -190,18 +212,28 @@ fn dead_program<C: Naming, R: Threads + Wait + Sync>(
     requires views { C.views ≡ fewest_views }
     requires admits { (e f d : ℕ) (items : List SeenItem) → C.admits e f items d }
 {
-    let shared = Shared::<C>::new(alloc, table).ok()?;
+    let Ok(shared) = Shared::<C>::new(alloc, table) else {
+        return None;
+    };
     let mut context = begun(rt, alloc, &shared, seat, 0, 1, 1)?;
-    let program = context.create_program(ProgramKind::Solid).ok()?;
+    let Ok(program) = context.create_program(ProgramKind::Solid) else {
+        return None;
+    };
     let mut answers = [None; 3];
     for answer in &mut answers {
-        let mut encoder = begun_one(&mut context)?.ok()?;
+        let Ok(mut encoder) = begun_one(&mut context)? else {
+            return None;
+        };
         // accepted in frame 0
         let _ = context.destroy(program);
-        *answer = encoder.submit(0, program, 0, 255).err();
+        *answer = refusal_of(encoder.submit(0, program, 0, 255));
         encoder.end(rt, 0);
-        ended(rt, &mut context)?.ok()?;
-        context.create_program(ProgramKind::Solid).ok()?;
+        let Ok(_) = ended(rt, &mut context)? else {
+            return None;
+        };
+        let Ok(_) = context.create_program(ProgramKind::Solid) else {
+            return None;
+        };
     }
     Some(answers)
 }
@@ -224,7 +256,7 @@ fn a_dead_program_is_stale(rt: HostRuntime) -> Result<(), Fail> {
 
 // The refusal of a program, by whatever answers the calls.
 fn refused<B: ResourceCalls>(calls: &mut B) -> Option<Refusal> {
-    calls.create_program(ProgramKind::Solid).err()
+    refusal_of(calls.create_program(ProgramKind::Solid))
 }
 
 // In the last frame: the refusals of a second program where one serial is left, of a ninth encoder, and of the frame's end.
@@ -238,15 +270,22 @@ fn limits<C: Naming, R: Threads + Wait + Sync>(
     requires views { C.views ≡ fewest_views }
     requires admits { (e f d : ℕ) (items : List SeenItem) → C.admits e f items d }
 {
-    let shared = Shared::<C>::new(alloc, table).ok()?;
+    let Ok(shared) = Shared::<C>::new(alloc, table) else {
+        return None;
+    };
     let mut context = begun(rt, alloc, &shared, seat, 1_073_741_823, 4_294_967_295, 1)?;
-    context.create_program(ProgramKind::Solid).ok()?;
+    let Ok(_) = context.create_program(ProgramKind::Solid) else {
+        return None;
+    };
     let serials = refused(&mut context);
     for _ in 0..8u8 {
-        begun_one(&mut context)?.ok()?.end(rt, 0);
+        let Ok(encoder) = begun_one(&mut context)? else {
+            return None;
+        };
+        encoder.end(rt, 0);
     }
-    let ninth = begun_one(&mut context)?.err();
-    let frames = ended(rt, &mut context)?.err();
+    let ninth = refusal_of(begun_one(&mut context)?);
+    let frames = refusal_of(ended(rt, &mut context)?);
     Some([serials, ninth, frames])
 }
 
@@ -275,12 +314,17 @@ fn held<C: Naming, R: Wait>(
     requires table { (table_of table ≡ C.table) × (api_table seat ≡ C.table) × (api_view seat ≡ first_view 0) }
     requires views { C.views ≡ fewest_views }
 {
-    let shared = Shared::<C>::new(alloc, table).ok()?;
+    let Ok(shared) = Shared::<C>::new(alloc, table) else {
+        return None;
+    };
     let mut context = begun(rt, alloc, &shared, seat, 0, 1, 1)?;
-    let texture = context
-        .create_texture(1, 1, Format::Rgba8, false, TexSource::Fill([0; 4]))
-        .ok()?;
-    let holder = context.create_frame_buffer(texture, None).ok()?;
+    let Ok(texture) = context.create_texture(1, 1, Format::Rgba8, false, TexSource::Fill([0; 4]))
+    else {
+        return None;
+    };
+    let Ok(holder) = context.create_frame_buffer(texture, None) else {
+        return None;
+    };
     Some((context.destroy(texture), holder))
 }
 
@@ -303,18 +347,31 @@ fn held_again<C: Naming, R: Threads + Wait + Sync>(
     requires table { (table_of table ≡ C.table) × (api_table seat ≡ C.table) × (api_view seat ≡ first_view 0) }
     requires views { C.views ≡ fewest_views }
 {
-    let shared = Shared::<C>::new(alloc, table).ok()?;
+    let Ok(shared) = Shared::<C>::new(alloc, table) else {
+        return None;
+    };
     let mut context = begun(rt, alloc, &shared, seat, 0, 1, 1)?;
-    let texture = context
-        .create_texture(1, 1, Format::Rgba8, false, TexSource::Fill([0; 4]))
-        .ok()?;
-    let first = context.create_frame_buffer(texture, None).ok()?;
-    context.create_frame_buffer(texture, None).ok()?;
-    context.destroy(first).ok()?;
+    let Ok(texture) = context.create_texture(1, 1, Format::Rgba8, false, TexSource::Fill([0; 4]))
+    else {
+        return None;
+    };
+    let Ok(first) = context.create_frame_buffer(texture, None) else {
+        return None;
+    };
+    let Ok(_) = context.create_frame_buffer(texture, None) else {
+        return None;
+    };
+    let Ok(_) = context.destroy(first) else {
+        return None;
+    };
     for _ in 0..2u8 {
-        ended(rt, &mut context)?.ok()?;
+        let Ok(_) = ended(rt, &mut context)? else {
+            return None;
+        };
     }
-    let third = context.create_frame_buffer(texture, None).ok()?;
+    let Ok(third) = context.create_frame_buffer(texture, None) else {
+        return None;
+    };
     Some((context.destroy(texture), third))
 }
 
@@ -338,9 +395,13 @@ fn beside<C: Naming + Send + Sync, R: Threads + Wait + Sync>(
     requires views { C.views ≡ fewest_views }
     requires admits { (e f d : ℕ) (items : List SeenItem) → C.admits e f items d }
 {
-    let shared = Shared::<C>::new(alloc, table).ok()?;
+    let Ok(shared) = Shared::<C>::new(alloc, table) else {
+        return None;
+    };
     let mut context = begun(rt, alloc, &shared, seat, 0, 1, 1)?;
-    let mut encoder = begun_one(&mut context)?.ok()?;
+    let Ok(mut encoder) = begun_one(&mut context)? else {
+        return None;
+    };
     let (_, report) = thread::join(
         rt,
         || -> ()
@@ -352,7 +413,9 @@ fn beside<C: Naming + Send + Sync, R: Threads + Wait + Sync>(
         },
         || ended(rt, &mut context),
     );
-    let report = report?.ok()?;
+    let Ok(report) = report? else {
+        return None;
+    };
     Some((report.journal.len(), report.dropped))
 }
 
@@ -375,11 +438,20 @@ fn shut<C: Naming + Send + Sync, R: Threads + Wait + Sync>(
     requires views { C.views ≡ fewest_views }
     requires admits { (e f d : ℕ) (items : List SeenItem) → C.admits e f items d }
 {
-    let shared = Shared::<C>::new(alloc, table).ok()?;
+    let Ok(shared) = Shared::<C>::new(alloc, table) else {
+        return None;
+    };
     let mut context = begun(rt, alloc, &shared, seat, 0, 1, 1)?;
-    ended(rt, &mut context)?.ok()?;
-    begun_one(&mut context)?.ok()?.end(rt, 0);
-    let open = begun_one(&mut context)?.ok()?;
+    let Ok(_) = ended(rt, &mut context)? else {
+        return None;
+    };
+    let Ok(encoder) = begun_one(&mut context)? else {
+        return None;
+    };
+    encoder.end(rt, 0);
+    let Ok(open) = begun_one(&mut context)? else {
+        return None;
+    };
     let (_, closed) = thread::join(
         rt,
         || -> ()
@@ -420,9 +492,12 @@ fn ended_here<C: Naming, R: Wait>(
     if context.is_ended() {
         return None;
     }
-    match context.off() {
-        0 => context.end().ok(),
-        _ => None,
+    if context.off() != 0 {
+        return None;
+    }
+    match context.end() {
+        Ok(report) => Some(report),
+        Err(_) => None,
     }
 }
 
@@ -430,10 +505,10 @@ fn ended_here<C: Naming, R: Wait>(
 fn closed_here<'r, C: Naming, R: Wait>(
     context: Context<'_, C, ListLink<'r, R>>,
 ) -> Option<Closed<ListLink<'r, R>>> {
-    match context.off() {
-        0 => Some(context.close()),
-        _ => None,
+    if context.off() != 0 {
+        return None;
     }
+    Some(context.close())
 }
 
 // A frame with one encoder, whose bundle goes into no queue, and the close. The number of items, the sum of the dropped, and what came
@@ -448,9 +523,13 @@ fn gathered<C: Naming, R: Wait>(
     requires views { C.views ≡ fewest_views }
     requires admits { (e f d : ℕ) (items : List SeenItem) → C.admits e f items d }
 {
-    let shared = Shared::<C>::new(alloc, table).ok()?;
+    let Ok(shared) = Shared::<C>::new(alloc, table) else {
+        return None;
+    };
     let mut context = begun(rt, alloc, &shared, seat, 0, 1, 1)?;
-    let mut encoder = begun_one(&mut context)?.ok()?;
+    let Ok(mut encoder) = begun_one(&mut context)? else {
+        return None;
+    };
     let _ = encoder.touch(0);
     context.gather(encoder.finish(5));
     let report = ended_here(&mut context)?;
@@ -481,17 +560,24 @@ fn begun_again<C: Naming, R: Threads + Wait + Sync>(
     requires views { C.views ≡ fewest_views }
     requires admits { (e f d : ℕ) (items : List SeenItem) → C.admits e f items d }
 {
-    let shared = Shared::<C>::new(alloc, table).ok()?;
+    let Ok(shared) = Shared::<C>::new(alloc, table) else {
+        return None;
+    };
     let mut context = begun(rt, alloc, &shared, seat, 0, 1, 1)?;
-    let mut encoder = match begun_one(&mut context)? {
-        Err(Refusal::OutOfMemory) => begun_one(&mut context)?.ok()?,
-        one => one.ok()?,
+    let one = match begun_one(&mut context)? {
+        Err(Refusal::OutOfMemory) => begun_one(&mut context)?,
+        one => one,
+    };
+    let Ok(mut encoder) = one else {
+        return None;
     };
     let number = encoder.number();
     let begun = context.begun();
     let _ = encoder.touch(0);
     encoder.end(rt, 0);
-    let report = ended(rt, &mut context)?.ok()?;
+    let Ok(report) = ended(rt, &mut context)? else {
+        return None;
+    };
     Some((number, begun, report.journal.len()))
 }
 

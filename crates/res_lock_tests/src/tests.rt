@@ -128,7 +128,18 @@ fn locked<'t, C: Naming, L: FrameLink + Drop, H: HistoryNaming>(
     let Ok(context) = Context::init(alloc, shared, seat, link, start) else {
         return None;
     };
-    ResLock::new(alloc, table, context).ok()
+    match ResLock::new(alloc, table, context) {
+        Ok(lock) => Some(lock),
+        Err(_) => None,
+    }
+}
+
+// The refusal of a call.
+fn refusal_of<T: Drop>(answer: Result<T, LockRefusal>) -> Option<LockRefusal> {
+    match answer {
+        Ok(_made) => None,
+        Err(refusal) => Some(refusal),
+    }
 }
 
 // A pass has room for a call more.
@@ -151,13 +162,17 @@ fn makes_buffers<C: Naming, H: HistoryNaming, R: Wait>(
     ensures { IfSome result (λ r. IsSamePass pass r.0) }
 {
     few(&pass)?;
-    let layout = lock.create_layout(rt, &mut pass, layout).ok()?;
+    let Ok(layout) = lock.create_layout(rt, &mut pass, layout) else {
+        return None;
+    };
     few(&pass)?;
-    let vertices = lock
-        .create_vertex_buffer(rt, &mut pass, layout, &[0; 24])
-        .ok()?;
+    let Ok(vertices) = lock.create_vertex_buffer(rt, &mut pass, layout, &[0; 24]) else {
+        return None;
+    };
     few(&pass)?;
-    lock.create_index_buffer(rt, &mut pass, &[0; 6]).ok()?;
+    let Ok(_) = lock.create_index_buffer(rt, &mut pass, &[0; 6]) else {
+        return None;
+    };
     Some((pass, vertices))
 }
 
@@ -172,11 +187,13 @@ fn makes_target<C: Naming, H: HistoryNaming, R: Wait>(
 {
     few(&pass)?;
     let fill = TexSource::Fill([0; 4]);
-    let texture = lock
-        .create_texture(rt, &mut pass, 1, 1, Format::Rgba8, false, fill)
-        .ok()?;
+    let Ok(texture) = lock.create_texture(rt, &mut pass, 1, 1, Format::Rgba8, false, fill) else {
+        return None;
+    };
     few(&pass)?;
-    let target = lock.create_frame_buffer(rt, &mut pass, texture, None).ok()?;
+    let Ok(target) = lock.create_frame_buffer(rt, &mut pass, texture, None) else {
+        return None;
+    };
     Some((pass, texture, target))
 }
 
@@ -190,12 +207,17 @@ fn makes_program<C: Naming, H: HistoryNaming, R: Wait>(
     ensures { IfSome result (λ r. IsSamePass pass r) }
 {
     few(&pass)?;
-    let program = lock.create_program(rt, &mut pass, ProgramKind::Solid).ok()?;
+    let Ok(program) = lock.create_program(rt, &mut pass, ProgramKind::Solid) else {
+        return None;
+    };
     few(&pass)?;
-    lock.create_uniform(rt, &mut pass, b"u", UniformKind::Vec4)
-        .ok()?;
+    let Ok(_) = lock.create_uniform(rt, &mut pass, b"u", UniformKind::Vec4) else {
+        return None;
+    };
     few(&pass)?;
-    lock.destroy(rt, &mut pass, program).ok()?;
+    let Ok(_) = lock.destroy(rt, &mut pass, program) else {
+        return None;
+    };
     Some(pass)
 }
 
@@ -211,11 +233,13 @@ fn updates<C: Naming, H: HistoryNaming, R: Wait>(
     ensures { IfSome result (λ r. IsSamePass pass r) }
 {
     few(&pass)?;
-    lock.update_buffer(rt, &mut pass, vertices, 4, &[1; 4])
-        .ok()?;
+    let Ok(_) = lock.update_buffer(rt, &mut pass, vertices, 4, &[1; 4]) else {
+        return None;
+    };
     few(&pass)?;
-    lock.update_texture(rt, &mut pass, texture, TEXEL, &[1; 4])
-        .ok()?;
+    let Ok(_) = lock.update_texture(rt, &mut pass, texture, TEXEL, &[1; 4]) else {
+        return None;
+    };
     Some(pass)
 }
 
@@ -230,13 +254,21 @@ fn sets_view<C: Naming, H: HistoryNaming, R: Wait>(
     ensures { IfSome result (λ r. IsSamePass pass r) }
 {
     few(&pass)?;
-    lock.set_view_rect(rt, &mut pass, 0, TEXEL).ok()?;
+    let Ok(_) = lock.set_view_rect(rt, &mut pass, 0, TEXEL) else {
+        return None;
+    };
     few(&pass)?;
-    lock.set_view_scissor(rt, &mut pass, 0, TEXEL).ok()?;
+    let Ok(_) = lock.set_view_scissor(rt, &mut pass, 0, TEXEL) else {
+        return None;
+    };
     few(&pass)?;
-    lock.set_view_target(rt, &mut pass, 0, Some(target)).ok()?;
+    let Ok(_) = lock.set_view_target(rt, &mut pass, 0, Some(target)) else {
+        return None;
+    };
     few(&pass)?;
-    lock.set_view_clear(rt, &mut pass, 0, 1, [0; 4], 0, 0).ok()?;
+    let Ok(_) = lock.set_view_clear(rt, &mut pass, 0, 1, [0; 4], 0, 0) else {
+        return None;
+    };
     Some(pass)
 }
 
@@ -250,15 +282,21 @@ fn orders_views<C: Naming, H: HistoryNaming, R: Wait>(
     ensures { IfSome result (λ r. IsSamePass pass r) }
 {
     few(&pass)?;
-    lock.set_view_mode(rt, &mut pass, 0, ViewMode::Sequential)
-        .ok()?;
+    let Ok(_) = lock.set_view_mode(rt, &mut pass, 0, ViewMode::Sequential) else {
+        return None;
+    };
     few(&pass)?;
-    lock.set_view_transform(rt, &mut pass, 0, Affine::identity())
-        .ok()?;
+    let Ok(_) = lock.set_view_transform(rt, &mut pass, 0, Affine::identity()) else {
+        return None;
+    };
     few(&pass)?;
-    lock.set_view_order(rt, &mut pass, &[2, 1]).ok()?;
+    let Ok(_) = lock.set_view_order(rt, &mut pass, &[2, 1]) else {
+        return None;
+    };
     few(&pass)?;
-    lock.reset_view(rt, &mut pass, 0).ok()?;
+    let Ok(_) = lock.reset_view(rt, &mut pass, 0) else {
+        return None;
+    };
     Some(pass)
 }
 
@@ -273,10 +311,14 @@ fn frames<C: Naming, H: HistoryNaming, R: Threads + Wait + Sync>(
     ensures { IfSome result (λ r. IsSamePass pass r) }
 {
     few(&pass)?;
-    let encoder = lock.begin(rt, &mut pass, ROOM).ok()?;
+    let Ok(encoder) = lock.begin(rt, &mut pass, ROOM) else {
+        return None;
+    };
     encoder.end(rt, 0);
     few(&pass)?;
-    lock.frame(rt, &mut pass).ok()?;
+    let Ok(_) = lock.frame(rt, &mut pass) else {
+        return None;
+    };
     Some(pass)
 }
 
@@ -296,7 +338,9 @@ fn all_calls<C: Naming, H: HistoryNaming, R: Threads + Wait + Sync>(
     requires start { H.start ≡ opened (opening 256 1 0 1) }
     requires book { H.book ≡ record no_book { resources = opening 256 1 0 1 } }
 {
-    let shared = Shared::<C>::new(alloc, hold).ok()?;
+    let Ok(shared) = Shared::<C>::new(alloc, hold) else {
+        return None;
+    };
     let link = list_link(rt, alloc, Outcome::Shown);
     let lock = locked::<C, ListLink<'_, R>, H>(alloc, &shared, seat, table, link)?;
     let (pass, vertices) = makes_buffers(rt, &lock, pass, layout)?;
@@ -310,11 +354,19 @@ fn all_calls<C: Naming, H: HistoryNaming, R: Threads + Wait + Sync>(
     Some(history)
 }
 
-#[test]
-fn each_call_is_accepted(rt: HostRuntime) -> Result<(), Fail> {
+// A layout with a position.
+fn position() -> Option<VertexLayout> {
     let mut builder = LayoutBuilder::new();
     builder.add(Attr::Position, AttrType::I16, 3);
-    let layout = builder.end().ok().ok_or("layout")?;
+    match builder.end() {
+        Ok(layout) => Some(layout),
+        Err(_) => None,
+    }
+}
+
+#[test]
+fn each_call_is_accepted(rt: HostRuntime) -> Result<(), Fail> {
+    let layout = position().ok_or("layout")?;
     let (hold, seat) = HoldTable::new(rt.alloc(), 0)?;
     let (table, pass) = HistoryTable::new(rt.alloc())?;
     let history = all_calls::<Brand, Brand, _>(
@@ -349,11 +401,15 @@ fn destroyed_again<C: Naming, H: HistoryNaming, R: Wait>(
     ensures { IfSome result (λ r. IsSamePass pass r.0) }
 {
     few(&pass)?;
-    let program = lock.create_program(rt, &mut pass, ProgramKind::Solid).ok()?;
+    let Ok(program) = lock.create_program(rt, &mut pass, ProgramKind::Solid) else {
+        return None;
+    };
     few(&pass)?;
-    lock.destroy(rt, &mut pass, program).ok()?;
+    let Ok(_) = lock.destroy(rt, &mut pass, program) else {
+        return None;
+    };
     few(&pass)?;
-    let again = lock.destroy(rt, &mut pass, program).err();
+    let again = refusal_of(lock.destroy(rt, &mut pass, program));
     Some((pass, again))
 }
 
@@ -367,10 +423,14 @@ fn two_frames<C: Naming, H: HistoryNaming, R: Threads + Wait + Sync>(
     ensures { IfSome result (λ r. IsSamePass pass r.0) }
 {
     few(&pass)?;
-    let one = lock.frame(rt, &mut pass).ok()?.given;
+    let Ok(one) = lock.frame(rt, &mut pass) else {
+        return None;
+    };
     few(&pass)?;
-    let two = lock.frame(rt, &mut pass).ok()?.given;
-    Some((pass, [one, two]))
+    let Ok(two) = lock.frame(rt, &mut pass) else {
+        return None;
+    };
+    Some((pass, [one.given, two.given]))
 }
 
 // A create, a begin and a frame: their refusals.
@@ -383,11 +443,11 @@ fn three_refused<C: Naming, H: HistoryNaming, R: Threads + Wait + Sync>(
     ensures { IfSome result (λ r. IsSamePass pass r.0) }
 {
     few(&pass)?;
-    let create = lock.create_program(rt, &mut pass, ProgramKind::Solid).err();
+    let create = refusal_of(lock.create_program(rt, &mut pass, ProgramKind::Solid));
     few(&pass)?;
-    let begin = lock.begin(rt, &mut pass, ROOM).err();
+    let begin = refusal_of(lock.begin(rt, &mut pass, ROOM));
     few(&pass)?;
-    let frame = lock.frame(rt, &mut pass).err();
+    let frame = refusal_of(lock.frame(rt, &mut pass));
     Some((pass, [create, begin, frame]))
 }
 
@@ -414,7 +474,9 @@ fn ends<C: Naming, H: HistoryNaming, R: Threads + Wait + Sync>(
     requires start { H.start ≡ opened (opening 256 1 0 1) }
     requires book { H.book ≡ record no_book { resources = opening 256 1 0 1 } }
 {
-    let shared = Shared::<C>::new(alloc, hold).ok()?;
+    let Ok(shared) = Shared::<C>::new(alloc, hold) else {
+        return None;
+    };
     let link = list_link(rt, alloc, Outcome::PictureFault);
     let lock = locked::<C, ListLink<'_, R>, H>(alloc, &shared, seat, table, link)?;
     let (pass, again) = destroyed_again(rt, &lock, pass)?;

@@ -4,7 +4,7 @@ use Rattle.gfx_model.specs.Frames.{collected, NumbersAscend}
 use Rattle.draw_encoder.specs.declared.items.Recording.{Recording}
 use Rattle.frame_record.specs.Kept.{IsCollectable}
 use Rattle.frame_record.specs.Seen.{recordings_seen}
-use Rattle.frame_swap.proofs.Fours.{few_numbers, apart, collectable}
+use Rattle.frame_swap_tests.proofs.Fours.{few_numbers, apart, collectable}
 use Rattle.frame_swap_tests.proofs.field_tests.full_frame.Goals as goal
 
 pub collect-requires : goal.collect-requires
