@@ -4,4 +4,4 @@ use Rattle.gfx_context_tests.proofs.tests.ended_here.Goals as goal
 
 -- none is off
 pub end-requires-clause-none_off : goal.end-requires-clause-none_off
-end-requires-clause-none_off g c = nil_from_length _ (sym c.off.ensures ∙ c.if-off-ne.false)
+end-requires-clause-none_off g c = nil_from_length _ (sym c.off.ensures ∙ c.if-off-ne0.false)
