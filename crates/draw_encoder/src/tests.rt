@@ -6,9 +6,9 @@ ghost use Rattle.schedule_model.specs.Held.{count_of};
 ghost use Rattle.hold_table.specs.Views.{first_view, lent};
 ghost use Rattle.hold_table.specs.Seats.{table_of, api_table, api_view};
 
+use super::*;
 use crossbeam_queue::ArrayQueue;
 use crossbeam_utils::Backoff;
-use draw_encoder::*;
 use fix_math::{Affine, Rect};
 use gfx_words::{Format, Handle, Info, Kind, Refusal, UniformKind, UniformValue};
 use hold_table::{ApiSeat, HoldTable};

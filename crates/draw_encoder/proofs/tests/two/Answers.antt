@@ -2,7 +2,7 @@ use Rattle.std.proofs.Common.{ℕ, suc, List, ◌∷◌, arith, ap, ◌∙◌, l
 use Rattle.std.proofs.lemmas.List.{nil_from_length}
 use Rattle.hold_table.specs.Seats.{api_view, enc_view}
 use Rattle.hold_table.proofs.Keeps.{length_without}
-use Rattle.draw_encoder_tests.proofs.tests.two.Goals as goal
+use Rattle.draw_encoder.proofs.tests.two.Goals as goal
 
 -- both encoders were joined
 pub advance-next-requires-clause-off : goal.advance-next-requires-clause-off

@@ -1,6 +1,6 @@
 use Rattle.std.proofs.Common.{inl, refl}
 use Rattle.gfx_model.specs.Views.{fewest_views}
-use Rattle.draw_encoder_tests.proofs.tests.room_of_items.Given as goal
+use Rattle.draw_encoder.proofs.tests.room_of_items.Given as goal
 
 -- the table that was just made; anything is admitted
 abbrev pub ghosts-fill : goal.ghosts-fill

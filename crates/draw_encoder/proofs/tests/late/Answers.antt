@@ -7,7 +7,7 @@ use Rattle.hold_table.specs.Seats.{api_view, enc_view}
 use Rattle.hold_table.proofs.Keeps.{length_without}
 use Rattle.hold_table.proofs.PlaceLaws.{place-set}
 use Rattle.hold_table.proofs.Steps.{all_free}
-use Rattle.draw_encoder_tests.proofs.tests.late.Goals as goal
+use Rattle.draw_encoder.proofs.tests.late.Goals as goal
 
 -- all places of a new table are free
 pub place_live-requires-clause-place : goal.place_live-requires-clause-place

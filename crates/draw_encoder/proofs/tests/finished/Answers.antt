@@ -3,7 +3,7 @@ use Rattle.std.proofs.lemmas.List.{nil_from_length}
 use Rattle.hold_table.specs.Views.{lent}
 use Rattle.hold_table.specs.Seats.{api_view, enc_view}
 use Rattle.hold_table.proofs.Keeps.{length_without}
-use Rattle.draw_encoder_tests.proofs.tests.finished.Goals as goal
+use Rattle.draw_encoder.proofs.tests.finished.Goals as goal
 
 -- the one encoder was joined
 pub advance-requires-clause-off : goal.advance-requires-clause-off
