@@ -22,9 +22,13 @@ none_read true read j line cause e = absurd (cc e)
 none_read false (Ok s) j line cause e = absurd (cc e)
 none_read false (Err f) j line cause e = tt
 
+-- a play for C ended so, by a sink of pictures and one of notes that held these texts before it and after it, with these counts of faults
+abbrev pub IsEnded : Status → (text : List ℕ) → Journal → (before shown nothing told : List ℕ) → (first second third fourth : ℕ) → Type 0
+IsEnded st text j before shown nothing told first second third fourth =
+    IsAnswered st (showing_command false false 0) text j (putting (Some before) (Some shown) first second) (putting (Some nothing) (Some told) third fourth)
+
 module _ (text : List ℕ) (j : Journal) (shown told : List ℕ) (first second third fourth : ℕ) where
-  out_of_run : (e : PlayEnd) (p q r s : List ℕ) → IsAnswered status.Done (showing_command false false 0) text j (putting (Some []) (Some shown) first second) (putting (Some []) (Some told) third fourth)
-      → AreHandedOut e shown told p q r s → Plays e text p q r s
+  out_of_run : (e : PlayEnd) (p q r s : List ℕ) → IsEnded status.Done text j [] shown [] told first second third fourth → AreHandedOut e shown told p q r s → Plays e text p q r s
   out_of_run e p q r s a out = by e out where
     run : Run
     run = played false (λ s. j) text
@@ -41,16 +45,13 @@ module _ (text : List ℕ) (j : Journal) (shown told : List ℕ) (first second t
 
 -- what a play that ended whole put into two sinks that had nothing is handed out
 module _ (text : List ℕ) (j : Journal) (st : Status) (before shown nothing told front report : List ℕ) (first second third fourth : ℕ) where
-  pub shown_out : (e : PlayEnd) (p q r s : List ℕ) → st ≡ status.Done → before ≡ [] → nothing ≡ []
-      → IsAnswered st (showing_command false false 0) text j (putting (Some before) (Some shown) first second) (putting (Some nothing) (Some told) third fourth)
+  pub shown_out : (e : PlayEnd) (p q r s : List ℕ) → st ≡ status.Done → before ≡ [] → nothing ≡ [] → IsEnded st text j before shown nothing told first second third fourth
       → front ≡ shown → report ≡ told → AreHandedOut e front report p q r s → Plays e text p q r s
   shown_out e p q r s done none none_noted a pictures_are report_is out =
-      let whole : IsAnswered status.Done (showing_command false false 0) text j (putting (Some before) (Some shown) first second) (putting (Some nothing) (Some told) third fourth)
-          = subst (λ (x : Status). IsAnswered x (showing_command false false 0) text j (putting (Some before) (Some shown) first second) (putting (Some nothing) (Some told) third fourth)) done a in
-      let from_none : IsAnswered status.Done (showing_command false false 0) text j (putting (Some []) (Some shown) first second) (putting (Some nothing) (Some told) third fourth)
-          = subst (λ (x : List ℕ). IsAnswered status.Done (showing_command false false 0) text j (putting (Some x) (Some shown) first second) (putting (Some nothing) (Some told) third fourth)) none whole in
-      let from_nothing : IsAnswered status.Done (showing_command false false 0) text j (putting (Some []) (Some shown) first second) (putting (Some []) (Some told) third fourth)
-          = subst (λ (x : List ℕ). IsAnswered status.Done (showing_command false false 0) text j (putting (Some []) (Some shown) first second) (putting (Some x) (Some told) third fourth)) none_noted from_none in
+      let whole : IsEnded status.Done text j before shown nothing told first second third fourth = subst (λ (x : Status). IsEnded x text j before shown nothing told first second third fourth) done a in
+      let from_none : IsEnded status.Done text j [] shown nothing told first second third fourth
+      = subst (λ (x : List ℕ). IsEnded status.Done text j x shown nothing told first second third fourth) none whole in
+      let from_nothing : IsEnded status.Done text j [] shown [] told first second third fourth = subst (λ (x : List ℕ). IsEnded status.Done text j [] shown x told first second third fourth) none_noted from_none in
       let handed : AreHandedOut e shown told p q r s = subst (λ (x : List ℕ). AreHandedOut e x told p q r s) pictures_are (subst (λ (x : List ℕ). AreHandedOut e front x p q r s) report_is out) in
       out_of_run text j shown told first second third fourth e p q r s from_nothing handed
 
