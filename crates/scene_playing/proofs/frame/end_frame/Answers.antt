@@ -4,6 +4,7 @@ use Rattle.frame_record.specs.Seen.{entry_seen}
 use Rattle.gfx_context.specs.Kept.{IsContext}
 use Rattle.gfx_context.specs.Ended.{Collects}
 use Rattle.scene_playing.specs.Steps.{FrameEnds}
+use Rattle.scene_playing.proofs.Collecting.{none_off_ended}
 use Rattle.scene_playing.proofs.EndLaws.{frame_ends, frame_back}
 use Rattle.scene_playing.proofs.FrameLaws.{outcome_after}
 use Rattle.scene_playing.proofs.frame.end_frame.Goals as goal
@@ -42,3 +43,6 @@ returns-clause-back g c =
     outcome_after c.in-Ok.report.back old new.back
     (frame_back g.C.Naming.admits s k f c.args.handles.now old mid new c.in-Ok.report c.args.dropped c.requires.admitted c.next_law.ensures.next c.bare_start_law.ensures c.recorded_law.ensures c.frame_law.ensures
     planned.0 planned.1 kept refl c.requires.recorded c.requires.dropped collects c.in-Ok.ensures.answer)
+
+pub returns-clause-none_off : goal.returns-clause-none_off
+returns-clause-none_off g c = none_off_ended c.end.result c.collect.new.context c.end.new.self c.end.ensures.answer c.collect.ensures.collects.none_off
