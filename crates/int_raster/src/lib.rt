@@ -31,6 +31,4 @@ pub use rasterizer::{BandRasterizer, Rasterizer, SerialRasterizer};
 pub use surfaces::Surface;
 
 #[cfg(test)]
-mod exactness;
-#[cfg(test)]
 mod tests;
