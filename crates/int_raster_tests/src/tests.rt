@@ -1,12 +1,12 @@
 // Pictures that were worked out by hand, as lists of prepared draws, and the pixels of many triangles one by one.
 ghost use Rattle.std.specs.Prelude.{◌≤◌};
 
-use crate::{
+use fix_math::{Affine, Point, Rect, Texels};
+use gfx_words::{StateWord, StencilWord};
+use int_raster::{
     BandRasterizer, DrawList, Paint, Prepared, Rasterizer, SerialRasterizer, Surface, draw_bands,
     draw_view,
 };
-use fix_math::{Affine, Point, Rect, Texels};
-use gfx_words::{StateWord, StencilWord};
 use pixel_ops::{Pixel, Shaded, multiply, pixel_step};
 use std::alloc::Global;
 use std::process::Abort;
