@@ -6,6 +6,7 @@ ghost use Rattle.hold_table.specs.Seats.{table_of, api_table, api_view};
 ghost use Rattle.hold_table.specs.Views.{first_view};
 
 use crate::limit_tests::START;
+use crate::limits::refusal_of;
 use frame_keeping::KeepingLink;
 use gfx_context::{Context, Encoder, Naming, Room, Shared};
 use gfx_words::{Handle, Refusal, UniformKind, UniformValue};
