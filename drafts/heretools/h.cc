@@ -1,0 +1,2 @@
+#include "gfx.h"
+int main() { return 0; }

@@ -1,0 +1,2 @@
+export ROOT=/tmp/here_pl; cd $ROOT/crates/scene_player; echo "== scene_player"; python3 /tmp/heretools/mixed2.py scene_player generated_scene --only play_bytes_here --allow-holes --incremental /tmp/heretools/inc_pl --jobs 2
+export ROOT=/tmp/here_gc; cd $ROOT/crates/gfx_c; echo "== gfx_c"; python3 /tmp/heretools/mixed2.py gfx_c c_words,letter_boxes,generated_scene,scene_player --crate-type staticlib --only playing --only c_play --allow-holes --incremental /tmp/heretools/inc_gfxc --jobs 2

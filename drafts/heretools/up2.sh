@@ -1,0 +1,1 @@
+export ROOT=/tmp/here_gc; cd $ROOT/crates/gfx_c; echo "== gfx_c"; python3 /tmp/heretools/mixed2.py gfx_c c_words,letter_boxes,generated_scene,scene_player --only playing --only c_play --allow-holes --incremental /tmp/heretools/inc_gfxc --jobs 2

@@ -1,0 +1,11 @@
+pub mod NoFault
+pub mod CommandLine
+pub mod CountRead
+pub mod Pieces
+pub mod SerialLaws
+pub mod Serial
+pub mod Reports
+pub mod Refused
+pub mod Answered
+pub mod Ends
+pub mod Counts

@@ -1,0 +1,6 @@
+pub mod Numbers
+pub mod Words
+pub mod Io
+pub mod Noted
+pub mod Ended
+pub mod Parts
