@@ -143,6 +143,29 @@ fn ended<C: Naming, R: Threads + Wait + Sync>(
 }
 
 // A program is made and destroyed in frame 0. The indices of the programs that are made in frames 1 to 4.
+fn indices_again<C: Naming, R: Threads + Wait + Sync>(
+    rt: &R,
+    context: &mut Context<'_, C, ListLink>,
+) -> Option<[u16; 4]> {
+    let Ok(first) = context.create_program(ProgramKind::Solid) else {
+        return None;
+    };
+    let Ok(_) = context.destroy(first) else {
+        return None;
+    };
+    let mut indices = [0u16; 4];
+    for place in &mut indices {
+        let Ok(_) = ended(rt, context)? else {
+            return None;
+        };
+        let Ok(program) = context.create_program(ProgramKind::Solid) else {
+            return None;
+        };
+        *place = program.index();
+    }
+    Some(indices)
+}
+
 fn made_again<C: Naming, R: Threads + Wait + Sync>(
     rt: &R,
     alloc: Global,
@@ -158,23 +181,7 @@ fn made_again<C: Naming, R: Threads + Wait + Sync>(
         return None;
     };
     let mut context = begun(alloc, &shared, seat, 0, 1, latency)?;
-    let Ok(first) = context.create_program(ProgramKind::Solid) else {
-        return None;
-    };
-    let Ok(_) = context.destroy(first) else {
-        return None;
-    };
-    let mut indices = [0u16; 4];
-    for place in &mut indices {
-        let Ok(_) = ended(rt, &mut context)? else {
-            return None;
-        };
-        let Ok(program) = context.create_program(ProgramKind::Solid) else {
-            return None;
-        };
-        *place = program.index();
-    }
-    Some(indices)
+    indices_again(rt, &mut context)
 }
 
 fn again<R: Threads + Wait + Sync>(
@@ -200,6 +207,34 @@ fn an_index_comes_again(rt: HostRuntime) -> Result<(), Fail> {
 }
 
 // A program dies in frame 0, and another is made in each frame behind it. What encoders of frames 0 to 2 answer to a draw by the first.
+fn stale_answers<C: Naming, R: Threads + Wait + Sync>(
+    rt: &R,
+    context: &mut Context<'_, C, ListLink>,
+) -> Option<[Option<Refusal>; 3]>
+    requires admits { (e f d : ℕ) (items : List SeenItem) → C.admits e f items d }
+{
+    let Ok(program) = context.create_program(ProgramKind::Solid) else {
+        return None;
+    };
+    let mut answers = [None; 3];
+    for answer in &mut answers {
+        let Ok(mut encoder) = begun_one(context)? else {
+            return None;
+        };
+        // accepted in frame 0
+        let _ = context.destroy(program);
+        *answer = refusal_of(encoder.submit(0, program, 0, 255));
+        encoder.end(rt, 0);
+        let Ok(_) = ended(rt, context)? else {
+            return None;
+        };
+        let Ok(_) = context.create_program(ProgramKind::Solid) else {
+            return None;
+        };
+    }
+    Some(answers)
+}
+
 fn dead_program<C: Naming, R: Threads + Wait + Sync>(
     rt: &R,
     alloc: Global,
@@ -214,26 +249,7 @@ fn dead_program<C: Naming, R: Threads + Wait + Sync>(
         return None;
     };
     let mut context = begun(alloc, &shared, seat, 0, 1, 1)?;
-    let Ok(program) = context.create_program(ProgramKind::Solid) else {
-        return None;
-    };
-    let mut answers = [None; 3];
-    for answer in &mut answers {
-        let Ok(mut encoder) = begun_one(&mut context)? else {
-            return None;
-        };
-        // accepted in frame 0
-        let _ = context.destroy(program);
-        *answer = refusal_of(encoder.submit(0, program, 0, 255));
-        encoder.end(rt, 0);
-        let Ok(_) = ended(rt, &mut context)? else {
-            return None;
-        };
-        let Ok(_) = context.create_program(ProgramKind::Solid) else {
-            return None;
-        };
-    }
-    Some(answers)
+    stale_answers(rt, &mut context)
 }
 
 #[test]
@@ -258,6 +274,27 @@ fn refused<B: ResourceCalls>(calls: &mut B) -> Option<Refusal> {
 }
 
 // In the last frame: the refusals of a second program where one serial is left, of a ninth encoder, and of the frame's end.
+fn refusals_at_the_limits<C: Naming, R: Threads + Wait + Sync>(
+    rt: &R,
+    context: &mut Context<'_, C, ListLink>,
+) -> Option<[Option<Refusal>; 3]>
+    requires admits { (e f d : ℕ) (items : List SeenItem) → C.admits e f items d }
+{
+    let Ok(_) = context.create_program(ProgramKind::Solid) else {
+        return None;
+    };
+    let serials = refused(context);
+    for _ in 0..8u8 {
+        let Ok(encoder) = begun_one(context)? else {
+            return None;
+        };
+        encoder.end(rt, 0);
+    }
+    let ninth = refusal_of(begun_one(context)?);
+    let frames = refusal_of(ended(rt, context)?);
+    Some([serials, ninth, frames])
+}
+
 fn limits<C: Naming, R: Threads + Wait + Sync>(
     rt: &R,
     alloc: Global,
@@ -272,19 +309,7 @@ fn limits<C: Naming, R: Threads + Wait + Sync>(
         return None;
     };
     let mut context = begun(alloc, &shared, seat, 1_073_741_823, 4_294_967_295, 1)?;
-    let Ok(_) = context.create_program(ProgramKind::Solid) else {
-        return None;
-    };
-    let serials = refused(&mut context);
-    for _ in 0..8u8 {
-        let Ok(encoder) = begun_one(&mut context)? else {
-            return None;
-        };
-        encoder.end(rt, 0);
-    }
-    let ninth = refusal_of(begun_one(&mut context)?);
-    let frames = refusal_of(ended(rt, &mut context)?);
-    Some([serials, ninth, frames])
+    refusals_at_the_limits(rt, &mut context)
 }
 
 #[test]
@@ -303,6 +328,19 @@ fn the_limits(rt: HostRuntime) -> Result<(), Fail> {
 }
 
 // The answer to the destroy of a texture that a frame buffer holds, and the frame buffer.
+fn held_in<C: Naming>(
+    context: &mut Context<'_, C, ListLink>,
+) -> Option<(Result<(), Refusal>, Handle)> {
+    let Ok(texture) = context.create_texture(1, 1, Format::Rgba8, false, TexSource::Fill([0; 4]))
+    else {
+        return None;
+    };
+    let Ok(holder) = context.create_frame_buffer(texture, None) else {
+        return None;
+    };
+    Some((context.destroy(texture), holder))
+}
+
 fn held<C: Naming>(
     alloc: Global,
     table: HoldTable,
@@ -315,14 +353,7 @@ fn held<C: Naming>(
         return None;
     };
     let mut context = begun(alloc, &shared, seat, 0, 1, 1)?;
-    let Ok(texture) = context.create_texture(1, 1, Format::Rgba8, false, TexSource::Fill([0; 4]))
-    else {
-        return None;
-    };
-    let Ok(holder) = context.create_frame_buffer(texture, None) else {
-        return None;
-    };
-    Some((context.destroy(texture), holder))
+    held_in(&mut context)
 }
 
 #[test]
@@ -335,19 +366,10 @@ fn a_texture_is_held(rt: HostRuntime) -> Result<(), Fail> {
 
 // Of two frame buffers that hold a texture the first dies, and a third one has its index. The answer to the destroy of the texture,
 // and the third.
-fn held_again<C: Naming, R: Threads + Wait + Sync>(
+fn held_again_in<C: Naming, R: Threads + Wait + Sync>(
     rt: &R,
-    alloc: Global,
-    table: HoldTable,
-    seat: ApiSeat,
-) -> Option<(Result<(), Refusal>, Handle)>
-    requires table { (table_of table ≡ C.table) × (api_table seat ≡ C.table) × (api_view seat ≡ first_view 0) }
-    requires views { C.views ≡ fewest_views }
-{
-    let Ok(shared) = Shared::<C>::new(alloc, table) else {
-        return None;
-    };
-    let mut context = begun(alloc, &shared, seat, 0, 1, 1)?;
+    context: &mut Context<'_, C, ListLink>,
+) -> Option<(Result<(), Refusal>, Handle)> {
     let Ok(texture) = context.create_texture(1, 1, Format::Rgba8, false, TexSource::Fill([0; 4]))
     else {
         return None;
@@ -362,7 +384,7 @@ fn held_again<C: Naming, R: Threads + Wait + Sync>(
         return None;
     };
     for _ in 0..2u8 {
-        let Ok(_) = ended(rt, &mut context)? else {
+        let Ok(_) = ended(rt, context)? else {
             return None;
         };
     }
@@ -370,6 +392,22 @@ fn held_again<C: Naming, R: Threads + Wait + Sync>(
         return None;
     };
     Some((context.destroy(texture), third))
+}
+
+fn held_again<C: Naming, R: Threads + Wait + Sync>(
+    rt: &R,
+    alloc: Global,
+    table: HoldTable,
+    seat: ApiSeat,
+) -> Option<(Result<(), Refusal>, Handle)>
+    requires table { (table_of table ≡ C.table) × (api_table seat ≡ C.table) × (api_view seat ≡ first_view 0) }
+    requires views { C.views ≡ fewest_views }
+{
+    let Ok(shared) = Shared::<C>::new(alloc, table) else {
+        return None;
+    };
+    let mut context = begun(alloc, &shared, seat, 0, 1, 1)?;
+    held_again_in(rt, &mut context)
 }
 
 #[test]
@@ -382,6 +420,32 @@ fn the_holder_of_least_index(rt: HostRuntime) -> Result<(), Fail> {
 }
 
 // A thread records and ends its encoder while this one ends the frame. The number of items, and the sum of the dropped.
+fn ended_beside<C: Naming + Send + Sync, R: Threads + Wait + Sync>(
+    rt: &R,
+    context: &mut Context<'_, C, ListLink>,
+) -> Option<(usize, u64)>
+    requires admits { (e f d : ℕ) (items : List SeenItem) → C.admits e f items d }
+{
+    let Ok(mut encoder) = begun_one(context)? else {
+        return None;
+    };
+    let (_, report) = thread::join(
+        rt,
+        || -> ()
+            requires admits { (e f d : ℕ) (items : List SeenItem) → C.admits e f items d }
+        {
+            let _ = encoder.touch(0);
+            let _ = encoder.touch(1);
+            encoder.end(rt, 5);
+        },
+        || ended(rt, context),
+    );
+    let Ok(report) = report? else {
+        return None;
+    };
+    Some((report.journal.len(), report.dropped))
+}
+
 fn beside<C: Naming + Send + Sync, R: Threads + Wait + Sync>(
     rt: &R,
     alloc: Global,
@@ -396,24 +460,7 @@ fn beside<C: Naming + Send + Sync, R: Threads + Wait + Sync>(
         return None;
     };
     let mut context = begun(alloc, &shared, seat, 0, 1, 1)?;
-    let Ok(mut encoder) = begun_one(&mut context)? else {
-        return None;
-    };
-    let (_, report) = thread::join(
-        rt,
-        || -> ()
-            requires admits { (e f d : ℕ) (items : List SeenItem) → C.admits e f items d }
-        {
-            let _ = encoder.touch(0);
-            let _ = encoder.touch(1);
-            encoder.end(rt, 5);
-        },
-        || ended(rt, &mut context),
-    );
-    let Ok(report) = report? else {
-        return None;
-    };
-    Some((report.journal.len(), report.dropped))
+    ended_beside(rt, &mut context)
 }
 
 #[test]
@@ -422,6 +469,26 @@ fn a_thread_records(rt: HostRuntime) -> Result<(), Fail> {
     let told = beside::<Brand, _>(&rt, rt.alloc(), table, seat);
     assert_eq!(rt; told, Some((2, 5)));
     Ok(())
+}
+
+// A frame is out, an encoder has ended, and another one is off, which comes back.
+fn one_off<'t, C: Naming, R: Threads + Wait + Sync>(
+    rt: &R,
+    context: &mut Context<'t, C, ListLink>,
+) -> Option<Encoder<'t, C>>
+    requires admits { (e f d : ℕ) (items : List SeenItem) → C.admits e f items d }
+{
+    let Ok(_) = ended(rt, context)? else {
+        return None;
+    };
+    let Ok(encoder) = begun_one(context)? else {
+        return None;
+    };
+    encoder.end(rt, 0);
+    let Ok(off) = begun_one(context)? else {
+        return None;
+    };
+    Some(off)
 }
 
 // The context is shut down while a frame is out, an encoder has ended, and a thread ends another one. What came back.
@@ -439,16 +506,7 @@ fn shut<C: Naming + Send + Sync, R: Threads + Wait + Sync>(
         return None;
     };
     let mut context = begun(alloc, &shared, seat, 0, 1, 1)?;
-    let Ok(_) = ended(rt, &mut context)? else {
-        return None;
-    };
-    let Ok(encoder) = begun_one(&mut context)? else {
-        return None;
-    };
-    encoder.end(rt, 0);
-    let Ok(open) = begun_one(&mut context)? else {
-        return None;
-    };
+    let open = one_off(rt, &mut context)?;
     let (_, closed) = thread::join(
         rt,
         || -> ()
@@ -483,6 +541,29 @@ fn a_context_is_shut_down(rt: HostRuntime) -> Result<(), Fail> {
 }
 
 // An encoder is begun, and begun again where there was no memory: its number, how many were begun, and the items of its frame.
+fn begun_again_in<C: Naming, R: Threads + Wait + Sync>(
+    rt: &R,
+    context: &mut Context<'_, C, ListLink>,
+) -> Option<(u8, u32, usize)>
+    requires admits { (e f d : ℕ) (items : List SeenItem) → C.admits e f items d }
+{
+    let one = match begun_one(context)? {
+        Err(Refusal::OutOfMemory) => begun_one(context)?,
+        one => one,
+    };
+    let Ok(mut encoder) = one else {
+        return None;
+    };
+    let number = encoder.number();
+    let begun = context.begun();
+    let _ = encoder.touch(0);
+    encoder.end(rt, 0);
+    let Ok(report) = ended(rt, context)? else {
+        return None;
+    };
+    Some((number, begun, report.journal.len()))
+}
+
 fn begun_again<C: Naming, R: Threads + Wait + Sync>(
     rt: &R,
     alloc: Global,
@@ -497,21 +578,7 @@ fn begun_again<C: Naming, R: Threads + Wait + Sync>(
         return None;
     };
     let mut context = begun(alloc, &shared, seat, 0, 1, 1)?;
-    let one = match begun_one(&mut context)? {
-        Err(Refusal::OutOfMemory) => begun_one(&mut context)?,
-        one => one,
-    };
-    let Ok(mut encoder) = one else {
-        return None;
-    };
-    let number = encoder.number();
-    let begun = context.begun();
-    let _ = encoder.touch(0);
-    encoder.end(rt, 0);
-    let Ok(report) = ended(rt, &mut context)? else {
-        return None;
-    };
-    Some((number, begun, report.journal.len()))
+    begun_again_in(rt, &mut context)
 }
 
 // `rt try --test --fail-alloc N` tries it with the Nth allocation failing.

@@ -4,13 +4,12 @@ ghost use Rattle.schedule_model.specs.Held.{Ascends};
 ghost use Rattle.draw_encoder.specs.Seen.{numbers_of};
 
 use crate::stray_tests::positions;
-use crate::tests::{Parts, framed, recorded, row};
+use crate::tests::{Parts, framed, recorded, render, row};
 use cmd_buffer::Command;
 use draw_encoder::{DrawItem, IndexSet, Item, TouchItem, VertexSet};
 use fix_math::{Affine, Rect};
 use frame_record::{Frame, Outcome};
 use gfx_words::{Handle, Info, Kind, StateWord, StencilWord};
-use int_raster::SerialRasterizer;
 use io_edge::MemSink;
 use render_core::Renderer;
 use std::alloc::{AllocError, Global};
@@ -68,32 +67,44 @@ pub(crate) fn draw(view: u16, state: u64, stencil: u32) -> Result<DrawItem, Fail
 // The colours are written, without tests.
 pub(crate) const COLORS: u64 = 15;
 
-fn drawn(
-    alloc: Global,
+// A frame of one draw: its views, its commands, and the draw.
+#[derive(Drop)]
+struct Drawn<'a> {
     views: ViewTable,
-    pre: &[Command],
-    post: &[Command],
+    pre: &'a [Command],
+    post: &'a [Command],
     draw: DrawItem,
-) -> Result<Frame, Fail> {
-    Ok(framed(
-        alloc,
-        0,
-        views,
-        row(alloc, pre)?,
-        row(alloc, post)?,
-        Item::Draw(draw),
-    )?)
 }
 
-// Two frames rendered on two pixels: whether both were shown, and the sink.
-fn rendered(alloc: Global, first: Frame, second: Frame) -> Result<(bool, MemSink), Fail> {
-    let sink = MemSink::new(alloc, 64, 64, Vec::new(alloc))?;
-    let mut renderer = Renderer::new(alloc, 2, 1, sink).map_err(|_| "memory")?;
-    let one = renderer.render(&mut SerialRasterizer, first);
-    let two = renderer.render(&mut SerialRasterizer, second);
-    let shown = one.outcome == Outcome::Shown && two.outcome == Outcome::Shown;
-    Ok((shown, renderer.into_sink()))
+fn frame_of(alloc: Global, made: Drawn<'_>) -> Result<Frame, Fail> {
+    // The types of a draw's parts are seen here, as the check asks.
+    let _parts: Option<Parts> = None;
+    let pre = row(alloc, made.pre)?;
+    let post = row(alloc, made.post)?;
+    Ok(framed(alloc, 0, made.views, pre, post, Item::Draw(made.draw))?)
 }
+
+// A renderer of two pixels.
+fn two_pixels(alloc: Global) -> Result<Renderer<MemSink>, Fail> {
+    let sink = MemSink::new(alloc, 64, 64, Vec::new(alloc))?;
+    Ok(Renderer::new(alloc, 2, 1, sink).map_err(|_| "memory")?)
+}
+
+// Two frames rendered on two pixels: their outcomes, and the sink.
+fn rendered(
+    alloc: Global,
+    first: Drawn<'_>,
+    second: Drawn<'_>,
+) -> Result<((Outcome, Outcome), MemSink), Fail> {
+    // The types of a draw's parts are seen here, as the check asks.
+    let _parts: Option<Parts> = None;
+    let mut renderer = two_pixels(alloc)?;
+    let (one, _) = render(&mut renderer, frame_of(alloc, first)?);
+    let (two, _) = render(&mut renderer, frame_of(alloc, second)?);
+    Ok(((one, two), renderer.into_sink()))
+}
+
+const SHOWN: (Outcome, Outcome) = (Outcome::Shown, Outcome::Shown);
 
 const BLACK_WHITE: &[u8] = b"P6\n2 1\n255\n\0\0\0\0\0\0P6\n2 1\n255\n\xff\xff\xff\xff\xff\xff";
 
@@ -107,12 +118,20 @@ fn a_payload_past_the_end(rt: HostRuntime) -> Result<(), Fail> {
     // The types of a draw's parts are seen here, as the check asks.
     let _parts: Option<Parts> = None;
     let alloc = rt.alloc();
-    let views = ViewTable::new(alloc, 256)?;
-    let first = drawn(alloc, views, &things(3)?, &[], draw(0, COLORS, 0)?)?;
-    let views = ViewTable::new(alloc, 256)?;
-    let second = drawn(alloc, views, &things(0)?, &[], draw(0, COLORS, 0)?)?;
-    let (shown, sink) = rendered(alloc, first, second)?;
-    assert!(rt; shown);
+    let first = Drawn {
+        views: ViewTable::new(alloc, 256)?,
+        pre: &things(3)?,
+        post: &[],
+        draw: draw(0, COLORS, 0)?,
+    };
+    let second = Drawn {
+        views: ViewTable::new(alloc, 256)?,
+        pre: &things(0)?,
+        post: &[],
+        draw: draw(0, COLORS, 0)?,
+    };
+    let (both, sink) = rendered(alloc, first, second)?;
+    assert_eq!(rt; both, SHOWN);
     assert_eq!(rt; sink.bytes(), BLACK_WHITE);
     Ok(())
 }
@@ -123,16 +142,24 @@ fn a_handle_of_a_thing_that_is_gone(rt: HostRuntime) -> Result<(), Fail> {
     // The types of a draw's parts are seen here, as the check asks.
     let _parts: Option<Parts> = None;
     let alloc = rt.alloc();
-    let end = [Command::Destroy { kind: 1, index: 0 }];
-    let views = ViewTable::new(alloc, 256)?;
-    let first = drawn(alloc, views, &things(0)?, &end, draw(0, COLORS, 0)?)?;
     let mut views = ViewTable::new(alloc, 256)?;
     views
         .set_clear(0, 1, [0, 255, 0, 255], 0, 0)
         .map_err(|_| "clear")?;
-    let second = drawn(alloc, views, &[], &[], draw(0, COLORS, 0)?)?;
-    let (shown, sink) = rendered(alloc, first, second)?;
-    assert!(rt; shown);
+    let first = Drawn {
+        views: ViewTable::new(alloc, 256)?,
+        pre: &things(0)?,
+        post: &[Command::Destroy { kind: 1, index: 0 }],
+        draw: draw(0, COLORS, 0)?,
+    };
+    let second = Drawn {
+        views,
+        pre: &[],
+        post: &[],
+        draw: draw(0, COLORS, 0)?,
+    };
+    let (both, sink) = rendered(alloc, first, second)?;
+    assert_eq!(rt; both, SHOWN);
     assert_eq!(rt; sink.bytes(), WHITE_GREEN);
     Ok(())
 }
@@ -143,12 +170,20 @@ fn a_view_that_is_not_there(rt: HostRuntime) -> Result<(), Fail> {
     // The types of a draw's parts are seen here, as the check asks.
     let _parts: Option<Parts> = None;
     let alloc = rt.alloc();
-    let views = ViewTable::new(alloc, 256)?;
-    let first = drawn(alloc, views, &things(0)?, &[], draw(256, COLORS, 0)?)?;
-    let views = ViewTable::new(alloc, 256)?;
-    let second = drawn(alloc, views, &[], &[], draw(255, COLORS, 0)?)?;
-    let (shown, sink) = rendered(alloc, first, second)?;
-    assert!(rt; shown);
+    let first = Drawn {
+        views: ViewTable::new(alloc, 256)?,
+        pre: &things(0)?,
+        post: &[],
+        draw: draw(256, COLORS, 0)?,
+    };
+    let second = Drawn {
+        views: ViewTable::new(alloc, 256)?,
+        pre: &[],
+        post: &[],
+        draw: draw(255, COLORS, 0)?,
+    };
+    let (both, sink) = rendered(alloc, first, second)?;
+    assert_eq!(rt; both, SHOWN);
     assert_eq!(rt; sink.bytes(), BLACK_WHITE);
     Ok(())
 }
@@ -163,11 +198,20 @@ fn a_transform_of_a_view(rt: HostRuntime) -> Result<(), Fail> {
     right.m[3] = 65_536;
     let mut views = ViewTable::new(alloc, 256)?;
     views.set_transform(0, right).map_err(|_| "transform")?;
-    let first = drawn(alloc, views, &things(0)?, &[], draw(0, COLORS, 0)?)?;
-    let views = ViewTable::new(alloc, 256)?;
-    let second = drawn(alloc, views, &[], &[], draw(0, COLORS, 0)?)?;
-    let (shown, sink) = rendered(alloc, first, second)?;
-    assert!(rt; shown);
+    let first = Drawn {
+        views,
+        pre: &things(0)?,
+        post: &[],
+        draw: draw(0, COLORS, 0)?,
+    };
+    let second = Drawn {
+        views: ViewTable::new(alloc, 256)?,
+        pre: &[],
+        post: &[],
+        draw: draw(0, COLORS, 0)?,
+    };
+    let (both, sink) = rendered(alloc, first, second)?;
+    assert_eq!(rt; both, SHOWN);
     assert_eq!(rt; sink.bytes(), HALF_WHITE);
     Ok(())
 }
@@ -180,17 +224,26 @@ fn a_failed_stencil_test_stores_no_depth(rt: HostRuntime) -> Result<(), Fail> {
     let alloc = rt.alloc();
     // depth is written where it is less
     let less = 274_877_906_944 + 16 + COLORS;
+    let mut behind = draw(0, less, 0)?;
+    behind.model.m[11] = 16_384;
     let mut views = ViewTable::new(alloc, 256)?;
     views
         .set_clear(0, 6, [0; 4], 16_777_215, 0)
         .map_err(|_| "clear")?;
-    let first = drawn(alloc, views, &things(0)?, &[], draw(0, less, 286_523_137)?)?;
-    let mut behind = draw(0, less, 0)?;
-    behind.model.m[11] = 16_384;
-    let views = ViewTable::new(alloc, 256)?;
-    let second = drawn(alloc, views, &[], &[], behind)?;
-    let (shown, sink) = rendered(alloc, first, second)?;
-    assert!(rt; shown);
+    let first = Drawn {
+        views,
+        pre: &things(0)?,
+        post: &[],
+        draw: draw(0, less, 286_523_137)?,
+    };
+    let second = Drawn {
+        views: ViewTable::new(alloc, 256)?,
+        pre: &[],
+        post: &[],
+        draw: behind,
+    };
+    let (both, sink) = rendered(alloc, first, second)?;
+    assert_eq!(rt; both, SHOWN);
     assert_eq!(rt; sink.bytes(), BLACK_WHITE);
     Ok(())
 }
@@ -201,15 +254,19 @@ fn outcomes(alloc: Global) -> Result<((Outcome, Outcome), MemSink), Fail> {
     let _parts: Option<Parts> = None;
     let mut right = draw(0, COLORS, 0)?;
     right.model.m[3] = 65_536;
-    let views = ViewTable::new(alloc, 256)?;
-    let first = drawn(alloc, views, &things(0)?, &[], right)?;
-    let views = ViewTable::new(alloc, 256)?;
-    let second = drawn(alloc, views, &[], &[], draw(0, COLORS, 0)?)?;
-    let sink = MemSink::new(alloc, 64, 64, Vec::new(alloc))?;
-    let mut renderer = Renderer::new(alloc, 2, 1, sink).map_err(|_| "memory")?;
-    let one = renderer.render(&mut SerialRasterizer, first);
-    let two = renderer.render(&mut SerialRasterizer, second);
-    Ok(((one.outcome, two.outcome), renderer.into_sink()))
+    let first = Drawn {
+        views: ViewTable::new(alloc, 256)?,
+        pre: &things(0)?,
+        post: &[],
+        draw: right,
+    };
+    let second = Drawn {
+        views: ViewTable::new(alloc, 256)?,
+        pre: &[],
+        post: &[],
+        draw: draw(0, COLORS, 0)?,
+    };
+    rendered(alloc, first, second)
 }
 
 const HALF: &[u8] = b"P6\n2 1\n255\n\0\0\0\xff\xff\xff";
@@ -219,7 +276,7 @@ const HALF: &[u8] = b"P6\n2 1\n255\n\0\0\0\xff\xff\xff";
 #[test]
 fn a_frame_that_wants_memory(rt: HostRuntime) -> Result<(), Fail> {
     let (both, sink) = outcomes(rt.alloc())?;
-    let wanted = if both == (Outcome::Shown, Outcome::Shown) {
+    let wanted = if both == SHOWN {
         HALF_WHITE
     } else if both == (Outcome::Shown, Outcome::OutOfMemory) {
         HALF
@@ -301,9 +358,9 @@ fn has_stairs(bytes: &[u8], last: u16) -> bool {
 fn stairs_shown(alloc: Global, order: &[u16], last: u16) -> Result<bool, Fail> {
     let sink = MemSink::new(alloc, 2_048, 2_048, Vec::new(alloc))?;
     let mut renderer = Renderer::new(alloc, 512, 1, sink).map_err(|_| "memory")?;
-    let rendered = renderer.render(&mut SerialRasterizer, stairs(alloc, order)?);
+    let (outcome, _) = render(&mut renderer, stairs(alloc, order)?);
     let sink = renderer.into_sink();
-    Ok(rendered.outcome == Outcome::Shown && has_stairs(sink.bytes(), last))
+    Ok(outcome == Outcome::Shown && has_stairs(sink.bytes(), last))
 }
 
 // By their numbers each view overwrites the pixels of the views before it; where view 511 comes first, view 510 overwrites its pixel.

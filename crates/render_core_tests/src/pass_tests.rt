@@ -4,13 +4,12 @@ ghost use Rattle.schedule_model.specs.Held.{Ascends};
 ghost use Rattle.draw_encoder.specs.Seen.{numbers_of};
 
 use crate::frame_tests::{COLORS, draw, things};
-use crate::tests::{Parts, recorded, row};
+use crate::tests::{Parts, recorded, render, row};
 use cmd_buffer::Command;
 use draw_encoder::{BlitCall, BlitItem, Item};
 use fix_math::Rect;
 use frame_record::Outcome;
 use gfx_words::{Handle, Info, Kind};
-use int_raster::SerialRasterizer;
 use io_edge::MemSink;
 use render_core::Renderer;
 use std::alloc::Global;
@@ -75,11 +74,13 @@ fn shown(
     requires few { length (numbers_of items.items) ≤ 65528 }
     requires ascend { Ascends (numbers_of items.items) }
 {
-    let frame = recorded(alloc, 0, views, row(alloc, pre)?, row(alloc, &[])?, items)?;
+    let pre = row(alloc, pre)?;
+    let post = row(alloc, &[])?;
     let sink = MemSink::new(alloc, 1_024, 1_024, Vec::new(alloc))?;
     let mut renderer = Renderer::new(alloc, width, 1, sink).map_err(|_| "memory")?;
-    let rendered = renderer.render(&mut SerialRasterizer, frame);
-    if rendered.outcome != Outcome::Shown {
+    let frame = recorded(alloc, 0, views, pre, post, items)?;
+    let (outcome, _) = render(&mut renderer, frame);
+    if outcome != Outcome::Shown {
         return Err("not shown".into());
     }
     Ok(renderer.into_sink())

@@ -1,13 +1,12 @@
 // Frames that no context makes.
 ghost use Rattle.std.specs.Prelude.{◌≡◌, ◌≤◌, ◌<◌};
 
-use crate::tests::{framed, row};
+use crate::tests::{framed, render, row};
 use cmd_buffer::Command;
 use draw_encoder::{BlitCall, BlitItem, DrawItem, IndexSet, Item, VertexSet};
 use fix_math::{Affine, Rect};
 use frame_record::{Frame, Outcome};
 use gfx_words::{Handle, Info, Kind, StateWord, StencilWord};
-use int_raster::SerialRasterizer;
 use io_edge::MemSink;
 use render_core::Renderer;
 use std::alloc::Global;
@@ -267,22 +266,33 @@ fn pictures_with_color(bytes: &[u8]) -> usize {
         .count()
 }
 
-// A thousand of them are shown, many with something in them, and the frame behind them is as it would be without them.
+// A thousand frames, and one behind them: whether all were shown.
+fn all_shown(
+    alloc: Global,
+    renderer: &mut Renderer<MemSink>,
+    words: (StateWord, StencilWord),
+) -> Result<bool, Fail> {
+    let mut all = true;
+    let mut seed = 1;
+    for _ in 0..1_000 {
+        seed = next(seed);
+        let (outcome, _) = render(renderer, stray_frame(alloc, seed, words)?);
+        all = all && outcome == Outcome::Shown;
+    }
+    let (last, _) = render(renderer, last_frame(alloc, words)?);
+    Ok(all && last == Outcome::Shown)
+}
+
+// All are shown, many with something in them, and the frame behind them is as it would be without them.
 #[test]
 fn frames_of_no_context(rt: HostRuntime) -> Result<(), Fail> {
     let alloc = rt.alloc();
     let words = words()?;
     let sink = MemSink::new(alloc, 100_000, 100_000, Vec::new(alloc))?;
     let mut renderer = Renderer::new(alloc, 4, 2, sink).map_err(|_| "memory")?;
-    let mut seed = 1;
-    for _ in 0..1_000 {
-        seed = next(seed);
-        let rendered = renderer.render(&mut SerialRasterizer, stray_frame(alloc, seed, words)?);
-        assert_eq!(rt; rendered.outcome, Outcome::Shown);
-    }
-    let last = renderer.render(&mut SerialRasterizer, last_frame(alloc, words)?);
-    assert_eq!(rt; last.outcome, Outcome::Shown);
+    let all = all_shown(alloc, &mut renderer, words)?;
     let sink = renderer.into_sink();
+    assert!(rt; all);
     assert_eq!(rt; sink.bytes().len(), 35_035);
     assert!(rt; pictures_with_color(sink.bytes()) > 50);
     let last = sink.bytes().chunks(PICTURE).last().ok_or("no picture")?;

@@ -155,6 +155,12 @@ fn cleared(alloc: Global) -> Result<Frame, Fail> {
     shaded(alloc, 3, 255)
 }
 
+// A frame is rendered: its outcome and its number.
+pub(crate) fn render(renderer: &mut Renderer<MemSink>, frame: Frame) -> (Outcome, u32) {
+    let rendered = renderer.render(&mut SerialRasterizer, frame);
+    (rendered.outcome, rendered.frame.number)
+}
+
 const GREEN: &[u8] = b"P6\n2 1\n255\n\0\0\0\0\xff\0";
 
 #[test]
@@ -162,10 +168,10 @@ fn a_rectangle_cleared(rt: HostRuntime) -> Result<(), Fail> {
     let alloc = rt.alloc();
     let sink = MemSink::new(alloc, 64, 5, Vec::new(alloc))?;
     let mut renderer = Renderer::new(alloc, 2, 1, sink).map_err(|_| "memory")?;
-    let rendered = renderer.render(&mut SerialRasterizer, cleared(alloc)?);
-    assert_eq!(rt; rendered.outcome, Outcome::Shown);
-    assert_eq!(rt; rendered.frame.number, 3);
-    assert_eq!(rt; renderer.into_sink().bytes(), GREEN);
+    let told = render(&mut renderer, cleared(alloc)?);
+    let sink = renderer.into_sink();
+    assert_eq!(rt; told, (Outcome::Shown, 3));
+    assert_eq!(rt; sink.bytes(), GREEN);
     Ok(())
 }
 
@@ -176,12 +182,12 @@ fn a_fault_and_what_follows(rt: HostRuntime) -> Result<(), Fail> {
     fails.push(1u32)?;
     let sink = MemSink::new(alloc, 64, 5, fails)?;
     let mut renderer = Renderer::new(alloc, 2, 1, sink).map_err(|_| "memory")?;
-    let first = renderer.render(&mut SerialRasterizer, cleared(alloc)?);
-    assert_eq!(rt; first.outcome, Outcome::PictureFault);
-    let second = renderer.render(&mut SerialRasterizer, empty(alloc, 4)?);
-    assert_eq!(rt; second.outcome, Outcome::Skipped);
-    assert_eq!(rt; second.frame.number, 4);
-    assert_eq!(rt; renderer.into_sink().bytes(), b"P6\n2 ".as_slice());
+    let first = render(&mut renderer, cleared(alloc)?);
+    let second = render(&mut renderer, empty(alloc, 4)?);
+    let sink = renderer.into_sink();
+    assert_eq!(rt; first, (Outcome::PictureFault, 3));
+    assert_eq!(rt; second, (Outcome::Skipped, 4));
+    assert_eq!(rt; sink.bytes(), b"P6\n2 ".as_slice());
     Ok(())
 }
 
@@ -227,7 +233,26 @@ fn drain<R: Threads + Wait + Sync>(
     Ok(())
 }
 
-// One frame more is given than may be out: the numbers of the shown frames that come back, and the pictures.
+// One frame more is given than may be out: the numbers of the shown frames that come back.
+fn through_link<R: Threads + Wait + Sync>(
+    rt: &R,
+    alloc: Global,
+    link: &mut Link,
+    latency: u8,
+) -> Result<Vec<u32>, Fail>
+    requires some { 1 ≤ latency }
+    requires empty { (length link.old.seat.me.0.given ≡ 0) × (length link.old.seat.me.0.back ≡ 0) × (link.old.latency ≡ latency) }
+{
+    let mut numbers = Vec::new(alloc);
+    fill(rt, alloc, link, latency)?;
+    let oldest = link.take_back(rt);
+    note(&mut numbers, &oldest)?;
+    link.give(rt, shaded(alloc, latency as u32, latency)?);
+    drain(rt, link, latency, &mut numbers)?;
+    Ok(numbers)
+}
+
+// The same through a new link, and the pictures.
 fn through<R: Threads + Wait + Sync>(
     rt: &R,
     alloc: Global,
@@ -240,12 +265,7 @@ fn through<R: Threads + Wait + Sync>(
     let mut link = InPlaceLink::new(alloc, renderer, SerialRasterizer, latency).map_err(
         |_| "memory",
     )?;
-    let mut numbers = Vec::new(alloc);
-    fill(rt, alloc, &mut link, latency)?;
-    let oldest = link.take_back(rt);
-    note(&mut numbers, &oldest)?;
-    link.give(rt, shaded(alloc, latency as u32, latency)?);
-    drain(rt, &mut link, latency, &mut numbers)?;
+    let numbers = through_link(rt, alloc, &mut link, latency)?;
     Ok((numbers, link.into_renderer().into_sink()))
 }
 

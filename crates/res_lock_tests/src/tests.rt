@@ -321,6 +321,26 @@ fn frames<C: Naming, H: HistoryNaming, R: Threads + Wait + Sync>(
     Some(pass)
 }
 
+// Each call of the lock, once.
+fn calls_each<C: Naming, H: HistoryNaming, R: Threads + Wait + Sync>(
+    rt: &R,
+    lock: &ResLock<'_, C, ListLink, H>,
+    pass: ResPass,
+    layout: VertexLayout,
+) -> Option<ResPass>
+    requires table { pass_table pass ≡ H.table }
+    requires admits { (e f d : ℕ) (items : List SeenItem) → C.admits e f items d }
+    ensures { IfSome result (λ r. IsSamePass pass r) }
+{
+    let (pass, vertices) = makes_buffers(rt, lock, pass, layout)?;
+    let (pass, texture, target) = makes_target(rt, lock, pass)?;
+    let pass = makes_program(rt, lock, pass)?;
+    let pass = updates(rt, lock, pass, vertices, texture)?;
+    let pass = sets_view(rt, lock, pass, target)?;
+    let pass = orders_views(rt, lock, pass)?;
+    frames(rt, lock, pass)
+}
+
 fn all_calls<C: Naming, H: HistoryNaming, R: Threads + Wait + Sync>(
     rt: &R,
     alloc: Global,
@@ -342,13 +362,7 @@ fn all_calls<C: Naming, H: HistoryNaming, R: Threads + Wait + Sync>(
     };
     let link = list_link(alloc, Outcome::Shown);
     let lock = locked::<C, ListLink, H>(alloc, &shared, seat, table, link)?;
-    let (pass, vertices) = makes_buffers(rt, &lock, pass, layout)?;
-    let (pass, texture, target) = makes_target(rt, &lock, pass)?;
-    let pass = makes_program(rt, &lock, pass)?;
-    let pass = updates(rt, &lock, pass, vertices, texture)?;
-    let pass = sets_view(rt, &lock, pass, target)?;
-    let pass = orders_views(rt, &lock, pass)?;
-    let pass = frames(rt, &lock, pass)?;
+    let pass = calls_each(rt, &lock, pass, layout)?;
     let (_, history) = lock.close(pass);
     Some(history)
 }
@@ -459,6 +473,28 @@ struct Answers {
     history: Vec<Entry>,
 }
 
+// The answers of a lock whose context a fault of the second frame ends: a second destroy, whether two frames were given, and three calls.
+fn answers_of<C: Naming, H: HistoryNaming, R: Threads + Wait + Sync>(
+    rt: &R,
+    lock: &ResLock<'_, C, ListLink, H>,
+    pass: ResPass,
+) -> Option<
+    (
+        ResPass,
+        Option<LockRefusal>,
+        [bool; 2],
+        [Option<LockRefusal>; 3],
+    ),
+>
+    requires { pass_table pass ≡ H.table }
+    ensures { IfSome result (λ r. IsSamePass pass r.0) }
+{
+    let (pass, again) = destroyed_again(rt, lock, pass)?;
+    let (pass, given) = two_frames(rt, lock, pass)?;
+    let (pass, refused) = three_refused(rt, lock, pass)?;
+    Some((pass, again, given, refused))
+}
+
 fn ends<C: Naming, H: HistoryNaming, R: Threads + Wait + Sync>(
     rt: &R,
     alloc: Global,
@@ -478,9 +514,7 @@ fn ends<C: Naming, H: HistoryNaming, R: Threads + Wait + Sync>(
     };
     let link = list_link(alloc, Outcome::PictureFault);
     let lock = locked::<C, ListLink, H>(alloc, &shared, seat, table, link)?;
-    let (pass, again) = destroyed_again(rt, &lock, pass)?;
-    let (pass, given) = two_frames(rt, &lock, pass)?;
-    let (pass, refused) = three_refused(rt, &lock, pass)?;
+    let (pass, again, given, refused) = answers_of(rt, &lock, pass)?;
     let (_, history) = lock.close(pass);
     Some(Answers {
         again,

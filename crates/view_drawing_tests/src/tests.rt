@@ -18,6 +18,7 @@ use render_stores::RenderStores;
 use std::alloc::{AllocError, Global};
 use std::process::Abort;
 use std::test::Fail;
+use std::thread::Threads;
 use texture_store::TexelSource;
 use vertex_layout::{Attr, AttrType, LayoutBuilder};
 use view_drawing::{DrawingRoom, enter_view};
@@ -147,6 +148,21 @@ fn enter<D: Rasterizer>(
     enter_view(rasterizer, stores, view, frame, &blits, &items, &mut room)
 }
 
+// Enters a view with a frame of two items.
+fn enter_pair<D: Rasterizer>(
+    alloc: Global,
+    rasterizer: &mut D,
+    stores: &mut RenderStores,
+    view: &View,
+    first: Item,
+    second: Item,
+) -> Result<(), AllocError>
+    requires { (number_of first ≡ 0) × (number_of second ≡ 1) }
+{
+    let frame = two(alloc, first, second)?;
+    enter(alloc, rasterizer, stores, view, &frame)
+}
+
 fn touch(number: u64) -> Item
     ensures { number_of result ≡ number }
 {
@@ -191,6 +207,28 @@ fn draw<R: Abort>(rt: &R, word: u64, stencil: u32, program: u16) -> DrawItem
     }
 }
 
+// Two draws of a view, with the things that they draw with.
+fn enter_draws(
+    alloc: Global,
+    stores: &mut RenderStores,
+    view: &View,
+    first: DrawItem,
+    second: DrawItem,
+) -> Result<(), Fail>
+    requires { (first.number ≡ 0) × (second.number ≡ 1) }
+{
+    fill(alloc, stores)?;
+    enter_pair(
+        alloc,
+        &mut SerialRasterizer,
+        stores,
+        view,
+        Item::Draw(first),
+        Item::Draw(second),
+    )?;
+    Ok(())
+}
+
 // Two draws of a view on a back buffer of some width, and its colours.
 fn enter_two(
     alloc: Global,
@@ -206,9 +244,7 @@ fn enter_two(
     requires numbers { (first.number ≡ 0) × (second.number ≡ 1) }
 {
     let mut stores = RenderStores::new(alloc, sides.0, sides.1)?;
-    fill(alloc, &mut stores)?;
-    let frame = two(alloc, Item::Draw(first), Item::Draw(second))?;
-    enter(alloc, &mut SerialRasterizer, &mut stores, view, &frame)?;
+    enter_draws(alloc, &mut stores, view, first, second)?;
     Ok(stores)
 }
 
@@ -223,13 +259,13 @@ fn a_clear_stays_within_the_rectangle(rt: HostRuntime) -> Result<(), Fail> {
         depth: 0,
         stencil: 0,
     };
-    let frame = two(rt.alloc(), touch(0), touch(1))?;
-    enter(
+    enter_pair(
         rt.alloc(),
         &mut SerialRasterizer,
         &mut stores,
         &view,
-        &frame,
+        touch(0),
+        touch(1),
     )?;
     assert_eq!(rt;
         stores.back.color.texels.as_slice(),
@@ -360,14 +396,16 @@ fn texture(index: u16) -> Handle
     Handle::of(Kind::Texture, index, 4, info)
 }
 
-#[test]
-fn blits_and_a_sample_of_the_own_target(rt: HostRuntime) -> Result<(), Fail> {
-    let mut stores = RenderStores::new(rt.alloc(), 1, 1)?;
-    fill(rt.alloc(), &mut stores)?;
-    fill_textures(&mut stores)?;
+fn blit_and_sample<R: Abort + Threads>(
+    rt: &R,
+    alloc: Global,
+    stores: &mut RenderStores,
+) -> Result<(), Fail> {
+    fill(alloc, stores)?;
+    fill_textures(stores)?;
     let mut view = View::plain();
     view.target = Some(Handle::of(Kind::FrameBuffer, 0, 5, Info::Plain));
-    let mut item = draw(&rt, 15, 0, 1);
+    let mut item = draw(rt, 15, 0, 1);
     item.number = 1;
     item.textures[0] = Some(texture(1));
     let copy = BlitCall {
@@ -385,9 +423,22 @@ fn blits_and_a_sample_of_the_own_target(rt: HostRuntime) -> Result<(), Fail> {
         number: 0,
         copy,
     });
-    let frame = two(rt.alloc(), blit, Item::Draw(item))?;
-    let mut rasterizer = BandRasterizer::new(&rt);
-    enter(rt.alloc(), &mut rasterizer, &mut stores, &view, &frame)?;
+    let mut rasterizer = BandRasterizer::new(rt);
+    enter_pair(
+        alloc,
+        &mut rasterizer,
+        stores,
+        &view,
+        blit,
+        Item::Draw(item),
+    )?;
+    Ok(())
+}
+
+#[test]
+fn blits_and_a_sample_of_the_own_target(rt: HostRuntime) -> Result<(), Fail> {
+    let mut stores = RenderStores::new(rt.alloc(), 1, 1)?;
+    blit_and_sample(&rt, rt.alloc(), &mut stores)?;
     let row = [[16, 16, 16, 255], [16, 16, 16, 255], [32, 32, 32, 255]];
     let Some(copied) = stores.textures.texels_of(0) else {
         return Err("no texture".into());
@@ -400,29 +451,33 @@ fn blits_and_a_sample_of_the_own_target(rt: HostRuntime) -> Result<(), Fail> {
     Ok(())
 }
 
-#[test]
-fn a_count_far_past_the_end(rt: HostRuntime) -> Result<(), Fail> {
-    let mut stores = RenderStores::new(rt.alloc(), 1, 1)?;
-    fill(rt.alloc(), &mut stores)?;
+fn draw_far<R: Abort>(rt: &R, alloc: Global, stores: &mut RenderStores) -> Result<(), Fail> {
+    fill(alloc, stores)?;
     if stores.buffers.bytes_of(Kind::IndexBuffer, 0).is_none() {
-        let bytes = b"\x00\x00\x01\x00\x02\x00".as_slice().to_vec(rt.alloc())?;
+        let bytes = b"\x00\x00\x01\x00\x02\x00".as_slice().to_vec(alloc)?;
         stores.buffers.create_indices(0, bytes);
     }
-    let mut item = draw(&rt, 15, 0, 0);
+    let mut item = draw(rt, 15, 0, 0);
     item.indices = IndexSet::Buffer {
         buffer: Handle::of(Kind::IndexBuffer, 0, 6, Info::Plain),
         first: 0,
         count: 4_294_967_295,
     };
-    let frame = two(rt.alloc(), Item::Draw(item), touch(1))?;
-    let view = View::plain();
-    enter(
-        rt.alloc(),
+    enter_pair(
+        alloc,
         &mut SerialRasterizer,
-        &mut stores,
-        &view,
-        &frame,
+        stores,
+        &View::plain(),
+        Item::Draw(item),
+        touch(1),
     )?;
+    Ok(())
+}
+
+#[test]
+fn a_count_far_past_the_end(rt: HostRuntime) -> Result<(), Fail> {
+    let mut stores = RenderStores::new(rt.alloc(), 1, 1)?;
+    draw_far(&rt, rt.alloc(), &mut stores)?;
     assert_eq!(rt; stores.back.color.texels.as_slice(), [GREY].as_slice());
     Ok(())
 }
