@@ -10,7 +10,9 @@
 #include <stdlib.h>
 #include <string.h>
 
-enum { WIDTH = 17, HEIGHT = 5, PICTURE = 3 * WIDTH * HEIGHT + 17, WORDS = 512, ENCODERS = 10, CALLS = 40 };
+enum { WIDTH = 17, HEIGHT = 5, PICTURE = 3 * WIDTH * HEIGHT + 17, WORDS = 32, ENCODERS = 10, CALLS = 40 };
+
+enum kind { LAYOUT, VERTEX_BUFFER, INDEX_BUFFER, TEXTURE, FRAME_BUFFER, PROGRAM, UNIFORM, KINDS };
 
 static uint64_t state;
 
@@ -26,15 +28,16 @@ static uint32_t below(uint32_t n) {
     return (uint32_t)(next() % n);
 }
 
-static gfx_thing words[WORDS];
+static gfx_thing words[KINDS][WORDS];
 
-/* A word that was made, mostly; or none; or any number. */
-static gfx_thing word(void) {
-    uint32_t k = below(8);
+/* A word that was made for a thing of this kind, mostly; or for one of any kind; or none; or any number. */
+static gfx_thing word(uint32_t kind) {
+    uint32_t k = below(16);
     if (k == 0) return 0;
     if (k == 1) return next();
-    gfx_thing made = words[below(WORDS)];
-    return k == 2 ? made ^ (UINT64_C(1) << below(64)) : made;
+    if (k < 4) kind = below(KINDS);
+    gfx_thing made = words[kind][below(WORDS)];
+    return k == 4 ? made ^ (UINT64_C(1) << below(64)) : made;
 }
 
 /* A handle whose use is no encoder's or no context's, too. A handle is one pointer, so one may be passed as the other. */
@@ -70,14 +73,14 @@ static gfx_status create(uint32_t call, gfx_context *c, gfx_thing *made) {
             for (int i = 0; i < 3; i++) parts[i] = (gfx_part){(uint8_t)(below(6) ? below(8) : 255), (uint8_t)below(4), (uint8_t)below(5)};
             return gfx_create_layout(c, parts, below(4), made);
         }
-        case 1: return gfx_create_vertex_buffer(c, word(), bytes, n, made);
+        case 1: return gfx_create_vertex_buffer(c, word(LAYOUT), bytes, n, made);
         case 2: return gfx_create_index_buffer(c, bytes, n, made);
         case 3: {
             uint16_t w = (uint16_t)below(6), h = (uint16_t)below(6);
             return gfx_create_texture(c, w, h, (uint8_t)below(3), (uint8_t)below(2), bytes, below(8) ? 4u * w * h : n, made);
         }
         case 4: return gfx_create_filled_texture(c, (uint16_t)below(6), (uint16_t)below(6), (uint8_t)below(3), (uint8_t)below(2), 1, 2, 3, 4, made);
-        case 5: return gfx_create_frame_buffer(c, word(), word(), made);
+        case 5: return gfx_create_frame_buffer(c, word(TEXTURE), word(TEXTURE), made);
         case 6: return gfx_create_program(c, (uint8_t)below(5), made);
         default: {
             uint8_t name = (uint8_t)('a' + below(26));
@@ -96,20 +99,24 @@ static gfx_status any_call(uint32_t call) {
     if (call < 8) {
         gfx_thing old = next(), made = old;
         gfx_status status = create(call, c, &made);
-        if (status == GFX_DONE) words[below(WORDS)] = made;
+        static const uint8_t kinds[] = {LAYOUT, VERTEX_BUFFER, INDEX_BUFFER, TEXTURE, TEXTURE, FRAME_BUFFER, PROGRAM, UNIFORM};
+        if (status == GFX_DONE) words[kinds[call]][below(WORDS)] = made;
         else if (made != old) fail("a refused create wrote a word");
         return status;
     }
     switch (call) {
-        case 8: return gfx_update_buffer(c, word(), below(70), bytes, below(65));
-        case 9: return gfx_update_texture(c, word(), x, y, w, h, bytes, below(8) ? 4u * w * h : below(65));
-        case 10: case 11: return gfx_destroy(c, word());
+        case 8: return gfx_update_buffer(c, word(below(2) ? VERTEX_BUFFER : INDEX_BUFFER), below(70), bytes, below(65));
+        case 9: {
+            uint16_t wide = (uint16_t)below(4), high = (uint16_t)below(4);
+            return gfx_update_texture(c, word(TEXTURE), (uint16_t)below(4), (uint16_t)below(4), wide, high, bytes, below(8) ? 4u * wide * high : below(65));
+        }
+        case 10: case 11: return gfx_destroy(c, word(below(KINDS)));
         case 12: return gfx_set_view_rect(c, view, x, y, w, h);
         case 13: return gfx_set_view_scissor(c, view, x, y, w, h);
         case 14: return gfx_set_view_clear(c, view, (uint8_t)below(9), 1, 2, 3, 4, (uint32_t)next() >> 7, (uint8_t)next());
         case 15: return gfx_set_view_mode(c, view, (uint8_t)below(5));
         case 16: return gfx_set_view_transform(c, view, &transform);
-        case 17: return gfx_set_view_target(c, view, word());
+        case 17: return gfx_set_view_target(c, view, word(FRAME_BUFFER));
         case 18: { uint16_t ids[3] = {view, (uint16_t)below(6), (uint16_t)below(6)}; return gfx_set_view_order(c, ids, below(4)); }
         case 19: return gfx_reset_view(c, view);
         case 20: case 21:
@@ -120,16 +127,16 @@ static gfx_status any_call(uint32_t call) {
         case 23: return gfx_set_stencil(e, below(2) ? 0 : (uint32_t)next(), 0);
         case 24: return gfx_set_scissor(e, x, y, w, h);
         case 25: return gfx_set_transform(e, &transform);
-        case 26: return gfx_set_vertices(e, word(), below(4), below(8));
-        case 27: return gfx_set_indices(e, word(), below(4), below(8));
-        case 28: return gfx_set_transient_vertices(e, word(), bytes, below(65));
+        case 26: return gfx_set_vertices(e, word(VERTEX_BUFFER), below(4), below(8));
+        case 27: return gfx_set_indices(e, word(INDEX_BUFFER), below(4), below(8));
+        case 28: return gfx_set_transient_vertices(e, word(LAYOUT), bytes, below(65));
         case 29: return gfx_set_transient_indices(e, bytes, below(65));
-        case 30: return gfx_set_texture(e, (uint8_t)below(3), word());
-        case 31: return gfx_set_vec4(e, word(), 1, 2, 3, 4);
-        case 32: return gfx_set_int(e, word(), (int32_t)next());
-        case 33: return gfx_submit(e, view, word(), (uint32_t)next(), (uint8_t)next());
+        case 30: return gfx_set_texture(e, (uint8_t)below(3), word(TEXTURE));
+        case 31: return gfx_set_vec4(e, word(UNIFORM), 1, 2, 3, 4);
+        case 32: return gfx_set_int(e, word(UNIFORM), (int32_t)next());
+        case 33: return gfx_submit(e, view, word(PROGRAM), (uint32_t)next(), (uint8_t)next());
         case 34: return gfx_touch(e, view);
-        case 35: return gfx_blit(e, view, word(), x, y, word(), y, x, w, h);
+        case 35: return gfx_blit(e, view, word(TEXTURE), x, y, word(TEXTURE), y, x, w, h);
         case 36: return gfx_end(e, below(3));
         case 37: { uint32_t off; return gfx_collect(c, &off); }
         case 38: { uint32_t number; return gfx_frame_number(c, &number); }
