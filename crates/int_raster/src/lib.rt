@@ -29,8 +29,3 @@ pub use drawing::{draw_bands, draw_view};
 pub use lists::{DrawList, DrawRoom, Paint, Prepared};
 pub use rasterizer::{BandRasterizer, Rasterizer, SerialRasterizer};
 pub use surfaces::Surface;
-
-#[cfg(test)]
-mod exactness;
-#[cfg(test)]
-mod tests;

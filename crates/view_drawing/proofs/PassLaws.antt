@@ -1,9 +1,9 @@
 -- Views that are entered one after the other, and those of a pass among them.
-use Rattle.std.proofs.Common.{◌≡◌, ◌<◌, ◌≤◌, ◌⊎◌, inl, inr, ℕ, zero, suc, ◌+◌, ◌-◌, Bool, true, false, List, [], ◌∷◌, ◌++◌, map, take, drop, length, get_or, Option, Some, None, refl, sym, ap, subst, ◌∙◌, arith}
-use Rattle.std.specs.Prelude.{fold, flat_map}
+use Rattle.std.proofs.Common.{◌≡◌, ◌<◌, inl, inr, ℕ, zero, suc, ◌+◌, ◌-◌, false, List, [], ◌∷◌, ◌++◌, map, take, drop, length, get_or, Option, Some, None, refl, sym, ap, subst, ◌∙◌, arith}
+use Rattle.std.specs.Prelude.{fold}
 use Rattle.std.specs.List.{AllByRecursion, slice_get}
 use Rattle.std.proofs.lemmas.Option.{none-some}
-use Rattle.std.proofs.lemmas.List.{take_more, map-append, append-nil, append_assoc}
+use Rattle.std.proofs.lemmas.List.{take_more, take_rest, take-map, drop-map, map-append, append_assoc}
 use Rattle.std.proofs.lemmas.List.Sums.{fold-append}
 use Rattle.gfx_model.specs.Words.{Handle, ProgramKind}
 use Rattle.gfx_model.specs.World.{Surface, Item, is_blit}
@@ -11,10 +11,10 @@ use Rattle.store_model.specs.Buffers.{Buffers}
 use Rattle.store_model.specs.Textures.{Textures}
 use Rattle.store_laws.specs.ByIndex.{Stores}
 use Rattle.store_laws.specs.Listed.{Drawing, drawn_in, values_after}
-use Rattle.pass_laws.specs.Passed.{Turn, after_turn, all_drawn, all_values, ClearsBefore, AllClearBefore, IsPass}
+use Rattle.pass_laws.specs.Passed.{Turn, clear_turn, after_turn, all_drawn, all_values, ClearsBefore, AllClearBefore, IsPass}
 use Rattle.int_raster.specs.Drawing.{PreparedDraw, drawn_prepared}
-use Rattle.view_drawing.specs.Entered.{entered, StopsAtDraw}
-use Rattle.view_drawing.specs.Passes.{Part, after_part, turn_of, HasNoBlits, IsPlain, all_items}
+use Rattle.view_drawing.specs.Entered.{entered, StopsAtDraw, HaveGiven, IsBegun}
+use Rattle.view_drawing.specs.Passes.{Part, after_part, turn_of, HasNoBlits, IsStoppedAt, AreBegun, all_items}
 use Rattle.view_drawing.specs.Prepared.{DoAllTo, DoTurnsTo}
 use Rattle.view_drawing.proofs.DrawnLaws.{turns_drawn}
 
@@ -180,3 +180,34 @@ parts_more part xs i n first mid last before more =
     ∙ sym (ap (λ ys. fold after_part first (map part ys)) (take_then i n xs)
     ∙ ap (fold after_part first) (map-append part (take i xs) (take n (drop i xs)))
     ∙ fold-append after_part first (map part (take i xs)) (map part (take n (drop i xs))))
+
+-- ---- where memory was wanting
+
+first_part : {X : Type 0} (part : X → Part) (xs : List X) (x : X) → 0 < length xs → x ≡ get_or xs 0 x → slice_get (map part xs) 0 ≡ Some (part x)
+first_part part [] x some is = absurd (omega (arith, some))
+first_part part (y ∷ xs) x some is = ap (λ z. Some (part z)) (sym is)
+
+-- in the first view
+pub stopped_in_view : {X : Type 0} (part : X → Part) (xs : List X) (x : X) (old new : Stores) → 0 < length xs → x ≡ get_or xs 0 x → IsBegun (part x).view (part x).blits (part x).items old new
+    → IsStoppedAt (map part xs) old new
+stopped_in_view part xs x old new some is begun = inl (record { part = part x; there = first_part part xs x some is; begun = begun })
+
+-- in views that are drawn at one go
+pub stopped_in_pass : {X : Type 0} (part : X → Part) (xs : List X) (n : ℕ) (old new : Stores) → AllByRecursion HasNoBlits (map part (take n xs))
+    → HaveGiven (all_items (map (λ x. turn_of (part x)) (take n xs))) (fold clear_turn old (map (λ x. turn_of (part x)) (take n xs))) new
+    → IsStoppedAt (map part xs) old new
+stopped_in_pass part xs n old new none given = inr (record {
+  count = n;
+  none = subst (AllByRecursion HasNoBlits) (sym (take-map part n xs)) none;
+  given = subst (λ ts. HaveGiven (all_items ts) (fold clear_turn old ts) new) (sym (ap (map turn_of) (take-map part n xs) ∙ turns_of part (take n xs))) given;
+})
+
+-- behind views that are entered
+pub begun_behind : {X : Type 0} (part : X → Part) (xs : List X) (i : ℕ) (old mid new : Stores) → mid ≡ fold after_part old (map part (take i xs))
+    → IsStoppedAt (map part (take (length xs - i) (drop i xs))) mid new → AreBegun (map part xs) old new
+begun_behind part xs i old mid new before stopped = record {
+  before = i;
+  stopped =
+      subst (λ h. IsStoppedAt (drop i (map part xs)) h new) (before ∙ ap (fold after_part old) (sym (take-map part i xs)))
+      (subst (λ ps. IsStoppedAt ps mid new) (ap (map part) (take_rest xs i) ∙ sym (drop-map part i xs)) stopped);
+}

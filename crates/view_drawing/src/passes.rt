@@ -1,11 +1,12 @@
 // Views of one target that are drawn at one go.
-ghost use Rattle.std.specs.Prelude.{◌≡◌, ◌≤◌, ◌<◌, [], map, fold, length, take, IsTrue, IfOk, OnOk};
+ghost use Rattle.std.specs.Prelude.{◌≡◌, ◌≤◌, ◌<◌, [], map, fold, length, take, IsTrue, IfOk, OnOk, OnErr};
 ghost use Rattle.std.specs.List.{AllByRecursion};
 ghost use Rattle.pass_laws.specs.Passed.{after_turn, clear_turn, ClearsBefore, IsPass};
 ghost use Rattle.view_table.specs.Seen.{view_seen};
 ghost use Rattle.render_stores.specs.Seen.{stores_seen};
 ghost use Rattle.view_drawing.specs.Entries.{blits_of};
-ghost use Rattle.view_drawing.specs.Passes.{after_part, part_seen, turn_seen, HasNoBlits, IsPlain};
+ghost use Rattle.view_drawing.specs.Entered.{HaveGiven};
+ghost use Rattle.view_drawing.specs.Passes.{after_part, all_items, part_seen, turn_seen, AreBegun, HasNoBlits, IsPlain, IsStoppedAt};
 
 use crate::apart::clears_before;
 use crate::drawing::draw_listed;
@@ -41,7 +42,8 @@ fn enter_pass<D: Rasterizer>(
     room: &mut DrawingRoom,
 ) -> Result<(), AllocError>
     requires { IsPass target (map turn_seen views.now) }
-    ensures { OnOk result (stores_seen stores.new ≡ fold after_turn (stores_seen stores.old) (map turn_seen views.now)) }
+    ensures entered { OnOk result (stores_seen stores.new ≡ fold after_turn (stores_seen stores.old) (map turn_seen views.now)) }
+    ensures begun { OnErr result (HaveGiven (all_items (map turn_seen views.now)) (fold clear_turn (stores_seen stores.old) (map turn_seen views.now)) (stores_seen stores.new)) }
 {
     stores.textures.tell_facts();
     pass_law();
@@ -91,6 +93,7 @@ fn enter_first<D: Rasterizer>(
     ensures some { IfOk result (λ n. 1 ≤ n) }
     ensures length { IfOk result (λ n. n ≤ length views.now) }
     ensures entered { IfOk result (λ n. stores_seen stores.new ≡ fold after_part (stores_seen stores.old) (map part_seen (take n views.now))) }
+    ensures begun { OnErr result (IsStoppedAt (map part_seen views.now) (stores_seen stores.old) (stores_seen stores.new)) }
 {
     let first = views[0];
     let count = length_of_pass(first.view, views);
@@ -112,7 +115,11 @@ fn enter_first<D: Rasterizer>(
 
 /// Enters views one after the other, as `enter_view` enters each. Views of one target without blits that stand beside each other are
 /// drawn at one go, as long as no pixel is of two of them or the later clears nothing: all are cleared first, and their draws are made in
-/// one list. Only want of memory refuses. No item of a second list is a blit.
+/// one list. No item of a second list is a blit.
+///
+/// Only want of memory refuses. The views before the one at which it was wanting are entered then. That view is begun, as `enter_view`
+/// leaves it; or it is cleared with those that are drawn at one go with it, the values of their items up to a draw are given, and nothing
+/// of them is drawn.
 pub fn enter_views<D: Rasterizer>(
     rasterizer: &mut D,
     stores: &mut RenderStores,
@@ -120,7 +127,8 @@ pub fn enter_views<D: Rasterizer>(
     room: &mut DrawingRoom,
 ) -> Result<(), AllocError>
     requires { AllByRecursion IsPlain (map part_seen views.now) }
-    ensures { OnOk result (stores_seen stores.new ≡ fold after_part (stores_seen stores.old) (map part_seen views.now)) }
+    ensures entered { OnOk result (stores_seen stores.new ≡ fold after_part (stores_seen stores.old) (map part_seen views.now)) }
+    ensures begun { OnErr result (AreBegun (map part_seen views.now) (stores_seen stores.old) (stores_seen stores.new)) }
 {
     let mut at = 0;
     while at < views.len() {

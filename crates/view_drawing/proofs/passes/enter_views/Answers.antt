@@ -3,7 +3,8 @@ use Rattle.std.specs.Prelude.{fold}
 use Rattle.std.proofs.lemmas.List.{take_rest, length-drop}
 use Rattle.render_stores.specs.Seen.{stores_seen}
 use Rattle.view_drawing.specs.Passes.{after_part, part_seen, IsPlain}
-use Rattle.view_drawing.proofs.PassLaws.{all_dropped, all_taken, parts_more}
+use Rattle.view_drawing.proofs.Folds.{on_err_holds}
+use Rattle.view_drawing.proofs.PassLaws.{all_dropped, all_taken, parts_more, begun_behind}
 use Rattle.view_drawing.proofs.passes.enter_views.Goals as goal
 
 pub enter_first-requires-clause-plain : goal.enter_first-requires-clause-plain
@@ -24,3 +25,8 @@ loop-at-preserved g c =
       done = parts_more part_seen views at n (stores_seen c.args.stores.now) (stores_seen c.loop-at.stores) (stores_seen c.enter_first.new.stores) c.loop-at.invariant.done
           (c.in_ok-count.ensures.entered ∙ ap (λ xs. fold after_part (stores_seen c.loop-at.stores) (map part_seen (take n xs))) rest);
     }
+
+pub returns-in_err-count-clause-begun : goal.returns-in_err-count-clause-begun
+returns-in_err-count-clause-begun g c =
+    on_err_holds c.from_residual.result
+    (begun_behind part_seen c.args.views.now c.loop-at.at (stores_seen c.args.stores.now) (stores_seen c.loop-at.stores) (stores_seen c.enter_first.new.stores) c.loop-at.invariant.done c.in_err-count.ensures.begun)

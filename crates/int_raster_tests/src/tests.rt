@@ -1,12 +1,12 @@
-// Pictures that were worked out by hand, as lists of prepared draws, and the pixels of many triangles one by one.
+// Pictures that were worked out by hand, as lists of prepared draws.
 ghost use Rattle.std.specs.Prelude.{◌≤◌};
 
-use crate::{
+use fix_math::{Affine, Point, Rect, Texels};
+use gfx_words::{StateWord, StencilWord};
+use int_raster::{
     BandRasterizer, DrawList, Paint, Prepared, Rasterizer, SerialRasterizer, Surface, draw_bands,
     draw_view,
 };
-use fix_math::{Affine, Point, Rect, Texels};
-use gfx_words::{StateWord, StencilWord};
 use pixel_ops::{Pixel, Shaded, multiply, pixel_step};
 use std::alloc::Global;
 use std::process::Abort;
@@ -16,7 +16,7 @@ use tri_cover::{Setup, place};
 use vertex_layout::Vertex;
 
 // A vertex on a target of a width and a height; positions are in 1/65536 of half a side.
-pub(crate) fn vertex(x: i32, y: i32, z: i32, color: [u8; 4], texcoord: [i32; 2]) -> Vertex {
+fn vertex(x: i32, y: i32, z: i32, color: [u8; 4], texcoord: [i32; 2]) -> Vertex {
     Vertex {
         position: Point { x, y, z },
         color,
@@ -25,7 +25,7 @@ pub(crate) fn vertex(x: i32, y: i32, z: i32, color: [u8; 4], texcoord: [i32; 2])
 }
 
 // The triangles of a list of vertices.
-pub(crate) fn setups(
+fn setups(
     alloc: Global,
     vertices: &[Vertex],
     target: Rect,
@@ -57,21 +57,21 @@ fn solid(alloc: Global, corners: &[(i32, i32)], target: Rect) -> Result<Vec<Setu
     setups(alloc, &vertices, target, 0)
 }
 
-pub(crate) fn state<R: Abort>(rt: &R, word: u64) -> StateWord {
+fn state<R: Abort>(rt: &R, word: u64) -> StateWord {
     match StateWord::read(word) {
         Ok(state) => state,
         Err(_) => panic!(rt; "no state word: {word}"),
     }
 }
 
-pub(crate) fn stencil<R: Abort>(rt: &R, word: u32) -> StencilWord {
+fn stencil<R: Abort>(rt: &R, word: u32) -> StencilWord {
     match StencilWord::read(word) {
         Ok(stencil) => stencil,
         Err(_) => panic!(rt; "no stencil word: {word}"),
     }
 }
 
-pub(crate) fn blank(alloc: Global, target: Rect, depth: [u8; 4]) -> Result<Surface, Fail>
+fn blank(alloc: Global, target: Rect, depth: [u8; 4]) -> Result<Surface, Fail>
     requires wide { 1 ≤ target.w }
     requires high { 1 ≤ target.h }
     requires narrow { target.w ≤ 2048 }
