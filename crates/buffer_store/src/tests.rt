@@ -12,7 +12,10 @@ fn bytes(alloc: Global, count: usize, byte: u8) -> Result<Vec<u8>, AllocError> {
 fn layout(count: u8) -> Option<VertexLayout> {
     let mut builder = LayoutBuilder::new();
     builder.add(Attr::Position, AttrType::Fixed, count);
-    builder.end().ok()
+    match builder.end() {
+        Ok(it) => Some(it),
+        Err(_) => None,
+    }
 }
 
 fn stride_of(store: &BufferStore, kind: Kind, index: u16) -> Option<u8> {
@@ -72,7 +75,10 @@ fn update(
     if store.bytes_of(kind, index).is_none() {
         return Some(Refusal::Full);
     }
-    store.update(kind, index, offset, bytes).err()
+    match store.update(kind, index, offset, bytes) {
+        Ok(()) => None,
+        Err(refusal) => Some(refusal),
+    }
 }
 
 fn holds(store: &BufferStore, kind: Kind, index: u16, bytes: &[u8]) -> bool {

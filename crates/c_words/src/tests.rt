@@ -15,13 +15,17 @@ fn numbers_of_faults(rt: HostRuntime) -> Result<(), Fail> {
 
 // A texture is given, and then another one of the same index: by the first one's word before and after, and by the other's.
 fn found(alloc: Global) -> Option<(bool, bool, bool)> {
-    let mut things = Things::new(alloc).ok()?;
+    let Ok(mut things) = Things::new(alloc) else {
+        return None;
+    };
     let first = Handle::of(Kind::Texture, 1023, 7, Info::Plain);
     let other = Handle::of(Kind::Texture, 1023, 8, Info::Plain);
     things.put(first);
     let before = things.find(first.word()) == Some(first);
     things.put(other);
-    let things = things.copy().ok()?;
+    let Ok(things) = things.copy() else {
+        return None;
+    };
     let after = things.find(first.word()).is_none();
     Some((
         before,

@@ -16,7 +16,10 @@ fn halves() -> Option<VertexLayout> {
     let mut builder = LayoutBuilder::new();
     builder.add(Attr::Position, AttrType::I16, 2);
     builder.add(Attr::Color0, AttrType::U8, 3);
-    builder.end().ok()
+    match builder.end() {
+        Ok(it) => Some(it),
+        Err(_) => None,
+    }
 }
 
 // The index, the stride and the colour's offset of a command that creates a layout.

@@ -5,4 +5,3 @@ pub mod Slots
 pub mod WholeSeat
 pub mod Events
 pub mod Parts
-mod Fours

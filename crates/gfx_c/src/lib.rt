@@ -14,6 +14,8 @@ mod c_updates;
 mod c_views;
 mod context;
 mod creates;
+#[cfg(test)]
+mod drawn_tests;
 mod encoder;
 mod frame;
 mod held;

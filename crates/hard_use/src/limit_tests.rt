@@ -27,15 +27,22 @@ pub const START: Start = Start {
 fn layout() -> Option<VertexLayout> {
     let mut builder = LayoutBuilder::new();
     builder.add(Attr::Position, AttrType::I16, 2);
-    builder.end().ok()
+    match builder.end() {
+        Ok(it) => Some(it),
+        Err(_) => None,
+    }
 }
 
 // All things of each kind and one more.
 fn all_things<B: ResourceCalls>(calls: &mut B) -> Option<[Made; 7]> {
     let plain = layout()?;
-    let first = calls.create_layout(plain).ok()?;
+    let Ok(first) = calls.create_layout(plain) else {
+        return None;
+    };
     let fill = TexSource::Fill([0; 4]);
-    let color = calls.create_texture(1, 1, Format::Rgba8, false, fill).ok()?;
+    let Ok(color) = calls.create_texture(1, 1, Format::Rgba8, false, fill) else {
+        return None;
+    };
     Some([
         limits::layouts(calls, plain),
         limits::vertex_buffers(calls, first),
@@ -51,9 +58,15 @@ fn all_made<C: Naming>(alloc: Global, table: HoldTable, seat: ApiSeat) -> Option
     requires table { (table_of table ≡ C.table) × (api_table seat ≡ C.table) × (api_view seat ≡ first_view 0) }
     requires views { C.views ≡ fewest_views }
 {
-    let shared = Shared::<C>::new(alloc, table).ok()?;
-    let link = KeepingLink::new(alloc, 1).ok()?;
-    let mut context = Context::init(alloc, &shared, seat, link, START).ok()?;
+    let Ok(shared) = Shared::<C>::new(alloc, table) else {
+        return None;
+    };
+    let Ok(link) = KeepingLink::new(alloc, 1) else {
+        return None;
+    };
+    let Ok(mut context) = Context::init(alloc, &shared, seat, link, START) else {
+        return None;
+    };
     all_things(&mut context)
 }
 
@@ -109,9 +122,15 @@ const CLEARS: Answers = [
 ];
 
 fn bytes<B: ResourceCalls>(alloc: Global, calls: &mut B) -> Option<Answers> {
-    let first = calls.create_layout(layout()?).ok()?;
-    let most = Vec::from_elem(alloc, 7u8, 524_288).ok()?;
-    let more = Vec::from_elem(alloc, 7u8, 524_290).ok()?;
+    let Ok(first) = calls.create_layout(layout()?) else {
+        return None;
+    };
+    let Ok(most) = Vec::from_elem(alloc, 7u8, 524_288) else {
+        return None;
+    };
+    let Ok(more) = Vec::from_elem(alloc, 7u8, 524_290) else {
+        return None;
+    };
     limits::bytes(calls, first, &most, &more)
 }
 
@@ -133,15 +152,23 @@ fn answers_of<C: Naming>(
     requires table { (table_of table ≡ C.table) × (api_table seat ≡ C.table) × (api_view seat ≡ first_view 0) }
     requires views { C.views ≡ fewest_views }
 {
-    let shared = Shared::<C>::new(alloc, table).ok()?;
-    let link = KeepingLink::new(alloc, 1).ok()?;
-    let mut context = Context::init(alloc, &shared, seat, link, START).ok()?;
+    let Ok(shared) = Shared::<C>::new(alloc, table) else {
+        return None;
+    };
+    let Ok(link) = KeepingLink::new(alloc, 1) else {
+        return None;
+    };
+    let Ok(mut context) = Context::init(alloc, &shared, seat, link, START) else {
+        return None;
+    };
     at_limit(alloc, &mut context, limit)
 }
 
 // The answers at a limit, by a context of their own.
 fn answers(alloc: Global, limit: Limit) -> Option<Answers> {
-    let (table, seat) = HoldTable::new(alloc, 0).ok()?;
+    let Ok((table, seat)) = HoldTable::new(alloc, 0) else {
+        return None;
+    };
     answers_of::<Brand>(alloc, table, seat, limit)
 }
 
@@ -177,9 +204,15 @@ fn references_of<C: Naming>(alloc: Global, table: HoldTable, seat: ApiSeat) -> O
     requires table { (table_of table ≡ C.table) × (api_table seat ≡ C.table) × (api_view seat ≡ first_view 0) }
     requires views { C.views ≡ fewest_views }
 {
-    let shared = Shared::<C>::new(alloc, table).ok()?;
-    let link = KeepingLink::new(alloc, 1).ok()?;
-    let mut context = Context::init(alloc, &shared, seat, link, START).ok()?;
+    let Ok(shared) = Shared::<C>::new(alloc, table) else {
+        return None;
+    };
+    let Ok(link) = KeepingLink::new(alloc, 1) else {
+        return None;
+    };
+    let Ok(mut context) = Context::init(alloc, &shared, seat, link, START) else {
+        return None;
+    };
     limits::references(&mut context)
 }
 

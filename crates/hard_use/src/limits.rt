@@ -11,6 +11,14 @@ pub type Made = (u32, Option<Refusal>);
 
 const LEAST: TexSource = TexSource::Fill([0; 4]);
 
+// The refusal of a call.
+pub fn refusal_of<T: Drop>(answer: Result<T, Refusal>) -> Option<Refusal> {
+    match answer {
+        Ok(_made) => None,
+        Err(refusal) => Some(refusal),
+    }
+}
+
 pub fn layouts<B: ResourceCalls>(calls: &mut B, layout: VertexLayout) -> Made {
     for made in 0..65u32 {
         if let Err(refusal) = calls.create_layout(layout) {
@@ -76,7 +84,9 @@ pub fn uniforms<B: ResourceCalls>(calls: &mut B) -> Made {
 
 // All references of a uniform: how many creates and then destroys were accepted, and the refusals of one more of each.
 pub fn references<B: ResourceCalls>(calls: &mut B) -> Option<(Made, Made)> {
-    let uniform = calls.create_uniform(b"many", UniformKind::Vec4).ok()?;
+    let Ok(uniform) = calls.create_uniform(b"many", UniformKind::Vec4) else {
+        return None;
+    };
     let made = referred(calls);
     Some((made, destroyed(calls, uniform)))
 }
@@ -102,10 +112,10 @@ fn destroyed<B: ResourceCalls>(calls: &mut B, uniform: Handle) -> Made {
 // The answers to names of 32 and of 33 bytes and of none, and to the first one again for the other kind.
 pub fn names<B: ResourceCalls>(calls: &mut B) -> [Option<Refusal>; 4] {
     [
-        calls.create_uniform(&[97; 32], UniformKind::Int).err(),
-        calls.create_uniform(&[97; 33], UniformKind::Int).err(),
-        calls.create_uniform(&[], UniformKind::Int).err(),
-        calls.create_uniform(&[97; 32], UniformKind::Vec4).err(),
+        refusal_of(calls.create_uniform(&[97; 32], UniformKind::Int)),
+        refusal_of(calls.create_uniform(&[97; 33], UniformKind::Int)),
+        refusal_of(calls.create_uniform(&[], UniformKind::Int)),
+        refusal_of(calls.create_uniform(&[97; 32], UniformKind::Vec4)),
     ]
 }
 
@@ -116,13 +126,17 @@ pub fn bytes<B: ResourceCalls>(
     most: &[u8],
     more: &[u8],
 ) -> Option<[Option<Refusal>; 4]> {
-    let vertices = calls.create_vertex_buffer(layout, most).ok()?;
-    calls.create_index_buffer(most).ok()?;
+    let Ok(vertices) = calls.create_vertex_buffer(layout, most) else {
+        return None;
+    };
+    let Ok(_) = calls.create_index_buffer(most) else {
+        return None;
+    };
     Some([
-        calls.create_vertex_buffer(layout, more).err(),
-        calls.create_index_buffer(more).err(),
-        calls.update_buffer(vertices, 0, most).err(),
-        calls.update_buffer(vertices, 1, most).err(),
+        refusal_of(calls.create_vertex_buffer(layout, more)),
+        refusal_of(calls.create_index_buffer(more)),
+        refusal_of(calls.update_buffer(vertices, 0, most)),
+        refusal_of(calls.update_buffer(vertices, 1, most)),
     ])
 }
 
@@ -134,7 +148,7 @@ fn most_texels<B: ResourceCalls>(calls: &mut B) -> Option<Refusal> {
         }
     }
     match calls.create_texture(2048, 2048, Format::D24S8, false, LEAST) {
-        Ok(last) => calls.destroy(last).err(),
+        Ok(last) => refusal_of(calls.destroy(last)),
         Err(refusal) => Some(refusal),
     }
 }
@@ -143,26 +157,18 @@ fn most_texels<B: ResourceCalls>(calls: &mut B) -> Option<Refusal> {
 pub fn texels<B: ResourceCalls>(calls: &mut B) -> [Option<Refusal>; 4] {
     [
         most_texels(calls),
-        calls
-            .create_texture(1, 1, Format::Rgba8, false, LEAST)
-            .err(),
-        calls
-            .create_texture(2049, 1, Format::Rgba8, false, LEAST)
-            .err(),
-        calls
-            .create_texture(1, 0, Format::Rgba8, false, LEAST)
-            .err(),
+        refusal_of(calls.create_texture(1, 1, Format::Rgba8, false, LEAST)),
+        refusal_of(calls.create_texture(2049, 1, Format::Rgba8, false, LEAST)),
+        refusal_of(calls.create_texture(1, 0, Format::Rgba8, false, LEAST)),
     ]
 }
 
 // The answers to what view 255 clears at the greatest numbers, to one flag, one of depth and one view more.
 pub fn clears<B: ResourceCalls>(calls: &mut B) -> [Option<Refusal>; 4] {
     [
-        calls
-            .set_view_clear(255, 7, [255; 4], 16_777_215, 255)
-            .err(),
-        calls.set_view_clear(255, 8, [255; 4], 0, 0).err(),
-        calls.set_view_clear(255, 0, [255; 4], 16_777_216, 0).err(),
-        calls.set_view_clear(256, 0, [255; 4], 0, 0).err(),
+        refusal_of(calls.set_view_clear(255, 7, [255; 4], 16_777_215, 255)),
+        refusal_of(calls.set_view_clear(255, 8, [255; 4], 0, 0)),
+        refusal_of(calls.set_view_clear(255, 0, [255; 4], 16_777_216, 0)),
+        refusal_of(calls.set_view_clear(256, 0, [255; 4], 0, 0)),
     ]
 }

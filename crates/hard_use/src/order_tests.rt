@@ -84,12 +84,16 @@ fn whole_order<C: Naming, R: Threads + Wait + Sync>(
     if context.is_ended() {
         return None;
     }
-    context.frame(rt).ok()?;
+    let Ok(_) = context.frame(rt) else {
+        return None;
+    };
     let Ok(Some(frame)) = render.try_take() else {
         return None;
     };
     let mut order = Vec::new(alloc);
-    frame.ordered(&mut order).ok()?;
+    let Ok(_) = frame.ordered(&mut order) else {
+        return None;
+    };
     Some((touched, told(&order)))
 }
 

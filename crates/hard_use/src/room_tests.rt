@@ -6,6 +6,7 @@ ghost use Rattle.hold_table.specs.Seats.{table_of, api_table, api_view};
 ghost use Rattle.hold_table.specs.Views.{first_view};
 
 use crate::limit_tests::START;
+use crate::limits::refusal_of;
 use frame_keeping::KeepingLink;
 use gfx_context::{Context, Encoder, Naming, Room, Shared};
 use gfx_words::{Handle, Refusal, UniformKind, UniformValue};
@@ -37,7 +38,7 @@ fn begins<C: Naming>(context: &mut Calls<'_, C>, room: Room) -> (Option<Refusal>
     if context.is_ended() {
         return (None, 99);
     }
-    let refusal = context.begin(room).err();
+    let refusal = refusal_of(context.begin(room));
     (refusal, context.begun())
 }
 
@@ -49,9 +50,15 @@ fn all_rooms<C: Naming>(
     requires table { (table_of table ≡ C.table) × (api_table seat ≡ C.table) × (api_view seat ≡ first_view 0) }
     requires views { C.views ≡ fewest_views }
 {
-    let shared = Shared::<C>::new(alloc, table).ok()?;
-    let link = KeepingLink::new(alloc, 1).ok()?;
-    let mut context = Context::init(alloc, &shared, seat, link, START).ok()?;
+    let Ok(shared) = Shared::<C>::new(alloc, table) else {
+        return None;
+    };
+    let Ok(link) = KeepingLink::new(alloc, 1) else {
+        return None;
+    };
+    let Ok(mut context) = Context::init(alloc, &shared, seat, link, START) else {
+        return None;
+    };
     Some([
         begins(&mut context, room(0, 0, 0)),
         begins(&mut context, room(1, 0, 0)),
@@ -104,9 +111,9 @@ fn values<C: Naming>(encoder: &mut Encoder<'_, C>, uniform: Handle) -> Taken {
 // The answers to transient bytes that fill the greatest room, to one more and to none.
 fn transients<C: Naming>(encoder: &mut Encoder<'_, C>, bytes: &[u8]) -> [Option<Refusal>; 3] {
     [
-        encoder.set_transient_indices(bytes).err(),
-        encoder.set_transient_indices(&[7]).err(),
-        encoder.set_transient_indices(&[]).err(),
+        refusal_of(encoder.set_transient_indices(bytes)),
+        refusal_of(encoder.set_transient_indices(&[7])),
+        refusal_of(encoder.set_transient_indices(&[])),
     ]
 }
 
@@ -134,11 +141,21 @@ fn whole_frame<C: Naming, R: Threads + Wait + Sync>(
     requires views { C.views ≡ fewest_views }
     requires admits { (e f d : ℕ) (items : List SeenItem) → C.admits e f items d }
 {
-    let shared = Shared::<C>::new(alloc, table).ok()?;
-    let link = KeepingLink::new(alloc, 1).ok()?;
-    let mut context = Context::init(alloc, &shared, seat, link, START).ok()?;
-    let uniform = context.create_uniform(b"u", UniformKind::Int).ok()?;
-    let bytes = Vec::from_elem(alloc, 7u8, 1_048_576).ok()?;
+    let Ok(shared) = Shared::<C>::new(alloc, table) else {
+        return None;
+    };
+    let Ok(link) = KeepingLink::new(alloc, 1) else {
+        return None;
+    };
+    let Ok(mut context) = Context::init(alloc, &shared, seat, link, START) else {
+        return None;
+    };
+    let Ok(uniform) = context.create_uniform(b"u", UniformKind::Int) else {
+        return None;
+    };
+    let Ok(bytes) = Vec::from_elem(alloc, 7u8, 1_048_576) else {
+        return None;
+    };
     let mut first = begun(&mut context, GREATEST)?;
     let answers = filled(&mut first, uniform, &bytes);
     first.end(rt, 0);
@@ -146,7 +163,9 @@ fn whole_frame<C: Naming, R: Threads + Wait + Sync>(
     if context.is_ended() {
         return None;
     }
-    let report = context.frame(rt).ok()?;
+    let Ok(report) = context.frame(rt) else {
+        return None;
+    };
     Some((answers, touched, report.journal.len()))
 }
 
@@ -154,7 +173,10 @@ fn begun<'t, C: Naming>(context: &mut Calls<'t, C>, room: Room) -> Option<Encode
     if context.is_ended() {
         return None;
     }
-    context.begin(room).ok()
+    match context.begin(room) {
+        Ok(it) => Some(it),
+        Err(_) => None,
+    }
 }
 
 // The touches of seven encoders that were accepted.

@@ -25,7 +25,9 @@ fn ended(alloc: Global) -> Option<(bool, u32, bool)> {
         return None;
     };
     let none_before = shared.try_take(5).is_none();
-    shared.try_post(recorder, 9).ok()?;
+    let Ok(_) = shared.try_post(recorder, 9) else {
+        return None;
+    };
     let (recording, _seat) = shared.try_take(5)?.part();
     Some((none_before, recording.dropped, shared.try_take(5).is_none()))
 }

@@ -32,21 +32,30 @@ fn put_lent(
     if index >= 1024 || store.has_texture(index) {
         return Some(Refusal::Full);
     }
-    store.create(index, width, height, format, source).err()
+    match store.create(index, width, height, format, source) {
+        Ok(()) => None,
+        Err(refusal) => Some(refusal),
+    }
 }
 
 fn attach(store: &mut TextureStore, index: u16, color: u16, depth: Option<u16>) -> Option<Refusal> {
     if index >= 128 || store.has_target(index) {
         return Some(Refusal::Full);
     }
-    store.attach(index, color, depth).err()
+    match store.attach(index, color, depth) {
+        Ok(()) => None,
+        Err(refusal) => Some(refusal),
+    }
 }
 
 fn update(store: &mut TextureStore, index: u16, rect: Rect, bytes: &[u8]) -> Option<Refusal> {
     if store.texels_of(index).is_none() {
         return Some(Refusal::Full);
     }
-    store.update(index, rect, bytes).err()
+    match store.update(index, rect, bytes) {
+        Ok(()) => None,
+        Err(refusal) => Some(refusal),
+    }
 }
 
 // Takes a target out and puts it back.
