@@ -25,12 +25,7 @@ fn vertex(x: i32, y: i32, z: i32, color: [u8; 4], texcoord: [i32; 2]) -> Vertex 
 }
 
 // The triangles of a list of vertices.
-fn setups(
-    alloc: Global,
-    vertices: &[Vertex],
-    target: Rect,
-    cull: u8,
-) -> Result<Vec<Setup>, Fail> {
+fn setups(alloc: Global, vertices: &[Vertex], target: Rect, cull: u8) -> Result<Vec<Setup>, Fail> {
     let id = Affine::identity();
     let mut items = Vec::new(alloc);
     for three in vertices.chunks_exact(3) {
