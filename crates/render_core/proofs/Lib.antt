@@ -1,5 +1,6 @@
 mod Counts
 mod EndedFrames
+mod FourPixels
 mod OneWay
 mod Parts
 mod Pieces

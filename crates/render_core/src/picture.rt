@@ -66,21 +66,33 @@ impl PictureText {
     }
 }
 
-/// Writes red, green and blue of as many pixels. A pixel's fourth byte is written behind them, for one store of four bytes
-/// is faster than two of fewer; what follows takes its place.
-fn write_most(room: &mut [u8], colors: &[[u8; 4]], count: usize)
-    requires room { length room.old ≡ 3 * length colors.now }
-    requires less { count ≤ length colors.now - 1 }
-    ensures many { length room.new ≡ length room.old }
-    ensures written { take (3 * count) room.new ≡ flat_map (take 3) (take count colors.now) }
+/// Writes red, green and blue of four pixels. Their fourth bytes are written behind them, for one store of sixteen bytes is faster than
+/// several of fewer; what follows takes their place.
+fn write_four(room: &mut [u8], colors: &[[u8; 4]])
+    requires room { length room.old ≡ 16 }
+    requires four { length colors.now ≡ 4 }
+    ensures many { length room.new ≡ 16 }
+    ensures written { take 12 room.new ≡ flat_map (take 3) colors.now }
 {
-    for i in 0..count {
-        let [red, green, blue, alpha] = colors[i];
-        let at = 3 * i;
-        room[at] = red;
-        room[at + 1] = green;
-        room[at + 2] = blue;
-        room[at + 3] = alpha;
+    let [red0, green0, blue0, alpha0] = colors[0];
+    let [red1, green1, blue1, alpha1] = colors[1];
+    let [red2, green2, blue2, alpha2] = colors[2];
+    let [red3, green3, blue3, alpha3] = colors[3];
+    room.copy_from_slice(&[
+        red0, green0, blue0, red1, green1, blue1, red2, green2, blue2, red3, green3, blue3, alpha0,
+        alpha1, alpha2, alpha3,
+    ]);
+}
+
+/// Writes red, green and blue of as many times four pixels.
+fn write_most(room: &mut [u8], colors: &[[u8; 4]], fours: usize)
+    requires room { length room.old ≡ 3 * length colors.now }
+    requires less { 4 * fours ≤ length colors.now - 2 }
+    ensures many { length room.new ≡ length room.old }
+    ensures written { take (12 * fours) room.new ≡ flat_map (take 3) (take (4 * fours) colors.now) }
+{
+    for i in 0..fours {
+        write_four(&mut room[12 * i..12 * i + 16], &colors[4 * i..4 * i + 4]);
     }
 }
 
@@ -89,9 +101,9 @@ fn write_colors(room: &mut [u8], colors: &[[u8; 4]])
     requires { length room.old ≡ 3 * length colors.now }
     ensures { room.new ≡ flat_map (take 3) colors.now }
 {
-    let most = colors.len().saturating_sub(1);
-    write_most(room, colors, most);
-    for i in most..colors.len() {
+    let fours = colors.len().saturating_sub(2) / 4;
+    write_most(room, colors, fours);
+    for i in 4 * fours..colors.len() {
         let [red, green, blue, _] = colors[i];
         let end = 3 * i;
         room[end] = red;

@@ -1,8 +1,8 @@
 // The triangles of a draw on its target.
-ghost use Rattle.std.specs.Prelude.{◌≡◌, ◌++◌, [], Some, None, false, map, option_map, IsTrue, OnOk};
+ghost use Rattle.std.specs.Prelude.{◌≡◌, ◌++◌, [], Option, Some, None, false, map, option_map, IsTrue, OnOk};
 ghost use Rattle.std.specs.List.{cons_option};
 ghost use Rattle.gfx_model.specs.Vertex.{vertices_of, triangles_of as triangles_of_vertices, listed_triangles, strip_triangles as strip_triangles_of};
-ghost use Rattle.gfx_model.specs.Raster.{identity};
+ghost use Rattle.gfx_model.specs.Raster.{identity, ScreenVertex as ScreenSeen};
 ghost use Rattle.fix_math.specs.Seen.{affine_seen};
 ghost use Rattle.vertex_layout.specs.Seen.{vertex_seen};
 ghost use Rattle.tri_cover.specs.Seen.{screen_seen};
@@ -123,32 +123,22 @@ pub(crate) fn place_vertices(
     }
 }
 
-/// A triangle, if its corners are placed and it is kept.
-fn triangle(
+/// One triangle more, if its corners are placed and it is kept.
+fn push_triangle(
+    triangles: &mut Vec<Setup>,
     a: Option<ScreenVertex>,
     b: Option<ScreenVertex>,
     c: Option<ScreenVertex>,
     cull: u8,
-) -> Option<Setup>
-    ensures { option_map setup_seen result ≡ kept cull (record { a = option_map screen_seen a; b = option_map screen_seen b; c = option_map screen_seen c }) }
+) -> Result<(), AllocError>
+    ensures { OnOk result (map setup_seen triangles.new.items ≡ map setup_seen triangles.old.items ++ cons_option (kept cull (record { a = option_map screen_seen a; b = option_map screen_seen b; c = option_map screen_seen c })) []) }
 {
-    match (a, b, c) {
-        (Some(a), Some(b), Some(c)) => Setup::new(a, b, c, cull),
-        _ => None,
-    }
-}
-
-/// One triangle more, if there is one.
-fn push_some(triangles: &mut Vec<Setup>, triangle: Option<Setup>) -> Result<(), AllocError>
-    ensures { OnOk result (map setup_seen triangles.new.items ≡ map setup_seen triangles.old.items ++ cons_option (option_map setup_seen triangle) []) }
-{
-    match triangle {
-        Some(triangle) => {
-            triangles.push(triangle)?;
-            Ok(())
+    if let (Some(a), Some(b), Some(c)) = (a, b, c) {
+        if let Some(setup) = Setup::new(a, b, c, cull) {
+            triangles.push(setup)?;
         }
-        None => Ok(()),
     }
+    Ok(())
 }
 
 /// The triangles of a list of vertices, three at a time.
@@ -162,27 +152,21 @@ fn list_triangles(
 {
     let mut rest = vertices;
     while let [a, b, c, after @ ..] = rest {
-        push_some(triangles, triangle(*a, *b, *c, cull))?;
+        push_triangle(triangles, *a, *b, *c, cull)?;
         rest = after;
     }
     Ok(())
 }
 
-/// A triangle of a strip; in every second one the first two corners change places.
-fn strip_triangle(
+/// The first two corners of a triangle of a strip; in every second one they change places.
+fn turned_pair(
     odd: bool,
     a: Option<ScreenVertex>,
     b: Option<ScreenVertex>,
-    c: Option<ScreenVertex>,
-    cull: u8,
-) -> Option<Setup>
-    ensures { option_map setup_seen result ≡ kept cull (turned odd (option_map screen_seen a) (option_map screen_seen b) (option_map screen_seen c)) }
+) -> (Option<ScreenVertex>, Option<ScreenVertex>)
+    ensures { (c : Option ScreenSeen) → record { a = option_map screen_seen result.0; b = option_map screen_seen result.1; c = c } ≡ turned odd (option_map screen_seen a) (option_map screen_seen b) c }
 {
-    if odd {
-        triangle(b, a, c, cull)
-    } else {
-        triangle(a, b, c, cull)
-    }
+    if odd { (b, a) } else { (a, b) }
 }
 
 /// The triangles of a strip of vertices: each vertex with the next two.
@@ -197,7 +181,8 @@ fn strip_triangles(
     let mut odd = false;
     let mut rest = vertices;
     while let [a, b, c, ..] = rest {
-        push_some(triangles, strip_triangle(odd, *a, *b, *c, cull))?;
+        let (first, second) = turned_pair(odd, *a, *b);
+        push_triangle(triangles, first, second, *c, cull)?;
         odd = !odd;
         rest = &rest[1..];
     }
