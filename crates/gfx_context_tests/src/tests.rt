@@ -38,7 +38,8 @@ fn refusal_of<T: Drop>(answer: Result<T, Refusal>) -> Option<Refusal> {
 
 // Frames wait in a list, and come back as shown, the oldest first.
 #[derive(Drop)]
-struct ListLink {
+struct ListLink<'r, R> {
+    rt: &'r R,
     latency: u8,
     out: Vec<Frame>,
     backs: Vec<Snapshot<RenderedFrame>>,
@@ -52,7 +53,7 @@ fn wait<R: Wait>(rt: &R)
     unreachable!()
 }
 
-impl FrameLink for ListLink {
+impl<'r, R: Wait> FrameLink for ListLink<'r, R> {
     ghost use Rattle.std.specs.Prelude.{map, ◌++◌};
     ghost use Rattle.frame_record.specs.Links.{frames_of};
 
@@ -66,38 +67,38 @@ impl FrameLink for ListLink {
 
     ghost origin = { λ l. tt };
 
-    fn give<R: Threads + Wait + Sync>(&mut self, rt: &R, frame: Frame) {
+    fn give(&mut self, frame: Frame) {
         if self.out.push(frame).is_err() {
-            wait(rt);
+            wait(self.rt);
         }
     }
 
-    fn try_take_back<R: Wait>(&mut self, rt: &R) -> Option<RenderedFrame> {
-        let _ = rt;
+    fn try_take_back(&mut self) -> Option<RenderedFrame> {
         None
     }
 
-    fn take_back<R: Threads + Wait + Sync>(&mut self, rt: &R) -> RenderedFrame {
+    fn take_back(&mut self) -> RenderedFrame {
         let frame = self.out.remove(0);
         let rendered = RenderedFrame {
             frame,
             outcome: Outcome::Shown,
         };
         if self.backs.push(Snapshot::of(&rendered)).is_err() {
-            wait(rt);
+            wait(self.rt);
         }
         rendered
     }
 }
 
-fn begun<'t, C: Naming>(
+fn begun<'t, 'r, C: Naming, R: Wait>(
+    rt: &'r R,
     alloc: Global,
     shared: &'t Shared<C>,
     seat: ApiSeat,
     frame: u32,
     serial: u32,
     latency: u8,
-) -> Option<Context<'t, C, ListLink>>
+) -> Option<Context<'t, C, ListLink<'r, R>>>
     requires table { api_table seat ≡ C.table }
     requires seat { api_view seat ≡ first_view frame }
     requires frame { frame ≤ 1073741823 }
@@ -112,6 +113,7 @@ fn begun<'t, C: Naming>(
         latency,
     };
     let link = ListLink {
+        rt,
         latency,
         out: Vec::new(alloc),
         backs: Vec::new(alloc),
@@ -123,8 +125,8 @@ fn begun<'t, C: Naming>(
 }
 
 // The answer to a begin, and to the end of a frame, where the context is not ended.
-fn begun_one<'t, C: Naming>(
-    context: &mut Context<'t, C, ListLink>,
+fn begun_one<'t, C: Naming, R: Wait>(
+    context: &mut Context<'t, C, ListLink<'_, R>>,
 ) -> Option<Result<Encoder<'t, C>, Refusal>> {
     if context.is_ended() {
         return None;
@@ -132,9 +134,9 @@ fn begun_one<'t, C: Naming>(
     Some(context.begin(ROOM))
 }
 
-fn ended<C: Naming, R: Threads + Wait + Sync>(
+fn ended<C: Naming, R: Wait>(
     rt: &R,
-    context: &mut Context<'_, C, ListLink>,
+    context: &mut Context<'_, C, ListLink<'_, R>>,
 ) -> Option<Result<FrameReport, Refusal>> {
     if context.is_ended() {
         return None;
@@ -157,7 +159,7 @@ fn made_again<C: Naming, R: Threads + Wait + Sync>(
     let Ok(shared) = Shared::<C>::new(alloc, table) else {
         return None;
     };
-    let mut context = begun(alloc, &shared, seat, 0, 1, latency)?;
+    let mut context = begun(rt, alloc, &shared, seat, 0, 1, latency)?;
     let Ok(first) = context.create_program(ProgramKind::Solid) else {
         return None;
     };
@@ -213,7 +215,7 @@ fn dead_program<C: Naming, R: Threads + Wait + Sync>(
     let Ok(shared) = Shared::<C>::new(alloc, table) else {
         return None;
     };
-    let mut context = begun(alloc, &shared, seat, 0, 1, 1)?;
+    let mut context = begun(rt, alloc, &shared, seat, 0, 1, 1)?;
     let Ok(program) = context.create_program(ProgramKind::Solid) else {
         return None;
     };
@@ -271,7 +273,7 @@ fn limits<C: Naming, R: Threads + Wait + Sync>(
     let Ok(shared) = Shared::<C>::new(alloc, table) else {
         return None;
     };
-    let mut context = begun(alloc, &shared, seat, 1_073_741_823, 4_294_967_295, 1)?;
+    let mut context = begun(rt, alloc, &shared, seat, 1_073_741_823, 4_294_967_295, 1)?;
     let Ok(_) = context.create_program(ProgramKind::Solid) else {
         return None;
     };
@@ -303,7 +305,8 @@ fn the_limits(rt: HostRuntime) -> Result<(), Fail> {
 }
 
 // The answer to the destroy of a texture that a frame buffer holds, and the frame buffer.
-fn held<C: Naming>(
+fn held<C: Naming, R: Wait>(
+    rt: &R,
     alloc: Global,
     table: HoldTable,
     seat: ApiSeat,
@@ -314,7 +317,7 @@ fn held<C: Naming>(
     let Ok(shared) = Shared::<C>::new(alloc, table) else {
         return None;
     };
-    let mut context = begun(alloc, &shared, seat, 0, 1, 1)?;
+    let mut context = begun(rt, alloc, &shared, seat, 0, 1, 1)?;
     let Ok(texture) = context.create_texture(1, 1, Format::Rgba8, false, TexSource::Fill([0; 4]))
     else {
         return None;
@@ -328,7 +331,7 @@ fn held<C: Naming>(
 #[test]
 fn a_texture_is_held(rt: HostRuntime) -> Result<(), Fail> {
     let (table, seat) = HoldTable::new(rt.alloc(), 0)?;
-    let (answer, holder) = held::<Brand>(rt.alloc(), table, seat).ok_or("memory")?;
+    let (answer, holder) = held::<Brand, _>(&rt, rt.alloc(), table, seat).ok_or("memory")?;
     assert_eq!(rt; answer, Err(Refusal::Attached { holder }));
     Ok(())
 }
@@ -347,7 +350,7 @@ fn held_again<C: Naming, R: Threads + Wait + Sync>(
     let Ok(shared) = Shared::<C>::new(alloc, table) else {
         return None;
     };
-    let mut context = begun(alloc, &shared, seat, 0, 1, 1)?;
+    let mut context = begun(rt, alloc, &shared, seat, 0, 1, 1)?;
     let Ok(texture) = context.create_texture(1, 1, Format::Rgba8, false, TexSource::Fill([0; 4]))
     else {
         return None;
@@ -395,7 +398,7 @@ fn beside<C: Naming + Send + Sync, R: Threads + Wait + Sync>(
     let Ok(shared) = Shared::<C>::new(alloc, table) else {
         return None;
     };
-    let mut context = begun(alloc, &shared, seat, 0, 1, 1)?;
+    let mut context = begun(rt, alloc, &shared, seat, 0, 1, 1)?;
     let Ok(mut encoder) = begun_one(&mut context)? else {
         return None;
     };
@@ -438,7 +441,7 @@ fn shut<C: Naming + Send + Sync, R: Threads + Wait + Sync>(
     let Ok(shared) = Shared::<C>::new(alloc, table) else {
         return None;
     };
-    let mut context = begun(alloc, &shared, seat, 0, 1, 1)?;
+    let mut context = begun(rt, alloc, &shared, seat, 0, 1, 1)?;
     let Ok(_) = ended(rt, &mut context)? else {
         return None;
     };
@@ -456,7 +459,7 @@ fn shut<C: Naming + Send + Sync, R: Threads + Wait + Sync>(
         {
             open.end(rt, 0);
         },
-        || -> Closed<ListLink>
+        || -> Closed<ListLink<'_, R>>
             ensures table { api_table result.seat ≡ C.table }
             ensures off { (api_view result.seat).off ≡ [] }
         { context.shutdown(rt) },
@@ -482,6 +485,70 @@ fn a_context_is_shut_down(rt: HostRuntime) -> Result<(), Fail> {
     Ok(())
 }
 
+// The end of a frame, where the context is not ended and no encoder is off.
+fn ended_here<C: Naming, R: Wait>(
+    context: &mut Context<'_, C, ListLink<'_, R>>,
+) -> Option<FrameReport> {
+    if context.is_ended() {
+        return None;
+    }
+    if context.off() != 0 {
+        return None;
+    }
+    match context.end() {
+        Ok(report) => Some(report),
+        Err(_) => None,
+    }
+}
+
+// The close of a context, where no encoder is off.
+fn closed_here<'r, C: Naming, R: Wait>(
+    context: Context<'_, C, ListLink<'r, R>>,
+) -> Option<Closed<ListLink<'r, R>>> {
+    if context.off() != 0 {
+        return None;
+    }
+    Some(context.close())
+}
+
+// A frame with one encoder, whose bundle goes into no queue, and the close. The number of items, the sum of the dropped, and what came
+// back at the close.
+fn gathered<C: Naming, R: Wait>(
+    rt: &R,
+    alloc: Global,
+    table: HoldTable,
+    seat: ApiSeat,
+) -> Option<(usize, u64, [Option<BackNote>; 3])>
+    requires table { (table_of table ≡ C.table) × (api_table seat ≡ C.table) × (api_view seat ≡ first_view 0) }
+    requires views { C.views ≡ fewest_views }
+    requires admits { (e f d : ℕ) (items : List SeenItem) → C.admits e f items d }
+{
+    let Ok(shared) = Shared::<C>::new(alloc, table) else {
+        return None;
+    };
+    let mut context = begun(rt, alloc, &shared, seat, 0, 1, 1)?;
+    let Ok(mut encoder) = begun_one(&mut context)? else {
+        return None;
+    };
+    let _ = encoder.touch(0);
+    context.gather(encoder.finish(5));
+    let report = ended_here(&mut context)?;
+    let closed = closed_here(context)?;
+    Some((report.journal.len(), report.dropped, closed.backs))
+}
+
+#[test]
+fn a_frame_without_a_queue(rt: HostRuntime) -> Result<(), Fail> {
+    let (table, seat) = HoldTable::new(rt.alloc(), 0)?;
+    let told = gathered::<Brand, _>(&rt, rt.alloc(), table, seat).ok_or("memory")?;
+    let first = BackNote {
+        number: 0,
+        outcome: Outcome::Shown,
+    };
+    assert_eq!(rt; told, (1, 5, [Some(first), None, None]));
+    Ok(())
+}
+
 // An encoder is begun, and begun again where there was no memory: its number, how many were begun, and the items of its frame.
 fn begun_again<C: Naming, R: Threads + Wait + Sync>(
     rt: &R,
@@ -496,7 +563,7 @@ fn begun_again<C: Naming, R: Threads + Wait + Sync>(
     let Ok(shared) = Shared::<C>::new(alloc, table) else {
         return None;
     };
-    let mut context = begun(alloc, &shared, seat, 0, 1, 1)?;
+    let mut context = begun(rt, alloc, &shared, seat, 0, 1, 1)?;
     let one = match begun_one(&mut context)? {
         Err(Refusal::OutOfMemory) => begun_one(&mut context)?,
         one => one,
