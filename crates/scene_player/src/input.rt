@@ -43,7 +43,7 @@ pub(crate) fn read_all<S: Source>(alloc: Global, source: &mut S) -> Result<Vec<u
     ensures no_fewer { S.faults source.old ≤ S.faults source.new }
 {
     let mut all = Vec::new(alloc);
-    let mut room = [0u8; 4096];
+    let mut room = [0u8; 65_536];
     loop {
         let n = source.take(&mut room)?;
         if n == 0 {
