@@ -1,6 +1,6 @@
 /* Random calls, by a seed: handles that are null, of the other kind or ended, words that name nothing, numbers that stand for nothing, buffers
  * too small. Each is answered by a status of the header, none by want of memory, and a call that is not done changes no word that it is given.
- * The program writes how often each status came.
+ * The program writes how often each status came. Among 100,000 calls or more each of the 40 is done at least once, or the program fails.
  *
  * usage: random [SEED [CALLS]] */
 #include "gfx.h"
@@ -86,8 +86,7 @@ static gfx_status create(uint32_t call, gfx_context *c, gfx_thing *made) {
     }
 }
 
-static gfx_status any_call(void) {
-    uint32_t call = below(CALLS);
+static gfx_status any_call(uint32_t call) {
     gfx_context *c = some_context();
     gfx_encoder *e = some_encoder();
     uint16_t view = (uint16_t)(below(16) ? below(6) : next());
@@ -148,19 +147,24 @@ static gfx_status any_call(void) {
 int main(int argc, char **argv) {
     /* there is memory: GFX_OUT_OF_MEMORY, and GFX_ENDED behind it, would be wrong */
     static const gfx_status known[] = {0, 1, 2, 3, 4, 5, 6, 7, 8, 9, 10, 11, 12, 13, 14, 16, 100, 101, 103, 104, 105};
-    static uint64_t counts[106];
+    static uint64_t counts[106], done[CALLS];
     state = argc > 1 ? strtoull(argv[1], 0, 10) : 1;
     uint64_t calls = argc > 2 ? strtoull(argv[2], 0, 10) : 100000;
     for (size_t i = 0; i < sizeof bytes; i++) bytes[i] = (uint8_t)next();
     if (gfx_init(&context, WIDTH, HEIGHT) != GFX_DONE) fail("no context");
     if (gfx_init(&context, WIDTH, HEIGHT) != GFX_TAKEN) fail("a context was made over another");
     for (uint64_t i = 0; i < calls; i++) {
-        gfx_status status = any_call();
+        uint32_t call = below(CALLS);
+        gfx_status status = any_call(call);
         size_t k = 0;
         while (k < sizeof known / sizeof known[0] && known[k] != status) k++;
         if (k == sizeof known / sizeof known[0]) fail("a status that stands for nothing, or for want of memory");
         counts[status]++;
+        done[call] += status == GFX_DONE;
     }
+    if (calls >= 100000)
+        for (int i = 0; i < CALLS; i++)
+            if (done[i] == 0) fail("one of the calls was never done");
     for (int i = 0; i < ENCODERS; i++) gfx_drop(&encoders[i]);
     if (gfx_shutdown(&context) != GFX_DONE || gfx_shutdown(&context) != GFX_NO_OBJECT) fail("the context was not given up once");
     for (size_t s = 0; s < sizeof counts / sizeof counts[0]; s++)
