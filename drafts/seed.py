@@ -4,7 +4,7 @@ so that its checks need not build them again. No verdict rests on it. Run it aga
 import sys, os, re, shutil, subprocess
 sys.path.insert(0, "/opt/rattle/bin")
 import rtlib
-GATE = "/work/h/split"
+GATE = "/work/h/gate"
 plain, memo = rtlib.Crate.stamp, {}
 def stamp(self):
     if self.folder not in memo:
