@@ -200,7 +200,7 @@ fn each_write_of_the_notes_fails(rt: HostRuntime) -> Result<(), Fail> {
     Ok(())
 }
 
-// The texts have 10,000 bytes and some more, so that three reads of 4,096 give them and a fourth tells their end.
+// The texts have 140,000 bytes and some more, so that three reads of 65,536 give them and a fourth tells their end.
 fn reads_fail<R: Abort + Threads + Wait + Sync>(
     rt: &R,
     alloc: Global,
@@ -208,7 +208,7 @@ fn reads_fail<R: Abort + Threads + Wait + Sync>(
     mode: &str,
 ) -> Result<(), Fail> {
     for call in 0..5u32 {
-        let text = text(alloc, scene, mode, 10_000)?;
+        let text = text(alloc, scene, mode, 140_000)?;
         let left = run(rt, alloc, &[mode], text, Some(call), WELL, WELL)?;
         let ended = if call < 4 {
             (Status::ReadFault, 0, 0, 0)
