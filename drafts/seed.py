@@ -4,7 +4,7 @@ so that its checks need not build them again. No verdict rests on it. Run it aga
 import sys, os, re, shutil, subprocess
 sys.path.insert(0, "/opt/rattle/bin")
 import rtlib
-GATE = "/work/h/gate"
+GATE = os.environ.get("GATE","/work/h/gate7")
 plain, memo = rtlib.Crate.stamp, {}
 def stamp(self):
     if self.folder not in memo:
@@ -13,8 +13,8 @@ def stamp(self):
 rtlib.Crate.stamp = stamp
 known_a, known_b = {}, {}
 clone = os.path.abspath(sys.argv[1])
-proved = set(re.findall(r"^rt: (\w+) proved$", open("/work/h/gate.log").read(), re.M)) | set(re.findall(r"^rt: (\w+) is kept", open("/work/h/gate.log").read(), re.M))
-proved |= set(re.findall(r"^(?:rt: )?(\w+) is kept:", open("/work/h/gate.log").read(), re.M))
+proved = set(re.findall(r"^rt: (\w+) proved$", open(GATE + ".log").read(), re.M)) | set(re.findall(r"^rt: (\w+) is kept", open(GATE + ".log").read(), re.M))
+proved |= set(re.findall(r"^(?:rt: )?(\w+) is kept:", open(GATE + ".log").read(), re.M))
 names = [l.split(":")[0].split()[0] for l in open(f"{clone}/crates.txt") if ":" in l]
 done = []
 for name in names:

@@ -1,0 +1,1 @@
+for g in $(pgrep -f "python3 /usr/local/bin/rt ci"); do echo "rt $g $(readlink /proc/$g/cwd) $(ps -o stat= -p $g)"; ps -o pid,ni,time,rss,stat,args --ppid $g | grep -a rattle | awk '{print "   ",$1,$2,$3,int($4/1024),$5,$7,$9,$10}'; done; free -m | sed -n 2p; vmstat 2 2 | tail -1 | awk '{print "us",$13,"st",$17}'; date
