@@ -1,4 +1,4 @@
-/* The front end for C and C++: contexts, things, views, encoders that threads use at once, frames and their pictures.
+/* The front end for C and C++: contexts, things, views, encoders that threads use at once, frames and their pictures; and scenes as text.
  *
  * docs/from-c.md says how to build and link, what the caller owes, and what is proved up to which line.
  *
@@ -53,9 +53,11 @@ enum {
     GFX_NO_OBJECT = 100,    /* the handle is null, or of the other kind */
     GFX_TRY_AGAIN = 101,    /* an encoder has not come back yet */
     GFX_ENDED = 102,        /* memory was wanting in an earlier frame; gfx_shutdown alone is of use */
-    GFX_TOO_SMALL = 103,    /* the buffer for the picture is too small */
+    GFX_TOO_SMALL = 103,    /* a buffer that is to be written is too small */
     GFX_BAD_VALUE = 104,    /* a number stands for nothing */
-    GFX_TAKEN = 105         /* the handle that is to be set is not null */
+    GFX_TAKEN = 105,        /* the handle that is to be set is not null */
+    GFX_NO_SCENE = 106,     /* the text is no scene */
+    GFX_TOO_LONG = 107      /* the text has more than 16777216 bytes */
 };
 
 /* Three rows of four numbers of 1/65536; the fourth of a row is added to the sum of the products of the first three with x, y and z. */
@@ -79,6 +81,18 @@ typedef struct gfx_framed { uint32_t number; size_t picture; uint64_t dropped; }
 
 /* How many bytes the buffer for a picture of these sides has at least. */
 #define GFX_PICTURE_BYTES(width, height) (3 * (size_t)(width) * (size_t)(height) + 17)
+
+/* What is told of a play: how many bytes of pictures and of report were written or are wanted; and of a text that is no scene its first line
+ * that fails, from 1, and the cause, 1 to 12 (docs/formats.md). */
+typedef struct gfx_played { size_t pictures, report; uint32_t line, cause; } gfx_played;
+
+/* ---- a scene as text; it needs no context, and may be called by several threads at once, each with its own buffers */
+
+/* Plays a scene's text (docs/formats.md) on the calling thread, and writes the P6 texts of its pictures one behind the other, and its report: a
+ * line for each frame with its items and its dropped lines. It is what the program gfx_play writes in the mode `play`. What the buffers have
+ * behind that is as before. GFX_TOO_LONG; GFX_NO_SCENE with the line and the cause; GFX_TOO_SMALL where a buffer is too small, with the
+ * lengths that are wanted, which are those of any play of this text; GFX_OUT_OF_MEMORY. After all of these the buffers are as before. */
+gfx_status gfx_play(const uint8_t *text, size_t text_length, uint8_t *pictures, size_t pictures_length, uint8_t *report, size_t report_length, gfx_played *played);
 
 /* ---- a context; each of its calls by one thread at a time */
 

@@ -1,5 +1,6 @@
-/* Plays a scene of docs/formats.md, read from standard input, and writes its pictures to standard output, as `gfx_play play` does. It
- * reads scenes that are well formed, and plays the blocks of a frame one after another. */
+/* Plays a scene of docs/formats.md, read from standard input, and writes its pictures to standard output and its report to standard error, as
+ * the program `gfx_play play` does. With the word `lines` it plays the scene by calls that it makes of its lines, and writes the pictures
+ * alone: it reads scenes that are well formed, and plays the blocks of a frame one after another. */
 #include "gfx.h"
 
 #include <stdio.h>
@@ -208,13 +209,7 @@ static void end_frame(void) {
     fwrite(picture, 1, framed.picture, stdout);
 }
 
-int main(void) {
-    size_t capacity = 1 << 16, n = 0, got;
-    char *text = malloc(capacity + 1);
-    while (text && (got = fread(text + n, 1, capacity - n, stdin)) > 0)
-        if ((n += got) == capacity) text = realloc(text, (capacity *= 2) + 1);
-    if (!text) fail("no memory");
-    text[n] = 0;
+static void play_lines(char *text) {
     int begun = 0, block = -1, frames = 0;
     for (char *line = text, *after; *line; line = after) {
         after = line + strcspn(line, "\n");
@@ -249,5 +244,41 @@ int main(void) {
         else if (encoder_line(&encoders[block]) != GFX_DONE) dropped[block]++;
     }
     if (gfx_shutdown(&context) != GFX_DONE) fail("the context was not given up");
+}
+
+/* ---- the text as a whole */
+
+static void play_text(const char *text, size_t n) {
+    gfx_played played = {0, 0, 0, 0};
+    uint8_t none = 0;
+    uint8_t *pictures = &none, *report = &none;
+    size_t pictures_length = 0, report_length = 0;
+    gfx_status status = gfx_play((const uint8_t *)text, n, pictures, 0, report, 0, &played);
+    if (status == GFX_TOO_SMALL) {
+        pictures_length = played.pictures;
+        report_length = played.report;
+        pictures = malloc(pictures_length + 1);
+        report = malloc(report_length + 1);
+        if (!pictures || !report) fail("no memory");
+        status = gfx_play((const uint8_t *)text, n, pictures, pictures_length, report, report_length, &played);
+    }
+    if (status == GFX_NO_SCENE) {
+        fprintf(stderr, "scene refused at line %lu for cause %lu\n", (unsigned long)played.line, (unsigned long)played.cause);
+        exit(2);
+    }
+    if (status != GFX_DONE) fail("the scene is not played");
+    fwrite(pictures, 1, played.pictures, stdout);
+    fwrite(report, 1, played.report, stderr);
+}
+
+int main(int argc, char **argv) {
+    size_t capacity = 1 << 16, n = 0, got;
+    char *text = malloc(capacity + 1);
+    while (text && (got = fread(text + n, 1, capacity - n, stdin)) > 0)
+        if ((n += got) == capacity) text = realloc(text, (capacity *= 2) + 1);
+    if (!text) fail("no memory");
+    text[n] = 0;
+    if (argc > 1 && strcmp(argv[1], "lines") == 0) play_lines(text);
+    else play_text(text, n);
     return 0;
 }

@@ -61,7 +61,8 @@ impl<'t, C: Naming> Job<'t, C> {
             lines,
             names,
         } = self;
-        record_rest(rt, gate, encoder, names.as_slice(), lines, 0);
+        let (encoder, dropped) = record_rest(gate, encoder, names.as_slice(), lines, 0);
+        encoder.end(rt, dropped);
     }
 
     /// The job, to be recorded line by line.

@@ -1,5 +1,5 @@
 //! Recorder threads that live for a whole play: jobs of an encoder and its block, the desk where they wait, and how a line is recorded.
-//! A replay records a job line by line in their place.
+//! A play on one thread records a job line by line in their place.
 #![tactic(auto)]
 
 mod desk;

@@ -1,4 +1,4 @@
-// The lines of a block that are left, up to the encoder's end.
+// The lines of a block that are left.
 ghost use Rattle.std.specs.Prelude.{◌≡◌, ◌∷◌, [], length, map, filter};
 ghost use Rattle.scene_text.specs.Seen.{encoder_line_seen};
 ghost use Rattle.block_recording.specs.Lines.{is_item_line};
@@ -9,19 +9,18 @@ use draw_encoder::{Encoder, Naming};
 use gfx_words::Handle;
 use io_edge::Gate;
 use scene_text::EncLine;
-use std::sync::Wait;
 
-// Records lines and ends the encoder, of which some lines were dropped before. Before each line that puts an item down it calls
-// the gate with the encoder's number and how many such lines came before.
-pub(crate) fn record_rest<C: Naming, R: Wait, G: Gate>(
-    rt: &R,
+// Records lines on an encoder, of which some lines were dropped before; answers it, and how many were dropped in all. Before each line
+// that puts an item down it calls the gate with the encoder's number and how many such lines came before.
+pub(crate) fn record_rest<'t, C: Naming, G: Gate>(
     gate: &G,
-    encoder: Encoder<'_, C>,
+    encoder: Encoder<'t, C>,
     names: &[Option<Handle>],
     lines: &[EncLine],
     dropped: u32,
-)
+) -> (Encoder<'t, C>, u32)
     requires { IsOnTheWay C.admits (record { encoder = encoder; dropped = dropped; lines = map encoder_line_seen lines.now; names = names.now }) }
+    ensures { C.admits result.0.seat.encoder result.0.seat.frame result.0.recorder.items result.1 }
 {
     let number = encoder.number();
     let mut encoder = encoder;
@@ -31,7 +30,7 @@ pub(crate) fn record_rest<C: Naming, R: Wait, G: Gate>(
         item += pass(gate, number, item, line);
         dropped += record_line(&mut encoder, names, line);
     }
-    encoder.end(rt, dropped);
+    (encoder, dropped)
 }
 
 // Passes the gate before a line that puts an item down, and answers how many such lines this is.

@@ -6,13 +6,13 @@ ghost use Rattle.block_recording.specs.Jobs.{StepsView, IsOnTheWay, IsStep, IsNe
 
 use crate::lines::{is_item, record_line};
 use crate::rest::record_rest;
-use draw_encoder::{Encoder, Naming};
+use draw_encoder::{Bundle, Encoder, Naming};
 use gfx_words::Handle;
 use io_edge::NoGate;
 use scene_text::EncLine;
 use std::alloc::Global;
 use std::marker::Model;
-use std::sync::{Arc, Wait};
+use std::sync::Arc;
 
 /// A job that is recorded line by line, for a replay that records several encoders on one thread in a given order. What it will
 /// have recorded at its end is admitted by its type. Contracts see a `StepsView`.
@@ -86,14 +86,15 @@ impl<'t, C: Naming> Steps<'t, C> {
         false
     }
 
-    /// Records the lines that are left and ends the encoder, whose bundle then waits to be collected.
-    pub fn end<R: Wait>(self, rt: &R) {
+    /// Records the lines that are left and ends the encoder, whose bundle it gives. It does not wait.
+    pub fn finish(self) -> Bundle<C> {
         let Steps {
             encoder,
             lines,
             names,
             dropped,
         } = self;
-        record_rest(rt, &NoGate, encoder, names.as_slice(), lines, dropped);
+        let (encoder, dropped) = record_rest(&NoGate, encoder, names.as_slice(), lines, dropped);
+        encoder.finish(dropped)
     }
 }

@@ -222,8 +222,7 @@ fn no_job_is_lost(rt: HostRuntime) -> Result<(), Fail> {
 
 // ---- by steps
 
-fn by_steps<'t, C: Naming, R: Wait>(
-    rt: &R,
+fn by_steps<'t, C: Naming>(
     alloc: Global,
     shared: &'t Shared<C>,
     api: ApiSeat,
@@ -244,14 +243,14 @@ fn by_steps<'t, C: Naming, R: Wait>(
         b.next_item(),
         a.next_item(),
     ];
-    a.end(rt);
-    b.end(rt);
-    let (first, second) = collected(rt, shared);
-    Some((found, first, second))
+    Some((
+        found,
+        sums(a.finish().recording()),
+        sums(b.finish().recording()),
+    ))
 }
 
-fn replayed<C: Naming, R: Wait>(
-    rt: &R,
+fn replayed<C: Naming>(
     alloc: Global,
     table: HoldTable,
     api: ApiSeat,
@@ -264,13 +263,13 @@ fn replayed<C: Naming, R: Wait>(
     let Ok(shared) = Shared::<C>::new(alloc, table) else {
         return None;
     };
-    by_steps(rt, alloc, &shared, api, &lines)
+    by_steps(alloc, &shared, api, &lines)
 }
 
 #[test]
 fn items_are_numbered_in_the_order_of_steps(rt: HostRuntime) -> Result<(), Fail> {
     let (table, api) = HoldTable::new(rt.alloc(), 0)?;
-    let (found, a, b) = replayed::<Brand, _>(&rt, rt.alloc(), table, api).ok_or("memory")?;
+    let (found, a, b) = replayed::<Brand>(rt.alloc(), table, api).ok_or("memory")?;
     assert_eq!(rt; found, [true, true, true, true, false]);
     assert_eq!(rt; a, (0, 2, 1));
     assert_eq!(rt; b, (1, 13, 1));

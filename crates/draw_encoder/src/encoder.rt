@@ -1,9 +1,10 @@
-// Recording on a named table, by an encoder that ends into the queue.
+// Recording on a named table, by an encoder that ends into the queue or gives its bundle.
 ghost use Rattle.std.specs.Prelude.{◌≡◌, [], length, Ok, IfOk, IfErr};
 ghost use Rattle.gfx_model.specs.Recorder as calls;
 ghost use Rattle.gfx_words.specs.Seen.{value_seen};
 ghost use Rattle.fix_math.specs.Seen.{rect_seen, affine_seen};
 ghost use Rattle.hold_table.specs.Seats.{enc_table, enc_view};
+ghost use Rattle.draw_encoder.specs.Bundles.{items_of};
 ghost use Rattle.draw_encoder.specs.Seen.{room_seen, copy_seen};
 ghost use Rattle.gfx_model.specs.FrameCalls.{IsRoom};
 ghost use Rattle.draw_encoder.specs.Calls.{EncoderView, Answers};
@@ -20,7 +21,7 @@ use std::alloc::Global;
 use std::marker::{Model, PhantomData};
 use std::sync::Wait;
 
-/// A recorder on the named table, with the named number of views, which is spent by `end`. Each call is the `Recorder`'s, which
+/// A recorder on the named table, with the named number of views, which is spent by `end` or `finish`. Each call is the `Recorder`'s, which
 /// says when it is refused. Contracts see an `EncoderView`.
 #[derive(Drop)]
 pub struct Encoder<'t, C: Naming> {
@@ -188,21 +189,32 @@ impl<'t, C: Naming> Encoder<'t, C> {
         self.recorder.blit(self.shared.table(), view, copy)
     }
 
+    /// Ends the recording, and gives its bundle to the caller, who has it gathered: no queue is touched, and nothing is waited
+    /// for. `dropped` is the caller's own number.
+    pub fn finish(self, dropped: u32) -> Bundle<C>
+        requires admitted { C.admits self.seat.encoder self.seat.frame self.recorder.items dropped }
+        ensures items { (items_of result.0 ≡ self.entry.recorder.items) × (result.0.dropped ≡ dropped) }
+        ensures seat { enc_view result.1 ≡ self.entry.seat }
+    {
+        let Encoder {
+            shared: _,
+            recorder,
+        } = self;
+        let (recording, seat) = recorder.end(dropped);
+        let of = PhantomData;
+        Bundle {
+            recording,
+            seat,
+            of,
+        }
+    }
+
     /// Ends the recording: the bundle goes into the queue, where it waits to be collected. `dropped` is the caller's own number.
     /// Where the queue is full, it tries again.
     pub fn end<R: Wait>(self, rt: &R, dropped: u32)
         requires admitted { C.admits self.seat.encoder self.seat.frame self.recorder.items dropped }
     {
-        let Encoder { shared, recorder } = self;
-        let (recording, seat) = recorder.end(dropped);
-        let of = PhantomData;
-        shared.put(
-            rt,
-            Bundle {
-                recording,
-                seat,
-                of,
-            },
-        );
+        let shared = self.shared;
+        shared.put(rt, self.finish(dropped));
     }
 }

@@ -261,6 +261,39 @@ fn touched<C: Naming, R: Wait>(
     Some(shared.table().advance(api))
 }
 
+// A frame with one touch, whose bundle goes into no queue. It answers what the bundle has, and the first number of the next frame.
+fn finished<C: Naming>(
+    alloc: Global,
+    table: HoldTable,
+    mut api: ApiSeat,
+) -> Option<(Recording, u64)>
+    requires table { (table_of table ≡ C.table) × (api_table api ≡ C.table) × (api_view api ≡ first_view 0) }
+    requires views { C.views ≡ fewest_views }
+    requires admits { (e f d : ℕ) (items : List SeenItem) → C.admits e f items d }
+{
+    let Ok(shared) = Shared::<C>::new(alloc, table) else {
+        return None;
+    };
+    let mut enc = begun(alloc, &shared, &mut api, 3)?;
+    let _ = enc.touch(255);
+    let (recording, seat) = enc.finish(7).part();
+    shared.table().join(&mut api, seat);
+    Some((recording, shared.table().advance(&mut api)))
+}
+
+#[test]
+fn a_bundle_without_a_queue(rt: HostRuntime) -> Result<(), Fail> {
+    let (table, api) = HoldTable::new(rt.alloc(), 0)?;
+    let (recording, next) = finished::<Brand>(rt.alloc(), table, api).ok_or("memory")?;
+    assert_eq!(rt; (recording.encoder, recording.frame), (3, 0));
+    assert_eq!(rt;
+        (recording.items.as_slice().len(), recording.dropped),
+        (1, 7)
+    );
+    assert_eq!(rt; next, 1, "the first number of the next frame");
+    Ok(())
+}
+
 fn mark(seen: &mut [bool], recording: &Recording) {
     for item in recording.items.as_slice() {
         if let Item::Touch(touch) = item {

@@ -9,8 +9,6 @@ use atomic_table::{Seat, Table};
 use frame_record::{Frame, FrameLink, Outcome, RenderedFrame};
 use frame_swap::{Content, FrameTable, View, back_here, claim_all, give_here, return_here};
 use std::alloc::{AllocError, Global};
-use std::sync::Wait;
-use std::thread::Threads;
 
 /// A link that keeps the frames that are given, at most as many as the latency, until they are taken back, each as shown.
 #[derive(Drop)]
@@ -79,7 +77,7 @@ impl FrameLink for KeepingLink {
 
     ghost origin = { λ l. tt };
 
-    fn give<R: Threads + Wait + Sync>(&mut self, rt: &R, frame: Frame) {
+    fn give(&mut self, frame: Frame) {
         let table = &self.table;
         let place = self.next as usize;
         let frame = give_here(table, &mut self.seat, place, frame);
@@ -93,7 +91,7 @@ impl FrameLink for KeepingLink {
         self.next = (self.next + 1) % self.latency;
     }
 
-    fn try_take_back<R: Wait>(&mut self, rt: &R) -> Option<RenderedFrame>
+    fn try_take_back(&mut self) -> Option<RenderedFrame>
         requires some_out { length self.old.seat.me.0.back < length self.old.seat.me.0.given }
         ensures given { self.new.seat.me.0.given ≡ self.old.seat.me.0.given }
         ensures back { IsSomeAnd result (λ r. CameBack self.old.seat.me.0.given self.old.seat.me.0.back self.new.seat.me.0.back r × IsShown r) }
@@ -102,7 +100,7 @@ impl FrameLink for KeepingLink {
         Some(self.take_oldest())
     }
 
-    fn take_back<R: Threads + Wait + Sync>(&mut self, rt: &R) -> RenderedFrame
+    fn take_back(&mut self) -> RenderedFrame
         requires some_out { length self.old.seat.me.0.back < length self.old.seat.me.0.given }
         ensures given { self.new.seat.me.0.given ≡ self.old.seat.me.0.given }
         ensures back { CameBack self.old.seat.me.0.given self.old.seat.me.0.back self.new.seat.me.0.back result }

@@ -29,14 +29,14 @@ fn three_frames_two_out(rt: HostRuntime) -> Result<(), Fail> {
     let alloc = rt.alloc();
     let (first, second, third) = (frame(alloc, 4)?, frame(alloc, 5)?, frame(alloc, 6)?);
     let mut link = KeepingLink::new(alloc, 2)?;
-    link.give(&rt, first);
-    link.give(&rt, second);
-    let back = link.take_back(&rt);
+    link.give(first);
+    link.give(second);
+    let back = link.take_back();
     assert_eq!(rt; (back.frame.number, back.outcome), (4, Outcome::Shown));
-    link.give(&rt, third);
-    let back = link.try_take_back(&rt).ok_or("none")?;
+    link.give(third);
+    let back = link.try_take_back().ok_or("none")?;
     assert_eq!(rt; (back.frame.number, back.outcome), (5, Outcome::Shown));
-    let back = link.take_back(&rt);
+    let back = link.take_back();
     assert_eq!(rt; (back.frame.number, back.outcome), (6, Outcome::Shown));
     Ok(())
 }

@@ -1,13 +1,12 @@
 // A place to which frames go, and from which they come back.
 ghost use Rattle.std.specs.Prelude.{◌≡◌, ◌+◌, ◌<◌, [], ◌∷◌, ◌++◌, length, MatchOption};
-ghost use Rattle.std.specs.Thread.{IsSync};
 ghost use Rattle.frame_record.specs.Links.{frames_of, out_of, CameBack};
 
 use crate::frame::{Frame, RenderedFrame};
-use std::sync::Wait;
-use std::thread::Threads;
 
 /// Where frames go, and come back from with the outcomes of their renders: in the order in which they were given, each once.
+///
+/// No call asks for leave to wait or to start threads: a link that waits or starts threads holds its runtime.
 ///
 /// The frames that are out are those that were given and did not come back; there are at most as many as the latency.
 pub trait FrameLink {
@@ -31,16 +30,15 @@ pub trait FrameLink {
     ghost origin: { Self → Origin };
 
     /// Hands a frame over, or renders it at once. Fewer frames than the latency are out.
-    fn give<R: Threads + Wait + Sync>(&mut self, rt: &R, frame: Frame)
+    fn give(&mut self, frame: Frame)
         requires room { length (given self.old) < length (back self.old) + latency self.old }
-        requires sync { IsSync R.row }
         ensures given { given self.new ≡ given self.old ++ frame ∷ [] }
         ensures back { back self.new ≡ back self.old }
         ensures latency { latency self.new ≡ latency self.old }
         ensures origin { origin self.new ≡ origin self.old };
 
     /// Takes the oldest frame that is out back, where its render has ended; None changes nothing. A frame is out.
-    fn try_take_back<R: Wait>(&mut self, rt: &R) -> Option<RenderedFrame>
+    fn try_take_back(&mut self) -> Option<RenderedFrame>
         requires { length (back self.old) < length (given self.old) }
         ensures given { given self.new ≡ given self.old }
         ensures back { MatchOption result
@@ -50,7 +48,7 @@ pub trait FrameLink {
         ensures origin { origin self.new ≡ origin self.old };
 
     /// Waits until the render of the oldest frame that is out has ended, and takes it back. A frame is out.
-    fn take_back<R: Threads + Wait + Sync>(&mut self, rt: &R) -> RenderedFrame
+    fn take_back(&mut self) -> RenderedFrame
         requires { length (back self.old) < length (given self.old) }
         ensures given { given self.new ≡ given self.old }
         ensures back { CameBack (given self.old) (back self.old) (back self.new) result }

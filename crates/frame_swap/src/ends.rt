@@ -9,10 +9,9 @@ use crate::view::{Claim, Give, Law, Learn, Part, Return, Stop, Take, TakeBack, V
 use atomic_table::{Seat, Table};
 use crossbeam_utils::Backoff;
 use crossbeam_utils::sync::EventCount;
-use frame_record::{Frame, FrameLink, RenderedFrame};
+use frame_record::{Frame, RenderedFrame};
 use std::alloc::{AllocError, Global};
 use std::sync::{Arc, Wait};
-use std::thread::Threads;
 
 /// The table of the frames: as many words and slots as frames may be out; its key is that number.
 pub type FrameTable = Table<Option<Content>, View, u8, Law, Global>;
@@ -116,6 +115,23 @@ pub fn claim_all(table: &FrameTable, seat: &mut Seat<Option<Content>, View>, lat
 }
 
 impl ApiEnd {
+    /// Hands a frame over to the render end. Fewer frames than the latency are out.
+    pub fn give(&mut self, frame: Frame)
+        requires room { length self.old.seat.me.0.given < length self.old.seat.me.0.back + self.old.latency }
+        ensures view { self.new.seat.me.0 ≡ gave frame self.old.seat.me.0 }
+        ensures same { (self.new.seat.table_id ≡ self.old.seat.table_id) × (self.new.latency ≡ self.old.latency) }
+    {
+        let shared = &self.swap.table.shared;
+        let place = self.next as usize;
+        match shared.exchange(&mut self.seat, place, Some(Content::Given(frame))) {
+            None => {}
+            Some(_) => unreachable!(),
+        }
+        shared.store::<Give>(&mut self.seat, place, 1);
+        self.swap.given.notify_one();
+        self.next = (self.next + 1) % self.latency;
+    }
+
     /// Tries once to take the oldest frame that is out back. None only where a step of this call did not find its render ended, which the
     /// end's view then counts.
     pub fn try_take_back(&mut self) -> Option<RenderedFrame>
@@ -147,6 +163,28 @@ impl ApiEnd {
         }
     }
 
+    /// Waits until the render of the oldest frame that is out has ended, and takes it back. A frame is out.
+    pub fn take_back<R: Wait>(&mut self, rt: &R) -> RenderedFrame
+        requires some_out { length self.old.seat.me.0.back < length self.old.seat.me.0.given }
+        ensures view { self.new.seat.me.0 ≡ with_misses self.new.seat.me.0.misses (came result self.old.seat.me.0) }
+        ensures order { CameBack self.old.seat.me.0.given self.old.seat.me.0.back self.new.seat.me.0.back result }
+        ensures same { (self.new.seat.table_id ≡ self.old.seat.table_id) × (self.new.latency ≡ self.old.latency) }
+    {
+        let backoff = Backoff::new();
+        for _ in rt.forever() {
+            if let Some(rendered) = self.try_take_back() {
+                return rendered;
+            }
+            if !backoff.is_completed() {
+                backoff.snooze();
+            } else {
+                self.sleep(rt);
+                backoff.reset();
+            }
+        }
+        unreachable!()
+    }
+
     /// No frame is given any more. The word of the frame that would come next says so from then on; a `take` that finds it answers None.
     /// No frame is out.
     pub fn stop(&mut self)
@@ -175,67 +213,6 @@ impl ApiEnd {
         let shared = &swap.table.shared;
         shared.join_seat::<Part>(&mut seat, other);
         shared.load::<Learn>(&mut seat, 0);
-    }
-}
-
-impl FrameLink for ApiEnd {
-    ghost use Rattle.atomic_table.specs.Seated.{TableId};
-    ghost use Rattle.frame_swap.specs.Ends.{given_by, back_by, latency_of, api_table};
-
-    ghost given = { given_by };
-
-    ghost back = { back_by };
-
-    ghost latency = { latency_of };
-
-    ghost Origin = { TableId };
-
-    ghost origin = { api_table };
-
-    fn give<R: Threads + Wait + Sync>(&mut self, rt: &R, frame: Frame)
-        requires room { length self.old.seat.me.0.given < length self.old.seat.me.0.back + self.old.latency }
-        ensures view { self.new.seat.me.0 ≡ gave frame self.old.seat.me.0 }
-        ensures same { (self.new.seat.table_id ≡ self.old.seat.table_id) × (self.new.latency ≡ self.old.latency) }
-    {
-        let shared = &self.swap.table.shared;
-        let place = self.next as usize;
-        match shared.exchange(&mut self.seat, place, Some(Content::Given(frame))) {
-            None => {}
-            Some(_) => unreachable!(),
-        }
-        shared.store::<Give>(&mut self.seat, place, 1);
-        self.swap.given.notify_one();
-        self.next = (self.next + 1) % self.latency;
-    }
-
-    fn try_take_back<R: Wait>(&mut self, rt: &R) -> Option<RenderedFrame>
-        requires some_out { length self.old.seat.me.0.back < length self.old.seat.me.0.given }
-        ensures view { MatchOption result (self.new.seat.me.0 ≡ missed self.old.seat.me.0) (λ r. self.new.seat.me.0 ≡ came r self.old.seat.me.0) }
-        ensures order { IfSome result (λ r. CameBack self.old.seat.me.0.given self.old.seat.me.0.back self.new.seat.me.0.back r) }
-        ensures same { (self.new.seat.table_id ≡ self.old.seat.table_id) × (self.new.latency ≡ self.old.latency) }
-    {
-        ApiEnd::try_take_back(self)
-    }
-
-    fn take_back<R: Threads + Wait + Sync>(&mut self, rt: &R) -> RenderedFrame
-        requires some_out { length self.old.seat.me.0.back < length self.old.seat.me.0.given }
-        ensures view { self.new.seat.me.0 ≡ with_misses self.new.seat.me.0.misses (came result self.old.seat.me.0) }
-        ensures order { CameBack self.old.seat.me.0.given self.old.seat.me.0.back self.new.seat.me.0.back result }
-        ensures same { (self.new.seat.table_id ≡ self.old.seat.table_id) × (self.new.latency ≡ self.old.latency) }
-    {
-        let backoff = Backoff::new();
-        for _ in rt.forever() {
-            if let Some(rendered) = ApiEnd::try_take_back(self) {
-                return rendered;
-            }
-            if !backoff.is_completed() {
-                backoff.snooze();
-            } else {
-                self.sleep(rt);
-                backoff.reset();
-            }
-        }
-        unreachable!()
     }
 }
 

@@ -10,6 +10,7 @@ mod ends;
 mod here;
 pub mod laws;
 mod view;
+mod waiting;
 
 pub use content::Content;
 pub use ends::{ApiEnd, FrameTable, Nothing, RenderEnd, claim_all, swap_pair};
@@ -17,3 +18,4 @@ pub use here::{back_here, give_here, return_here};
 pub use view::{
     BackHere, Claim, Give, Law, Learn, Part, Return, Stop, Take, TakeBack, TakeHere, View,
 };
+pub use waiting::WaitingEnd;

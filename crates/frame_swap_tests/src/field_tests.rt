@@ -11,7 +11,7 @@ use draw_encoder::{
     BlitCall, BlitItem, Bytes, DrawItem, IndexSet, Item, Items, Recording, TouchItem, UniformSet,
     UniformSets, VertexSet,
 };
-use frame_record::{Frame, FrameLink, Outcome, RenderedFrame, collect};
+use frame_record::{Frame, Outcome, RenderedFrame, collect};
 use frame_swap::{ApiEnd, RenderEnd, swap_pair};
 use gfx_words::{Handle, Info, Kind, UniformValue, ViewMode};
 use std::alloc::{AllocError, Global};
@@ -262,7 +262,7 @@ impl Promise<RenderEnd> for Served {
 }
 
 // Takes the oldest frame back where as many are out as may be, and answers how many are out then.
-fn make_room<R: Threads + Wait + Sync>(
+fn make_room<R: Wait>(
     rt: &R,
     api: &mut ApiEnd,
     latency: u8,
@@ -283,7 +283,7 @@ fn make_room<R: Threads + Wait + Sync>(
 }
 
 // Gives the frames, as many out at a time as may be, and takes all back.
-fn turns<R: Threads + Wait + Sync>(
+fn turns<R: Wait>(
     rt: &R,
     alloc: Global,
     api: &mut ApiEnd,
@@ -299,7 +299,7 @@ fn turns<R: Threads + Wait + Sync>(
     let mut out = 0u8;
     for frame in frames {
         let left = make_room(rt, api, latency, out, &mut came);
-        api.give(rt, frame);
+        api.give(frame);
         out = left + 1;
     }
     for _ in 0..out {

@@ -5,7 +5,7 @@ ghost use Rattle.frame_swap.specs.Ends.{api_table, api_knows, render_table, rend
 
 use cmd_buffer::CmdBuffer;
 use frame_record::{Frame, FrameLink, Outcome, RenderedFrame};
-use frame_swap::{ApiEnd, RenderEnd, swap_pair};
+use frame_swap::{ApiEnd, RenderEnd, WaitingEnd, swap_pair};
 use std::snapshot::Snapshot;
 use std::sync::Wait;
 use std::test::Fail;
@@ -87,7 +87,7 @@ impl Promise<RenderEnd> for Served {
 // Two frames by way of a render thread, as they came back.
 fn by_a_thread<R: Threads + Wait + Sync>(
     rt: &R,
-    mut api: ApiEnd,
+    api: ApiEnd,
     end: RenderEnd,
     first: Frame,
     second: Frame,
@@ -109,10 +109,12 @@ fn by_a_thread<R: Threads + Wait + Sync>(
             { serve(rt, end) };
             match scope.spawn_with(promise, job) {
                 Ok(handle) => {
-                    api.give(rt, first);
-                    let one = api.take_back(rt);
-                    api.give(rt, second);
-                    let two = api.take_back(rt);
+                    let mut link = WaitingEnd::new(api, rt);
+                    link.give(first);
+                    let one = link.take_back();
+                    link.give(second);
+                    let two = link.take_back();
+                    let mut api = link.into_end();
                     api.stop();
                     let end = handle.join(rt);
                     api.close(end);
@@ -149,14 +151,14 @@ fn pass<R: Wait>(rt: &R, end: &mut RenderEnd, outcome: Outcome) -> bool
 }
 
 // With two frames out, the oldest comes back and the next is given.
-fn turn<R: Threads + Wait + Sync>(rt: &R, api: &mut ApiEnd, next: Frame) -> Came
+fn turn<R: Wait>(rt: &R, api: &mut ApiEnd, next: Frame) -> Came
     requires out { length (api_knows api.old).given ≡ length (api_knows api.old).back + 2 }
     requires latency { 3 ≤ api.old.latency }
     ensures table { (api_table api.new ≡ api_table api.old) × (api.new.latency ≡ api.old.latency) }
     ensures out { length (api_knows api.new).given ≡ length (api_knows api.new).back + 2 }
 {
     let back = api.take_back(rt);
-    api.give(rt, next);
+    api.give(next);
     seen(&back)
 }
 
@@ -188,8 +190,8 @@ fn two_frames_out_of_three(rt: HostRuntime) -> Result<(), Fail> {
     let (mut api, mut end) = swap_pair(rt.alloc(), 3)?;
     none_back(&mut api)?;
     none_given(&mut end)?;
-    api.give(&rt, frame(&rt, 3)?);
-    api.give(&rt, frame(&rt, 4)?);
+    api.give(frame(&rt, 3)?);
+    api.give(frame(&rt, 4)?);
     assert!(rt; pass(&rt, &mut end, Outcome::Shown));
     let first = turn(&rt, &mut api, frame(&rt, 5)?);
     assert!(rt; pass(&rt, &mut end, Outcome::PictureFault));
@@ -211,7 +213,7 @@ fn two_frames_out_of_three(rt: HostRuntime) -> Result<(), Fail> {
 }
 
 // With no frame out, gives one frame a thousand times, each time later than before, and answers how often it came back as shown.
-fn late_turns<R: Threads + Wait + Sync>(rt: &R, api: &mut ApiEnd, first: Frame) -> u32
+fn late_turns<R: Wait>(rt: &R, api: &mut ApiEnd, first: Frame) -> u32
     requires out { length (api_knows api.old).given ≡ length (api_knows api.old).back }
     requires latency { 1 ≤ api.old.latency }
     ensures table { (api_table api.new ≡ api_table api.old) × (api.new.latency ≡ api.old.latency) }
@@ -221,7 +223,7 @@ fn late_turns<R: Threads + Wait + Sync>(rt: &R, api: &mut ApiEnd, first: Frame) 
     let mut shown = 0u32;
     for turn in 0..1000u32 {
         pause(turn);
-        api.give(rt, frame);
+        api.give(frame);
         let back = api.take_back(rt);
         if back.outcome == Outcome::Shown {
             shown = shown.wrapping_add(1);

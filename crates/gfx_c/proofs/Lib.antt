@@ -7,3 +7,4 @@ mod Recorded
 mod Frames
 mod Begins
 mod Openings
+mod Plays

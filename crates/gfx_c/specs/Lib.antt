@@ -6,3 +6,4 @@ pub mod Calls
 pub mod Frames
 pub mod Exports
 pub mod Opening
+pub mod Plays

@@ -1,4 +1,5 @@
-//! The front end for C: contexts, encoders that C's own threads use at once, frames and their pictures. C links this one library.
+//! The front end for C: contexts, encoders that C's own threads use at once, frames and their pictures, and scenes as text. C links this
+//! one library.
 //!
 //! A handle of C is a `Slot`: null, or an object. Each export's contract is that of the call that it stands for, on the values of
 //! its handles, and each answers 0 or the number of a `Fault`. What C owes is written in docs/from-c.md.
@@ -9,6 +10,7 @@ mod c_context;
 mod c_creates;
 mod c_encoder;
 mod c_frame;
+mod c_play;
 mod c_recording;
 mod c_updates;
 mod c_views;
@@ -22,6 +24,9 @@ mod held;
 mod objects;
 mod parts;
 mod picture;
+#[cfg(test)]
+mod play_tests;
+mod playing;
 mod recording;
 mod slot;
 #[cfg(test)]

@@ -2,6 +2,7 @@
 use Rattle.std.proofs.Common.{◌≡◌, ℕ, ◌≤◌, List, [], ◌∷◌, ◌++◌, length, Option, Some, None, refl, sym, ap, ◌∙◌, arith, append_assoc, append-nil}
 use Rattle.gfx_model.specs.World.{Item}
 use Rattle.hold_table.specs.Views.{SeatView}
+use Rattle.frame_record.specs.declared.frame.Frame.{Frame}
 use Rattle.frame_record.specs.declared.frame.RenderedFrame.{RenderedFrame}
 use Rattle.frame_record.specs.Links.{frames_of, out_of}
 use Rattle.std.proofs.lemmas.List.{drop_all}
@@ -102,3 +103,17 @@ module _ {L : Type 0} where
 
     pub latency_told : v.book.resources.latency ≡ old.book.resources.latency
     latency_told = ap (λ (x : ContextView L). x.book.resources.latency) is ∙ ap (λ b. b.resources.latency) ((leaves o c d u).book ∙ (leaves n b c t).book ∙ (leaves m a b s).book) ∙ ap (λ (x : ContextView L). x.book.resources.latency) collects.same
+
+-- a context is closed when its bundles are collected
+pub closes_collected : {L : Type 0} (admits : ℕ → ℕ → List Item → ℕ → Type 0) (views : ℕ) (old mid : ContextView L) (given : List Frame) (back : List RenderedFrame) (seat : SeatView) (notes : List (Option BackNote))
+    → Collects admits views old mid → Closes mid given back seat notes → Closes old given back seat notes
+closes_collected {L} admits views old mid given back seat notes collects closes = record {
+  came = closes.came;
+  given_is = closes.given_is ∙ ap (λ (x : ContextView L). x.given) collects.same;
+  back_is = closes.back_is ∙ ap (λ (x : ContextView L). x.back ++ closes.came) collects.same;
+  many = closes.many ∙ ap (λ (x : ContextView L). x.out) collects.same;
+  unchanged = closes.unchanged;
+  notes_are = closes.notes_are;
+  none_off = closes.none_off;
+  seat_is = closes.seat_is ∙ ap (with_gathered seat) collects.seat;
+}

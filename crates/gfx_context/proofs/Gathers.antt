@@ -1,5 +1,5 @@
 -- The bundles of a frame are collected.
-use Rattle.std.proofs.Common.{◌≡◌, ℕ, List, [], ◌∷◌, ◌++◌, length, refl, ap, ◌∙◌, sym, arith, subst, append_assoc}
+use Rattle.std.proofs.Common.{◌≡◌, ℕ, List, [], ◌∷◌, ◌++◌, length, refl, ap, ◌∙◌, sym, arith, subst, append_assoc, append-nil}
 use Rattle.schedule_model.proofs.Lists.{all-snoc}
 use Rattle.gfx_model.specs.World.{Item}
 use Rattle.schedule_model.specs.Held.{count_of}
@@ -11,8 +11,8 @@ use Rattle.frame_record.specs.declared.frame.RenderedFrame.{RenderedFrame}
 use Rattle.context_core.specs.Gathered.{AreCollected, AreGathered, AreOfFrame, with_gathered}
 use Rattle.context_core.specs.Ended as cores
 use Rattle.context_core.specs.States.{CoreView}
-use Rattle.gfx_context.specs.Ended.{Collects}
-use Rattle.gfx_context.specs.Kept.{AreAdmitted}
+use Rattle.gfx_context.specs.Ended.{Collects, Gathers}
+use Rattle.gfx_context.specs.Kept.{AreAdmitted, IsContext}
 use Rattle.gfx_context.specs.States.{ContextView, context_of}
 
 length_none : {A : Type 0} (xs : List A) → length xs ≡ 0 → xs ≡ []
@@ -65,3 +65,22 @@ module _ {L : Type 0} (admits : ℕ → ℕ → List Item → ℕ → Type 0) (v
     seat = seat;
     same = ap (λ (c : CoreView). context_of c.state given back link) same;
   })
+
+  -- a bundle is gathered
+  pub gathers_told : (r : Recording) (seat : SeatView) → cores.Gathers r seat a b → (old : ContextView L) → context_of a.state given back link ≡ old → Gathers r seat old (context_of b.state given back link)
+  gathers_told r seat g old e = subst (λ (o : ContextView L). Gathers r seat o (context_of b.state given back link)) e (record {
+    was_off = g.was_off;
+    fewer = g.fewer;
+    after = ap (λ (c : CoreView). context_of c.state given back link) g.after;
+  })
+
+-- where no encoder is off, all bundles are collected
+pub collected_all : {L : Type 0} (admits : ℕ → ℕ → List Item → ℕ → Type 0) (views : ℕ) (v : ContextView L) → IsContext admits views v → v.seat.off ≡ [] → Collects admits views v v
+collected_all admits views v k none = record {
+  none_off = none;
+  more = [];
+  kept = sym (append-nil v.gathered);
+  recordings = of_frame admits views v.seat v.seat v.begun v.gathered k.gathered none refl;
+  seat = refl;
+  same = refl;
+}

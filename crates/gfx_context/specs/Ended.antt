@@ -5,7 +5,8 @@ use Rattle.gfx_model.specs.Frames.{collected}
 use Rattle.gfx_model.specs.FrameCalls.{end_frame, shut_down, frame_refusal, frame_effect, is_given}
 use Rattle.gfx_words.specs.declared.refusals.Refusal.{Refusal}
 use Rattle.gfx_words.specs.Seen.{refusal_seen}
-use Rattle.hold_table.specs.Views.{SeatView, advanced}
+use Rattle.schedule_model.specs.Held.{count_of}
+use Rattle.hold_table.specs.Views.{SeatView, advanced, joined_with}
 use Rattle.resource_book.specs.Works.{with_nothing_written}
 use Rattle.resource_book.specs.declared.frames.Work.{Work}
 use Rattle.draw_encoder.specs.declared.items.Recording.{Recording}
@@ -25,6 +26,12 @@ use Rattle.context_core.specs.Gathered.{AreOfFrame, dropped_in, with_gathered}
 use Rattle.gfx_context.specs.States.{ContextView, state_of}
 
 -- ---- the bundles of a frame
+
+-- the encoder was off and is so no longer, its numbers are gathered, its recording is kept, and nothing else changed
+pub record Gathers {L : Type 0} (r : Recording) (seat : SeatView) (old new : ContextView L) : Type 0 where
+  pub was_off : count_of seat.encoder old.seat.off ≡ 1
+  pub fewer : length new.seat.off + 1 ≡ length old.seat.off
+  pub after : new ≡ record old { seat = joined_with old.seat seat; gathered = old.gathered ++ r ∷ [] }
 
 -- no encoder of the frame is off, the recordings are those of exactly the encoders that were begun, what was collected before stays before the others,
 -- and nothing else changed

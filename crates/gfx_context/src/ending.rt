@@ -13,13 +13,12 @@ use draw_encoder::Naming;
 use frame_record::{FrameLink, JournalEntry, Outcome};
 use gfx_words::Refusal;
 use std::sync::Wait;
-use std::thread::Threads;
 
 impl<'t, C: Naming, L: FrameLink + Drop> Context<'t, C, L> {
     ghost use Rattle.gfx_context.specs.Ended.{IsBack, MakesWay, FinishesWhere, IsEnd, CollectsAndEnds};
 
     /// Takes the oldest frame that is out back.
-    pub(crate) fn take_one<R: Threads + Wait + Sync>(&mut self, rt: &R) -> BackNote
+    pub(crate) fn take_one(&mut self) -> BackNote
         requires { 0 < self.old.out }
         ensures back { IsBack result self.old.given self.old.back self.new.back }
         ensures out { self.new.out + 1 ≡ self.old.out }
@@ -27,7 +26,7 @@ impl<'t, C: Naming, L: FrameLink + Drop> Context<'t, C, L> {
         ensures same { self.new ≡ record self.old { out = self.new.out; back = self.new.back; link = self.new.link } }
     {
         self.core.tell_facts();
-        let back = self.link.take_back(rt);
+        let back = self.link.take_back();
         self.core.came_back(&back.frame);
         BackNote {
             number: back.frame.number,
@@ -35,7 +34,7 @@ impl<'t, C: Naming, L: FrameLink + Drop> Context<'t, C, L> {
         }
     }
 
-    fn make_way<R: Threads + Wait + Sync>(&mut self, rt: &R) -> Option<BackNote>
+    fn make_way(&mut self) -> Option<BackNote>
         ensures back { MakesWay result self.old self.new.back }
         ensures out { MatchOption result (self.new.out ≡ self.old.out) (λ n. self.new.out + 1 ≡ self.old.out) }
         ensures origin { L.origin self.new.link ≡ L.origin self.old.link }
@@ -45,16 +44,11 @@ impl<'t, C: Naming, L: FrameLink + Drop> Context<'t, C, L> {
         if self.core.out() < self.core.latency() as u32 {
             return None;
         }
-        Some(self.take_one(rt))
+        Some(self.take_one())
     }
 
     /// Gives the frame, or ends the context.
-    fn finish<R: Threads + Wait + Sync>(
-        &mut self,
-        rt: &R,
-        prepared: Prepared,
-        given: bool,
-    ) -> Vec<JournalEntry>
+    fn finish(&mut self, prepared: Prepared, given: bool) -> Vec<JournalEntry>
         requires running { self.old.is_ended ≡ false }
         requires none_off { self.old.seat.off ≡ [] }
         requires out { given ≡ true → self.old.out < self.old.book.resources.latency }
@@ -72,19 +66,19 @@ impl<'t, C: Naming, L: FrameLink + Drop> Context<'t, C, L> {
         match frame {
             None => journal,
             Some(frame) => {
-                self.link.give(rt, frame);
+                self.link.give(frame);
                 journal
             }
         }
     }
 
-    /// Ends the frame whose bundles are all collected: takes the oldest frame that is out back where as many are out as may be,
+    /// Ends the frame whose bundles are all gathered: takes the oldest frame that is out back where as many are out as may be,
     /// gives this frame, and starts the next one. Where the frame that came back was not shown, this one is not given, and the
     /// context is ended. It is called where the context is not ended.
     ///
     /// `FramesSpent` exactly where the number is 1,073,741,823. After want of memory nothing came back or was given, and the
     /// context is ended.
-    pub fn end<R: Threads + Wait + Sync>(&mut self, rt: &R) -> Result<FrameReport, Refusal>
+    pub fn end(&mut self) -> Result<FrameReport, Refusal>
         requires running { self.old.is_ended ≡ false }
         requires none_off { self.old.seat.off ≡ [] }
         ensures answer { IsEnd result self.old self.new }
@@ -98,9 +92,9 @@ impl<'t, C: Naming, L: FrameLink + Drop> Context<'t, C, L> {
             Err(NotReady::FramesSpent) => return Err(Refusal::FramesSpent),
             Err(NotReady::OutOfMemory) => return Err(Refusal::OutOfMemory),
         };
-        let back = self.make_way(rt);
+        let back = self.make_way();
         let given = was_shown(&back);
-        let told = self.finish(rt, prepared, given);
+        let told = self.finish(prepared, given);
         Ok(FrameReport {
             number,
             journal: told,
@@ -117,13 +111,13 @@ impl<'t, C: Naming, L: FrameLink + Drop> Context<'t, C, L> {
     ///
     /// The bundles are collected whatever is answered. `FramesSpent` exactly where the number is 1,073,741,823. After want of
     /// memory nothing came back or was given, and the context is ended.
-    pub fn frame<R: Threads + Wait + Sync>(&mut self, rt: &R) -> Result<FrameReport, Refusal>
+    pub fn frame<R: Wait>(&mut self, rt: &R) -> Result<FrameReport, Refusal>
         requires running { self.old.is_ended ≡ false }
         ensures answer { CollectsAndEnds C.admits C.views result self.old self.new }
         ensures origin { L.origin self.new.link ≡ L.origin self.old.link }
     {
         self.collect(rt);
-        self.end(rt)
+        self.end()
     }
 }
 

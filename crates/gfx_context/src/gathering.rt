@@ -1,5 +1,5 @@
 // The bundle of each encoder is collected once.
-ghost use Rattle.std.specs.Prelude.{◌≡◌, List, [], ◌++◌};
+ghost use Rattle.std.specs.Prelude.{◌≡◌, List, [], ◌++◌, length};
 ghost use Rattle.gfx_model.specs.Views.{view_count};
 ghost use Rattle.hold_table.specs.Seats.{enc_view};
 ghost use Rattle.draw_encoder.specs.declared.items.Recording.{Recording};
@@ -48,7 +48,14 @@ fn gather_all<C: Naming, R: Wait>(rt: &R, shared: &Shared<C>, core: &mut Context
 
 impl<'t, C: Naming, L: FrameLink + Drop> Context<'t, C, L> {
     ghost use Rattle.frame_record.specs.Kept.{IsCollectable};
-    ghost use Rattle.gfx_context.specs.Ended.{Collects};
+    ghost use Rattle.gfx_context.specs.Ended.{Collects, Gathers as GathersOne};
+
+    /// Gathers the bundle of an encoder of this frame, as `Encoder::finish` gave it. It does not wait.
+    pub fn gather(&mut self, bundle: Bundle<C>)
+        ensures { GathersOne bundle.0 (enc_view bundle.1) self.old self.new }
+    {
+        gather(self.shared, &mut self.core, bundle);
+    }
 
     /// Collects the bundle of each encoder that was begun in this frame and was not collected, and waits for those that have
     /// not ended. What was collected before stays as it was.
@@ -56,6 +63,13 @@ impl<'t, C: Naming, L: FrameLink + Drop> Context<'t, C, L> {
         ensures { Collects C.admits C.views self.old self.new }
     {
         gather_all(rt, self.shared, &mut self.core);
+    }
+
+    /// How many encoders of this frame are off: begun, and not gathered.
+    pub fn off(&self) -> u32
+        ensures { result ≡ length self.now.seat.off }
+    {
+        self.core.off()
     }
 
     /// The recordings of this frame's encoders that were collected. Their journal can be collected.

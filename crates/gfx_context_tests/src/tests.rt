@@ -38,7 +38,8 @@ fn refusal_of<T: Drop>(answer: Result<T, Refusal>) -> Option<Refusal> {
 
 // Frames wait in a list, and come back as shown, the oldest first.
 #[derive(Drop)]
-struct ListLink {
+struct ListLink<'r, R> {
+    rt: &'r R,
     latency: u8,
     out: Vec<Frame>,
     backs: Vec<Snapshot<RenderedFrame>>,
@@ -52,7 +53,7 @@ fn wait<R: Wait>(rt: &R)
     unreachable!()
 }
 
-impl FrameLink for ListLink {
+impl<'r, R: Wait> FrameLink for ListLink<'r, R> {
     ghost use Rattle.std.specs.Prelude.{map, ◌++◌};
     ghost use Rattle.frame_record.specs.Links.{frames_of};
 
@@ -66,38 +67,38 @@ impl FrameLink for ListLink {
 
     ghost origin = { λ l. tt };
 
-    fn give<R: Threads + Wait + Sync>(&mut self, rt: &R, frame: Frame) {
+    fn give(&mut self, frame: Frame) {
         if self.out.push(frame).is_err() {
-            wait(rt);
+            wait(self.rt);
         }
     }
 
-    fn try_take_back<R: Wait>(&mut self, rt: &R) -> Option<RenderedFrame> {
-        let _ = rt;
+    fn try_take_back(&mut self) -> Option<RenderedFrame> {
         None
     }
 
-    fn take_back<R: Threads + Wait + Sync>(&mut self, rt: &R) -> RenderedFrame {
+    fn take_back(&mut self) -> RenderedFrame {
         let frame = self.out.remove(0);
         let rendered = RenderedFrame {
             frame,
             outcome: Outcome::Shown,
         };
         if self.backs.push(Snapshot::of(&rendered)).is_err() {
-            wait(rt);
+            wait(self.rt);
         }
         rendered
     }
 }
 
-fn begun<'t, C: Naming>(
+fn begun<'t, 'r, C: Naming, R: Wait>(
+    rt: &'r R,
     alloc: Global,
     shared: &'t Shared<C>,
     seat: ApiSeat,
     frame: u32,
     serial: u32,
     latency: u8,
-) -> Option<Context<'t, C, ListLink>>
+) -> Option<Context<'t, C, ListLink<'r, R>>>
     requires table { api_table seat ≡ C.table }
     requires seat { api_view seat ≡ first_view frame }
     requires frame { frame ≤ 1073741823 }
@@ -112,6 +113,7 @@ fn begun<'t, C: Naming>(
         latency,
     };
     let link = ListLink {
+        rt,
         latency,
         out: Vec::new(alloc),
         backs: Vec::new(alloc),
@@ -123,8 +125,8 @@ fn begun<'t, C: Naming>(
 }
 
 // The answer to a begin, and to the end of a frame, where the context is not ended.
-fn begun_one<'t, C: Naming>(
-    context: &mut Context<'t, C, ListLink>,
+fn begun_one<'t, C: Naming, R: Wait>(
+    context: &mut Context<'t, C, ListLink<'_, R>>,
 ) -> Option<Result<Encoder<'t, C>, Refusal>> {
     if context.is_ended() {
         return None;
@@ -132,9 +134,9 @@ fn begun_one<'t, C: Naming>(
     Some(context.begin(ROOM))
 }
 
-fn ended<C: Naming, R: Threads + Wait + Sync>(
+fn ended<C: Naming, R: Wait>(
     rt: &R,
-    context: &mut Context<'_, C, ListLink>,
+    context: &mut Context<'_, C, ListLink<'_, R>>,
 ) -> Option<Result<FrameReport, Refusal>> {
     if context.is_ended() {
         return None;
@@ -145,7 +147,7 @@ fn ended<C: Naming, R: Threads + Wait + Sync>(
 // A program is made and destroyed in frame 0. The indices of the programs that are made in frames 1 to 4.
 fn indices_again<C: Naming, R: Threads + Wait + Sync>(
     rt: &R,
-    context: &mut Context<'_, C, ListLink>,
+    context: &mut Context<'_, C, ListLink<'_, R>>,
 ) -> Option<[u16; 4]> {
     let Ok(first) = context.create_program(ProgramKind::Solid) else {
         return None;
@@ -180,7 +182,7 @@ fn made_again<C: Naming, R: Threads + Wait + Sync>(
     let Ok(shared) = Shared::<C>::new(alloc, table) else {
         return None;
     };
-    let mut context = begun(alloc, &shared, seat, 0, 1, latency)?;
+    let mut context = begun(rt, alloc, &shared, seat, 0, 1, latency)?;
     indices_again(rt, &mut context)
 }
 
@@ -209,7 +211,7 @@ fn an_index_comes_again(rt: HostRuntime) -> Result<(), Fail> {
 // A program dies in frame 0, and another is made in each frame behind it. What encoders of frames 0 to 2 answer to a draw by the first.
 fn stale_answers<C: Naming, R: Threads + Wait + Sync>(
     rt: &R,
-    context: &mut Context<'_, C, ListLink>,
+    context: &mut Context<'_, C, ListLink<'_, R>>,
 ) -> Option<[Option<Refusal>; 3]>
     requires admits { (e f d : ℕ) (items : List SeenItem) → C.admits e f items d }
 {
@@ -248,7 +250,7 @@ fn dead_program<C: Naming, R: Threads + Wait + Sync>(
     let Ok(shared) = Shared::<C>::new(alloc, table) else {
         return None;
     };
-    let mut context = begun(alloc, &shared, seat, 0, 1, 1)?;
+    let mut context = begun(rt, alloc, &shared, seat, 0, 1, 1)?;
     stale_answers(rt, &mut context)
 }
 
@@ -276,7 +278,7 @@ fn refused<B: ResourceCalls>(calls: &mut B) -> Option<Refusal> {
 // In the last frame: the refusals of a second program where one serial is left, of a ninth encoder, and of the frame's end.
 fn refusals_at_the_limits<C: Naming, R: Threads + Wait + Sync>(
     rt: &R,
-    context: &mut Context<'_, C, ListLink>,
+    context: &mut Context<'_, C, ListLink<'_, R>>,
 ) -> Option<[Option<Refusal>; 3]>
     requires admits { (e f d : ℕ) (items : List SeenItem) → C.admits e f items d }
 {
@@ -308,7 +310,7 @@ fn limits<C: Naming, R: Threads + Wait + Sync>(
     let Ok(shared) = Shared::<C>::new(alloc, table) else {
         return None;
     };
-    let mut context = begun(alloc, &shared, seat, 1_073_741_823, 4_294_967_295, 1)?;
+    let mut context = begun(rt, alloc, &shared, seat, 1_073_741_823, 4_294_967_295, 1)?;
     refusals_at_the_limits(rt, &mut context)
 }
 
@@ -328,8 +330,8 @@ fn the_limits(rt: HostRuntime) -> Result<(), Fail> {
 }
 
 // The answer to the destroy of a texture that a frame buffer holds, and the frame buffer.
-fn held_in<C: Naming>(
-    context: &mut Context<'_, C, ListLink>,
+fn held_in<C: Naming, R: Wait>(
+    context: &mut Context<'_, C, ListLink<'_, R>>,
 ) -> Option<(Result<(), Refusal>, Handle)> {
     let Ok(texture) = context.create_texture(1, 1, Format::Rgba8, false, TexSource::Fill([0; 4]))
     else {
@@ -341,7 +343,8 @@ fn held_in<C: Naming>(
     Some((context.destroy(texture), holder))
 }
 
-fn held<C: Naming>(
+fn held<C: Naming, R: Wait>(
+    rt: &R,
     alloc: Global,
     table: HoldTable,
     seat: ApiSeat,
@@ -352,14 +355,14 @@ fn held<C: Naming>(
     let Ok(shared) = Shared::<C>::new(alloc, table) else {
         return None;
     };
-    let mut context = begun(alloc, &shared, seat, 0, 1, 1)?;
+    let mut context = begun(rt, alloc, &shared, seat, 0, 1, 1)?;
     held_in(&mut context)
 }
 
 #[test]
 fn a_texture_is_held(rt: HostRuntime) -> Result<(), Fail> {
     let (table, seat) = HoldTable::new(rt.alloc(), 0)?;
-    let (answer, holder) = held::<Brand>(rt.alloc(), table, seat).ok_or("memory")?;
+    let (answer, holder) = held::<Brand, _>(&rt, rt.alloc(), table, seat).ok_or("memory")?;
     assert_eq!(rt; answer, Err(Refusal::Attached { holder }));
     Ok(())
 }
@@ -368,7 +371,7 @@ fn a_texture_is_held(rt: HostRuntime) -> Result<(), Fail> {
 // and the third.
 fn held_again_in<C: Naming, R: Threads + Wait + Sync>(
     rt: &R,
-    context: &mut Context<'_, C, ListLink>,
+    context: &mut Context<'_, C, ListLink<'_, R>>,
 ) -> Option<(Result<(), Refusal>, Handle)> {
     let Ok(texture) = context.create_texture(1, 1, Format::Rgba8, false, TexSource::Fill([0; 4]))
     else {
@@ -406,7 +409,7 @@ fn held_again<C: Naming, R: Threads + Wait + Sync>(
     let Ok(shared) = Shared::<C>::new(alloc, table) else {
         return None;
     };
-    let mut context = begun(alloc, &shared, seat, 0, 1, 1)?;
+    let mut context = begun(rt, alloc, &shared, seat, 0, 1, 1)?;
     held_again_in(rt, &mut context)
 }
 
@@ -422,7 +425,7 @@ fn the_holder_of_least_index(rt: HostRuntime) -> Result<(), Fail> {
 // A thread records and ends its encoder while this one ends the frame. The number of items, and the sum of the dropped.
 fn ended_beside<C: Naming + Send + Sync, R: Threads + Wait + Sync>(
     rt: &R,
-    context: &mut Context<'_, C, ListLink>,
+    context: &mut Context<'_, C, ListLink<'_, R>>,
 ) -> Option<(usize, u64)>
     requires admits { (e f d : ℕ) (items : List SeenItem) → C.admits e f items d }
 {
@@ -459,7 +462,7 @@ fn beside<C: Naming + Send + Sync, R: Threads + Wait + Sync>(
     let Ok(shared) = Shared::<C>::new(alloc, table) else {
         return None;
     };
-    let mut context = begun(alloc, &shared, seat, 0, 1, 1)?;
+    let mut context = begun(rt, alloc, &shared, seat, 0, 1, 1)?;
     ended_beside(rt, &mut context)
 }
 
@@ -474,7 +477,7 @@ fn a_thread_records(rt: HostRuntime) -> Result<(), Fail> {
 // A frame is out, an encoder has ended, and another one is off, which comes back.
 fn one_off<'t, C: Naming, R: Threads + Wait + Sync>(
     rt: &R,
-    context: &mut Context<'t, C, ListLink>,
+    context: &mut Context<'t, C, ListLink<'_, R>>,
 ) -> Option<Encoder<'t, C>>
     requires admits { (e f d : ℕ) (items : List SeenItem) → C.admits e f items d }
 {
@@ -505,7 +508,7 @@ fn shut<C: Naming + Send + Sync, R: Threads + Wait + Sync>(
     let Ok(shared) = Shared::<C>::new(alloc, table) else {
         return None;
     };
-    let mut context = begun(alloc, &shared, seat, 0, 1, 1)?;
+    let mut context = begun(rt, alloc, &shared, seat, 0, 1, 1)?;
     let open = one_off(rt, &mut context)?;
     let (_, closed) = thread::join(
         rt,
@@ -514,7 +517,7 @@ fn shut<C: Naming + Send + Sync, R: Threads + Wait + Sync>(
         {
             open.end(rt, 0);
         },
-        || -> Closed<ListLink>
+        || -> Closed<ListLink<'_, R>>
             ensures table { api_table result.seat ≡ C.table }
             ensures off { (api_view result.seat).off ≡ [] }
         { context.shutdown(rt) },
@@ -540,10 +543,83 @@ fn a_context_is_shut_down(rt: HostRuntime) -> Result<(), Fail> {
     Ok(())
 }
 
+// The end of a frame, where the context is not ended and no encoder is off.
+fn ended_here<C: Naming, R: Wait>(
+    context: &mut Context<'_, C, ListLink<'_, R>>,
+) -> Option<FrameReport> {
+    if context.is_ended() {
+        return None;
+    }
+    if context.off() != 0 {
+        return None;
+    }
+    match context.end() {
+        Ok(report) => Some(report),
+        Err(_) => None,
+    }
+}
+
+// The close of a context, where no encoder is off.
+fn closed_here<'r, C: Naming, R: Wait>(
+    context: Context<'_, C, ListLink<'r, R>>,
+) -> Option<Closed<ListLink<'r, R>>> {
+    if context.off() != 0 {
+        return None;
+    }
+    Some(context.close())
+}
+
+// A frame with one encoder, whose bundle goes into no queue: the number of items, and the sum of the dropped.
+fn gathered_in<C: Naming, R: Wait>(
+    context: &mut Context<'_, C, ListLink<'_, R>>,
+) -> Option<(usize, u64)>
+    requires admits { (e f d : ℕ) (items : List SeenItem) → C.admits e f items d }
+{
+    let Ok(mut encoder) = begun_one(context)? else {
+        return None;
+    };
+    let _ = encoder.touch(0);
+    context.gather(encoder.finish(5));
+    let report = ended_here(context)?;
+    Some((report.journal.len(), report.dropped))
+}
+
+// The same through a new context, and what came back at the close.
+fn gathered<C: Naming, R: Wait>(
+    rt: &R,
+    alloc: Global,
+    table: HoldTable,
+    seat: ApiSeat,
+) -> Option<((usize, u64), [Option<BackNote>; 3])>
+    requires table { (table_of table ≡ C.table) × (api_table seat ≡ C.table) × (api_view seat ≡ first_view 0) }
+    requires views { C.views ≡ fewest_views }
+    requires admits { (e f d : ℕ) (items : List SeenItem) → C.admits e f items d }
+{
+    let Ok(shared) = Shared::<C>::new(alloc, table) else {
+        return None;
+    };
+    let mut context = begun(rt, alloc, &shared, seat, 0, 1, 1)?;
+    let told = gathered_in(&mut context);
+    let closed = closed_here(context)?;
+    Some((told?, closed.backs))
+}
+
+#[test]
+fn a_frame_without_a_queue(rt: HostRuntime) -> Result<(), Fail> {
+    let (table, seat) = HoldTable::new(rt.alloc(), 0)?;
+    let told = gathered::<Brand, _>(&rt, rt.alloc(), table, seat).ok_or("memory")?;
+    let first = BackNote {
+        number: 0,
+        outcome: Outcome::Shown,
+    };
+    assert_eq!(rt; told, ((1, 5), [Some(first), None, None]));
+    Ok(())
+}
+
 // An encoder is begun, and begun again where there was no memory: its number, how many were begun, and the items of its frame.
 fn begun_again_in<C: Naming, R: Threads + Wait + Sync>(
     rt: &R,
-    context: &mut Context<'_, C, ListLink>,
+    context: &mut Context<'_, C, ListLink<'_, R>>,
 ) -> Option<(u8, u32, usize)>
     requires admits { (e f d : ℕ) (items : List SeenItem) → C.admits e f items d }
 {
@@ -577,7 +653,7 @@ fn begun_again<C: Naming, R: Threads + Wait + Sync>(
     let Ok(shared) = Shared::<C>::new(alloc, table) else {
         return None;
     };
-    let mut context = begun(alloc, &shared, seat, 0, 1, 1)?;
+    let mut context = begun(rt, alloc, &shared, seat, 0, 1, 1)?;
     begun_again_in(rt, &mut context)
 }
 

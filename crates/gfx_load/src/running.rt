@@ -138,8 +138,10 @@ where
     let Ok(shared) = Shared::<C>::new(alloc, hold) else {
         return Err(AllocError);
     };
-    let link = HereLink::new(alloc)?;
-    run_context::<C, HereLink, H, R, G>(rt, gate, alloc, &shared, seat, link, table, first, blocks)
+    let link = HereLink::new(rt, alloc)?;
+    run_context::<C, HereLink<'_, R>, H, R, G>(
+        rt, gate, alloc, &shared, seat, link, table, first, blocks,
+    )
 }
 
 /// Runs blocks, each by a thread of its own, or by this thread where none can be started, on one new context: 256 views, frame 0, serial

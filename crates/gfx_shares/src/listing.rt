@@ -10,8 +10,6 @@ use recorded_keys::laws::planned_law;
 use recorded_keys::recorded_views;
 use shared_keys::SharedView;
 use std::alloc::{AllocError, Global};
-use std::sync::Wait;
-use std::thread::Threads;
 
 /// Puts the list of a frame behind others: the views in which two of its encoders share a key.
 fn list(alloc: Global, lists: &mut Vec<Vec<SharedView>>, frame: &Frame) -> Result<(), AllocError>
@@ -90,16 +88,16 @@ impl FrameLink for ListingLink {
 
     ghost origin = { λ l. tt };
 
-    fn give<R: Threads + Wait + Sync>(&mut self, rt: &R, frame: Frame) {
+    fn give(&mut self, frame: Frame) {
         self.is_whole = list_whole(self.alloc, self.is_whole, &mut self.lists, &frame);
-        self.link.give(rt, frame);
+        self.link.give(frame);
     }
 
-    fn try_take_back<R: Wait>(&mut self, rt: &R) -> Option<RenderedFrame> {
-        self.link.try_take_back(rt)
+    fn try_take_back(&mut self) -> Option<RenderedFrame> {
+        self.link.try_take_back()
     }
 
-    fn take_back<R: Threads + Wait + Sync>(&mut self, rt: &R) -> RenderedFrame {
-        self.link.take_back(rt)
+    fn take_back(&mut self) -> RenderedFrame {
+        self.link.take_back()
     }
 }

@@ -7,7 +7,7 @@ ghost use Rattle.hold_table.specs.Views.{first_view};
 
 use crate::limit_tests::START;
 use frame_record::{JournalEntry, OrderedItem, end_of_run};
-use frame_swap::{ApiEnd, swap_pair};
+use frame_swap::{WaitingEnd, swap_pair};
 use gfx_context::{Context, Encoder, Naming, Room, Shared};
 use hold_table::{ApiSeat, HoldTable};
 use std::alloc::Global;
@@ -33,7 +33,7 @@ fn touches<C: Naming>(encoder: &mut Encoder<'_, C>) -> u32 {
 }
 
 // Eight encoders fill their rooms. How many touches were accepted.
-fn eight<C: Naming, R: Wait>(rt: &R, context: &mut Context<'_, C, ApiEnd>) -> Option<u32>
+fn eight<C: Naming, R: Wait>(rt: &R, context: &mut Context<'_, C, WaitingEnd<'_, R>>) -> Option<u32>
     requires admits { (e f d : ℕ) (items : List SeenItem) → C.admits e f items d }
 {
     let mut all = 0u32;
@@ -77,7 +77,8 @@ fn whole_order<C: Naming, R: Threads + Wait + Sync>(
     let Ok((api, mut render)) = swap_pair(alloc, 1) else {
         return None;
     };
-    let Ok(mut context) = Context::init(alloc, &shared, seat, api, START) else {
+    let link = WaitingEnd::new(api, rt);
+    let Ok(mut context) = Context::init(alloc, &shared, seat, link, START) else {
         return None;
     };
     let touched = eight(rt, &mut context)?;

@@ -1,6 +1,5 @@
 // The link that renders in `give`.
 ghost use Rattle.std.specs.Prelude.{◌≡◌, ◌+◌, ◌-◌, ◌%◌, [], ◌∷◌, ◌++◌, length, ◌<◌, ◌≤◌, IfOk, IfErr, IsSomeAnd, true};
-ghost use Rattle.std.specs.Thread.{IsSync};
 ghost use Rattle.frame_record.specs.Links.{frames_of, CameBack};
 ghost use Rattle.frame_swap.specs.Views.{api, later_of, empty_slots};
 ghost use Rattle.render_core.specs.Rendered.{AddsRendered, AreRendered, seen_by};
@@ -13,11 +12,9 @@ use int_raster::Rasterizer;
 use io_edge::Sink;
 use std::alloc::Global;
 use std::snapshot::Snapshot;
-use std::sync::Wait;
-use std::thread::Threads;
 
 /// A link that renders in `give`, by a rasterizer of its own, and keeps the rendered frames until they are taken back: at most as
-/// many as the latency. By `render` and `take_oldest` it serves a caller that may neither start threads nor wait.
+/// many as the latency.
 #[derive(Drop)]
 pub struct InPlaceLink<P: Sink, D> {
     table: FrameTable,
@@ -89,7 +86,7 @@ impl<P: Sink, D: Rasterizer + Drop> InPlaceLink<P, D> {
     }
 
     /// Renders a frame, and keeps it with the outcome. Fewer frames than the latency are out.
-    pub fn render(&mut self, frame: Frame)
+    fn render(&mut self, frame: Frame)
         requires room { length self.old.seat.me.0.given < length self.old.seat.me.0.back + self.old.latency }
         ensures lists { (self.new.seat.me.0.given ≡ self.old.seat.me.0.given ++ frame ∷ []) × (self.new.seat.me.0.back ≡ self.old.seat.me.0.back) }
         ensures rendered { AddsRendered frame self.old.seat.me.0.returned (seen_by P.held P.tally P.faults P.sure self.old.renderer) self.new.seat.me.0.returned (seen_by P.held P.tally P.faults P.sure self.new.renderer) }
@@ -104,7 +101,7 @@ impl<P: Sink, D: Rasterizer + Drop> InPlaceLink<P, D> {
     }
 
     /// The oldest frame that is out comes back with its outcome. A frame is out.
-    pub fn take_oldest(&mut self) -> RenderedFrame
+    fn take_oldest(&mut self) -> RenderedFrame
         requires some_out { length self.old.seat.me.0.back < length self.old.seat.me.0.given }
         ensures given { (self.new.seat.me.0.given ≡ self.old.seat.me.0.given) × (self.new.seat.me.0.returned ≡ self.old.seat.me.0.returned) }
         ensures back { CameBack self.old.seat.me.0.given self.old.seat.me.0.back self.new.seat.me.0.back result }
@@ -131,9 +128,8 @@ impl<P: Sink, D: Rasterizer + Drop> FrameLink for InPlaceLink<P, D> {
 
     ghost origin = { λ l. l.opening.value };
 
-    fn give<R: Threads + Wait + Sync>(&mut self, rt: &R, frame: Frame)
+    fn give(&mut self, frame: Frame)
         requires room { length self.old.seat.me.0.given < length self.old.seat.me.0.back + self.old.latency }
-        requires sync { IsSync R.row }
         ensures lists { (self.new.seat.me.0.given ≡ self.old.seat.me.0.given ++ frame ∷ []) × (self.new.seat.me.0.back ≡ self.old.seat.me.0.back) }
         ensures rendered { AddsRendered frame self.old.seat.me.0.returned (seen_by P.held P.tally P.faults P.sure self.old.renderer) self.new.seat.me.0.returned (seen_by P.held P.tally P.faults P.sure self.new.renderer) }
         ensures same { (self.new.opening ≡ self.old.opening) × (self.new.latency ≡ self.old.latency) }
@@ -141,7 +137,7 @@ impl<P: Sink, D: Rasterizer + Drop> FrameLink for InPlaceLink<P, D> {
         self.render(frame);
     }
 
-    fn try_take_back<R: Wait>(&mut self, rt: &R) -> Option<RenderedFrame>
+    fn try_take_back(&mut self) -> Option<RenderedFrame>
         requires some_out { length self.old.seat.me.0.back < length self.old.seat.me.0.given }
         ensures given { (self.new.seat.me.0.given ≡ self.old.seat.me.0.given) × (self.new.seat.me.0.returned ≡ self.old.seat.me.0.returned) }
         ensures back { IsSomeAnd result (λ r. CameBack self.old.seat.me.0.given self.old.seat.me.0.back self.new.seat.me.0.back r) }
@@ -151,7 +147,7 @@ impl<P: Sink, D: Rasterizer + Drop> FrameLink for InPlaceLink<P, D> {
         Some(self.take_oldest())
     }
 
-    fn take_back<R: Threads + Wait + Sync>(&mut self, rt: &R) -> RenderedFrame
+    fn take_back(&mut self) -> RenderedFrame
         requires some_out { length self.old.seat.me.0.back < length self.old.seat.me.0.given }
         ensures given { (self.new.seat.me.0.given ≡ self.old.seat.me.0.given) × (self.new.seat.me.0.returned ≡ self.old.seat.me.0.returned) }
         ensures back { CameBack self.old.seat.me.0.given self.old.seat.me.0.back self.new.seat.me.0.back result }

@@ -194,17 +194,12 @@ fn a_fault_and_what_follows(rt: HostRuntime) -> Result<(), Fail> {
 type Link = InPlaceLink<MemSink, SerialRasterizer>;
 
 // Gives as many frames as may be out, with the greens 0, 1 ..
-fn fill<R: Threads + Wait + Sync>(
-    rt: &R,
-    alloc: Global,
-    link: &mut Link,
-    latency: u8,
-) -> Result<(), Fail>
+fn fill(alloc: Global, link: &mut Link, latency: u8) -> Result<(), Fail>
     requires empty { (length link.old.seat.me.0.given ≡ 0) × (length link.old.seat.me.0.back ≡ 0) × (link.old.latency ≡ latency) }
     ensures full { OnOk result ((length link.new.seat.me.0.given ≡ latency) × (length link.new.seat.me.0.back ≡ 0) × (link.new.latency ≡ latency)) }
 {
     for number in 0..latency {
-        link.give(rt, shaded(alloc, number as u32, number)?);
+        link.give(shaded(alloc, number as u32, number)?);
     }
     Ok(())
 }
@@ -218,46 +213,32 @@ fn note(numbers: &mut Vec<u32>, back: &RenderedFrame) -> Result<(), AllocError> 
 }
 
 // Takes back as many frames as are out, and notes the numbers of those that were shown.
-fn drain<R: Threads + Wait + Sync>(
-    rt: &R,
-    link: &mut Link,
-    latency: u8,
-    numbers: &mut Vec<u32>,
-) -> Result<(), AllocError>
+fn drain(link: &mut Link, latency: u8, numbers: &mut Vec<u32>) -> Result<(), AllocError>
     requires { length link.old.seat.me.0.given ≡ length link.old.seat.me.0.back + latency }
 {
     for _ in 0..latency {
-        let back = link.take_back(rt);
+        let back = link.take_back();
         note(numbers, &back)?;
     }
     Ok(())
 }
 
 // One frame more is given than may be out: the numbers of the shown frames that come back.
-fn through_link<R: Threads + Wait + Sync>(
-    rt: &R,
-    alloc: Global,
-    link: &mut Link,
-    latency: u8,
-) -> Result<Vec<u32>, Fail>
+fn through_link(alloc: Global, link: &mut Link, latency: u8) -> Result<Vec<u32>, Fail>
     requires some { 1 ≤ latency }
     requires empty { (length link.old.seat.me.0.given ≡ 0) × (length link.old.seat.me.0.back ≡ 0) × (link.old.latency ≡ latency) }
 {
     let mut numbers = Vec::new(alloc);
-    fill(rt, alloc, link, latency)?;
-    let oldest = link.take_back(rt);
+    fill(alloc, link, latency)?;
+    let oldest = link.take_back();
     note(&mut numbers, &oldest)?;
-    link.give(rt, shaded(alloc, latency as u32, latency)?);
-    drain(rt, link, latency, &mut numbers)?;
+    link.give(shaded(alloc, latency as u32, latency)?);
+    drain(link, latency, &mut numbers)?;
     Ok(numbers)
 }
 
 // The same through a new link, and the pictures.
-fn through<R: Threads + Wait + Sync>(
-    rt: &R,
-    alloc: Global,
-    latency: u8,
-) -> Result<(Vec<u32>, MemSink), Fail>
+fn through(alloc: Global, latency: u8) -> Result<(Vec<u32>, MemSink), Fail>
     requires { 1 ≤ latency }
 {
     let sink = MemSink::new(alloc, 256, 64, Vec::new(alloc))?;
@@ -265,7 +246,7 @@ fn through<R: Threads + Wait + Sync>(
     let mut link = InPlaceLink::new(alloc, renderer, SerialRasterizer, latency).map_err(
         |_| "memory",
     )?;
-    let numbers = through_link(rt, alloc, &mut link, latency)?;
+    let numbers = through_link(alloc, &mut link, latency)?;
     Ok((numbers, link.into_renderer().into_sink()))
 }
 
@@ -276,7 +257,7 @@ const SHADES: &[u8] =
 #[test]
 fn a_link_of_each_latency(rt: HostRuntime) -> Result<(), Fail> {
     for latency in 1..4u8 {
-        let (numbers, sink) = through(&rt, rt.alloc(), latency)?;
+        let (numbers, sink) = through(rt.alloc(), latency)?;
         let frames = latency as usize + 1;
         assert_eq!(rt; (numbers.len(), sink.bytes().len()), (frames, 17 * frames));
         assert!(rt; [0u32, 1, 2, 3].starts_with(numbers.as_slice()));
@@ -323,8 +304,8 @@ fn beside<R: Threads + Wait + Sync>(
             { renderer.run(rt, BandRasterizer::new(rt), end, &NoGate) };
             match scope.spawn_with(promise, job) {
                 Ok(handle) => {
-                    api.give(rt, first);
-                    api.give(rt, second);
+                    api.give(first);
+                    api.give(second);
                     let one = api.take_back(rt);
                     let two = api.take_back(rt);
                     api.stop();

@@ -22,7 +22,6 @@ use gfx_context::{Context, FrameReport};
 use gfx_words::{Handle, Refusal, Room};
 use std::alloc::Global;
 use std::sync::{Mutex, Wait};
-use std::thread::Threads;
 
 /// A context behind a lock, with the history of its calls. Any thread calls it, by its own pass.
 ///
@@ -123,11 +122,7 @@ impl<'t, C: Naming, L: FrameLink + Drop, H: HistoryNaming> ResLock<'t, C, L, H> 
     /// `Ended` exactly where an earlier frame was not given; then `FramesSpent` exactly where the number is 1,073,741,823. A frame that
     /// is not given makes an entry that ends the context, with the outcome of `FrameReport.back`, which is that of the frame that came
     /// back, or with want of memory where the context had none; then the answer is `OutOfMemory`.
-    pub fn frame<R: Threads + Wait + Sync>(
-        &self,
-        rt: &R,
-        pass: &mut ResPass,
-    ) -> Result<FrameReport, LockRefusal>
+    pub fn frame<R: Wait>(&self, rt: &R, pass: &mut ResPass) -> Result<FrameReport, LockRefusal>
         requires table { pass_table pass.old ≡ H.table }
         requires few { made_by pass.old < 4294967295 }
         ensures pass { IsSamePass pass.old pass.new }

@@ -20,7 +20,6 @@ use gfx_words::{Handle, Refusal, Room};
 use std::alloc::Global;
 use std::marker::{Model, PhantomData};
 use std::sync::Wait;
-use std::thread::Threads;
 
 /// A context, and the history of its calls. The history is legal from its start, and the context is in the state after it.
 /// Contracts see a `LockView`.
@@ -141,7 +140,7 @@ impl<'t, C: Naming, L: FrameLink + Drop, H: HistoryNaming> LockState<'t, C, L, H
     }
 
     /// Ends the frame. It makes an entry also where there is no memory in the context.
-    pub fn frame<R: Threads + Wait + Sync>(
+    pub fn frame<R: Wait>(
         &mut self,
         rt: &R,
         table: &LogTable,

@@ -41,7 +41,8 @@ const ROOM: Room = Room {
 
 // Frames wait in a list, and come back with one outcome, the oldest first.
 #[derive(Drop)]
-struct ListLink {
+struct ListLink<'r, R> {
+    rt: &'r R,
     outcome: Outcome,
     out: Vec<Frame>,
     backs: Vec<Snapshot<RenderedFrame>>,
@@ -55,7 +56,7 @@ fn wait<R: Wait>(rt: &R)
     unreachable!()
 }
 
-impl FrameLink for ListLink {
+impl<'r, R: Wait> FrameLink for ListLink<'r, R> {
     ghost use Rattle.std.specs.Prelude.{map, ◌++◌};
     ghost use Rattle.frame_record.specs.Links.{frames_of};
 
@@ -69,35 +70,35 @@ impl FrameLink for ListLink {
 
     ghost origin = { λ l. tt };
 
-    fn give<R: Threads + Wait + Sync>(&mut self, rt: &R, frame: Frame) {
+    fn give(&mut self, frame: Frame) {
         if self.out.push(frame).is_err() {
-            wait(rt);
+            wait(self.rt);
         }
     }
 
-    fn try_take_back<R: Wait>(&mut self, rt: &R) -> Option<RenderedFrame> {
-        let _ = rt;
+    fn try_take_back(&mut self) -> Option<RenderedFrame> {
         None
     }
 
-    fn take_back<R: Threads + Wait + Sync>(&mut self, rt: &R) -> RenderedFrame {
+    fn take_back(&mut self) -> RenderedFrame {
         let frame = self.out.remove(0);
         let rendered = RenderedFrame {
             frame,
             outcome: self.outcome,
         };
         if self.backs.push(Snapshot::of(&rendered)).is_err() {
-            wait(rt);
+            wait(self.rt);
         }
         rendered
     }
 }
 
 // Frames that come back with the outcome.
-fn list_link(alloc: Global, outcome: Outcome) -> ListLink
+fn list_link<R>(rt: &R, alloc: Global, outcome: Outcome) -> ListLink<'_, R>
     ensures { (result.out.items ≡ []) × (result.backs.items ≡ []) }
 {
     ListLink {
+        rt,
         outcome,
         out: Vec::new(alloc),
         backs: Vec::new(alloc),
@@ -153,7 +154,7 @@ fn few(pass: &ResPass) -> Option<()>
 // A layout and buffers.
 fn makes_buffers<C: Naming, H: HistoryNaming, R: Wait>(
     rt: &R,
-    lock: &ResLock<'_, C, ListLink, H>,
+    lock: &ResLock<'_, C, ListLink<'_, R>, H>,
     mut pass: ResPass,
     layout: VertexLayout,
 ) -> Option<(ResPass, Handle)>
@@ -178,7 +179,7 @@ fn makes_buffers<C: Naming, H: HistoryNaming, R: Wait>(
 // A texture and a frame buffer that holds it.
 fn makes_target<C: Naming, H: HistoryNaming, R: Wait>(
     rt: &R,
-    lock: &ResLock<'_, C, ListLink, H>,
+    lock: &ResLock<'_, C, ListLink<'_, R>, H>,
     mut pass: ResPass,
 ) -> Option<(ResPass, Handle, Handle)>
     requires { pass_table pass ≡ H.table }
@@ -199,7 +200,7 @@ fn makes_target<C: Naming, H: HistoryNaming, R: Wait>(
 // A program, which dies, and a uniform.
 fn makes_program<C: Naming, H: HistoryNaming, R: Wait>(
     rt: &R,
-    lock: &ResLock<'_, C, ListLink, H>,
+    lock: &ResLock<'_, C, ListLink<'_, R>, H>,
     mut pass: ResPass,
 ) -> Option<ResPass>
     requires { pass_table pass ≡ H.table }
@@ -223,7 +224,7 @@ fn makes_program<C: Naming, H: HistoryNaming, R: Wait>(
 // Both updates.
 fn updates<C: Naming, H: HistoryNaming, R: Wait>(
     rt: &R,
-    lock: &ResLock<'_, C, ListLink, H>,
+    lock: &ResLock<'_, C, ListLink<'_, R>, H>,
     mut pass: ResPass,
     vertices: Handle,
     texture: Handle,
@@ -245,7 +246,7 @@ fn updates<C: Naming, H: HistoryNaming, R: Wait>(
 // Where a view draws, and what it clears.
 fn sets_view<C: Naming, H: HistoryNaming, R: Wait>(
     rt: &R,
-    lock: &ResLock<'_, C, ListLink, H>,
+    lock: &ResLock<'_, C, ListLink<'_, R>, H>,
     mut pass: ResPass,
     target: Handle,
 ) -> Option<ResPass>
@@ -274,7 +275,7 @@ fn sets_view<C: Naming, H: HistoryNaming, R: Wait>(
 // How views are ordered and moved, and a view as at first.
 fn orders_views<C: Naming, H: HistoryNaming, R: Wait>(
     rt: &R,
-    lock: &ResLock<'_, C, ListLink, H>,
+    lock: &ResLock<'_, C, ListLink<'_, R>, H>,
     mut pass: ResPass,
 ) -> Option<ResPass>
     requires { pass_table pass ≡ H.table }
@@ -302,7 +303,7 @@ fn orders_views<C: Naming, H: HistoryNaming, R: Wait>(
 // An encoder that ends, and its frame.
 fn frames<C: Naming, H: HistoryNaming, R: Threads + Wait + Sync>(
     rt: &R,
-    lock: &ResLock<'_, C, ListLink, H>,
+    lock: &ResLock<'_, C, ListLink<'_, R>, H>,
     mut pass: ResPass,
 ) -> Option<ResPass>
     requires table { pass_table pass ≡ H.table }
@@ -324,7 +325,7 @@ fn frames<C: Naming, H: HistoryNaming, R: Threads + Wait + Sync>(
 // Each call of the lock, once.
 fn calls_each<C: Naming, H: HistoryNaming, R: Threads + Wait + Sync>(
     rt: &R,
-    lock: &ResLock<'_, C, ListLink, H>,
+    lock: &ResLock<'_, C, ListLink<'_, R>, H>,
     pass: ResPass,
     layout: VertexLayout,
 ) -> Option<ResPass>
@@ -360,8 +361,8 @@ fn all_calls<C: Naming, H: HistoryNaming, R: Threads + Wait + Sync>(
     let Ok(shared) = Shared::<C>::new(alloc, hold) else {
         return None;
     };
-    let link = list_link(alloc, Outcome::Shown);
-    let lock = locked::<C, ListLink, H>(alloc, &shared, seat, table, link)?;
+    let link = list_link(rt, alloc, Outcome::Shown);
+    let lock = locked::<C, ListLink<'_, R>, H>(alloc, &shared, seat, table, link)?;
     let pass = calls_each(rt, &lock, pass, layout)?;
     let (_, history) = lock.close(pass);
     Some(history)
@@ -407,7 +408,7 @@ fn each_call_is_accepted(rt: HostRuntime) -> Result<(), Fail> {
 // A program is destroyed twice. The second answer.
 fn destroyed_again<C: Naming, H: HistoryNaming, R: Wait>(
     rt: &R,
-    lock: &ResLock<'_, C, ListLink, H>,
+    lock: &ResLock<'_, C, ListLink<'_, R>, H>,
     mut pass: ResPass,
 ) -> Option<(ResPass, Option<LockRefusal>)>
     requires { pass_table pass ≡ H.table }
@@ -429,7 +430,7 @@ fn destroyed_again<C: Naming, H: HistoryNaming, R: Wait>(
 // Two frames: whether each was given.
 fn two_frames<C: Naming, H: HistoryNaming, R: Threads + Wait + Sync>(
     rt: &R,
-    lock: &ResLock<'_, C, ListLink, H>,
+    lock: &ResLock<'_, C, ListLink<'_, R>, H>,
     mut pass: ResPass,
 ) -> Option<(ResPass, [bool; 2])>
     requires { pass_table pass ≡ H.table }
@@ -449,7 +450,7 @@ fn two_frames<C: Naming, H: HistoryNaming, R: Threads + Wait + Sync>(
 // A create, a begin and a frame: their refusals.
 fn three_refused<C: Naming, H: HistoryNaming, R: Threads + Wait + Sync>(
     rt: &R,
-    lock: &ResLock<'_, C, ListLink, H>,
+    lock: &ResLock<'_, C, ListLink<'_, R>, H>,
     mut pass: ResPass,
 ) -> Option<(ResPass, [Option<LockRefusal>; 3])>
     requires { pass_table pass ≡ H.table }
@@ -476,7 +477,7 @@ struct Answers {
 // The answers of a lock whose context a fault of the second frame ends: a second destroy, whether two frames were given, and three calls.
 fn answers_of<C: Naming, H: HistoryNaming, R: Threads + Wait + Sync>(
     rt: &R,
-    lock: &ResLock<'_, C, ListLink, H>,
+    lock: &ResLock<'_, C, ListLink<'_, R>, H>,
     pass: ResPass,
 ) -> Option<
     (
@@ -512,8 +513,8 @@ fn ends<C: Naming, H: HistoryNaming, R: Threads + Wait + Sync>(
     let Ok(shared) = Shared::<C>::new(alloc, hold) else {
         return None;
     };
-    let link = list_link(alloc, Outcome::PictureFault);
-    let lock = locked::<C, ListLink, H>(alloc, &shared, seat, table, link)?;
+    let link = list_link(rt, alloc, Outcome::PictureFault);
+    let lock = locked::<C, ListLink<'_, R>, H>(alloc, &shared, seat, table, link)?;
     let (pass, again, given, refused) = answers_of(rt, &lock, pass)?;
     let (_, history) = lock.close(pass);
     Some(Answers {

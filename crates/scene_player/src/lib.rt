@@ -14,4 +14,5 @@ mod words;
 
 pub use played::Played;
 pub use run::play;
+pub use showing::play_bytes_here;
 pub use status::Status;

@@ -16,7 +16,7 @@ use crate::status::Status;
 use generated_scene::laws::generated_law;
 use generated_scene::make_scene;
 use io_edge::{Gate, Sink, SureSink};
-use scene_showing::{item_counts, replay_scene, show_scene};
+use scene_showing::{item_counts, replay_scene, show_here, show_scene};
 use scene_text::{
     Journal, JournalFault, Scene, SceneFault, fault_place, read, read_front, read_journal,
 };
@@ -46,6 +46,41 @@ pub(crate) fn play_bytes<R: Threads + Wait + Sync, P: Sink + Send + Drop, N: Sin
     match read(alloc, bytes) {
         Ok(scene) => {
             let showing = show_scene(rt, gate, alloc, &scene, pictures);
+            finish(alloc, with_journal, showing, notes)
+        }
+        Err(SceneFault::At { line, cause }) => refuse_scene(alloc, line, cause, pictures, notes),
+        Err(SceneFault::OutOfMemory) => blank(alloc, Status::OutOfMemory, pictures),
+    }
+}
+
+/// Shows the scene that the bytes are as `play` does, on this thread alone. It asks for no leave: it starts no thread, and waits for
+/// none.
+///
+/// There are at most 16,777,216 bytes. The order is: the scene; the pictures frame by frame; the notes, with the text of the journal
+/// behind the report where it is asked for. One encoder records after another. A line whose call is refused is dropped and counted,
+/// and the play goes on.
+///
+/// The status says how it ended, as of `play`: `Scene` comes exactly by the bytes, `PictureFault` and `NoteFault` only where that
+/// sink's count of faults rose in this call, `OutOfMemory` is free, and the others but `Done` never come.
+pub fn play_bytes_here<P: Sink + Drop, N: Sink>(
+    alloc: Global,
+    with_journal: bool,
+    bytes: &[u8],
+    pictures: P,
+    notes: &mut N,
+) -> Played<P>
+    requires { length bytes.now ≤ 16777216 }
+    ensures answered { (count : ℕ) → IsAnswered result.status (showing_command false with_journal count) bytes.now (journal_seen result.journal)
+        (putting (P.held pictures) (P.held result.pictures) (P.faults pictures) (P.faults result.pictures))
+        (putting (N.held notes.old) (N.held notes.new) (N.faults notes.old) (N.faults notes.new)) }
+    ensures counted { (count : ℕ) (s : model.Scene) → IsSceneOf (showing_command false with_journal count) bytes.now s
+        → CountsPictures result.status s (journal_seen result.journal) (P.tally pictures) (P.tally result.pictures) }
+    ensures sure { (P.sure result.pictures ≡ P.sure pictures) × (N.sure notes.new ≡ N.sure notes.old) }
+    ensures no_fewer { (P.faults pictures ≤ P.faults result.pictures) × (N.faults notes.old ≤ N.faults notes.new) }
+{
+    match read(alloc, bytes) {
+        Ok(scene) => {
+            let showing = show_here(alloc, &scene, pictures);
             finish(alloc, with_journal, showing, notes)
         }
         Err(SceneFault::At { line, cause }) => refuse_scene(alloc, line, cause, pictures, notes),

@@ -161,6 +161,36 @@ fn frames_out_at_each_latency(rt: HostRuntime) -> Result<(), Fail> {
     Ok(())
 }
 
+// On one thread, by the bytes alone: the same pictures and notes.
+#[test]
+fn frames_on_one_thread(rt: HostRuntime) -> Result<(), Fail> {
+    let alloc = rt.alloc();
+    for latency in 1..4u8 {
+        let text = five_colours(alloc, latency, false)?;
+        let pictures = MemSink::new(alloc, 1000, 1000, Vec::new(alloc))?;
+        let mut notes = MemSink::new(alloc, 1000, 1000, Vec::new(alloc))?;
+        let played = play_bytes_here(alloc, true, &text, pictures, &mut notes);
+        assert_eq!(rt; played.status, Status::Done);
+        assert_eq!(rt;
+            played.pictures.bytes(),
+            b"P6\n1 1\n255\n\x10\0\0P6\n1 1\n255\n\x20\0\0P6\n1 1\n255\n\x30\0\0P6\n1 1\n255\n\x40\0\0P6\n1 1\n255\n\x50\0\0".as_slice()
+        );
+        assert_eq!(rt;
+            notes.bytes(),
+            b"frame 0 items 1 dropped 0\nframe 1 items 1 dropped 0\nframe 2 items 1 dropped 0\nframe 3 items 1 dropped 0\nframe 4 items 1 dropped 0\nj 0:0\nj 0:0\nj 0:0\nj 0:0\nj 0:0\n".as_slice()
+        );
+    }
+    let pictures = MemSink::new(alloc, 10, 10, Vec::new(alloc))?;
+    let mut notes = MemSink::new(alloc, 100, 100, Vec::new(alloc))?;
+    let played = play_bytes_here(alloc, false, b"scene 1\nsize 1 x\n", pictures, &mut notes);
+    assert_eq!(rt; played.status, Status::Scene { line: 2, cause: 6 });
+    assert_eq!(rt;
+        notes.bytes(),
+        b"scene refused at line 2 for cause 6\n".as_slice()
+    );
+    Ok(())
+}
+
 // 257 programs, of which the last is refused; the first is destroyed, and each later frame makes one more.
 fn programs(alloc: Global, head: &[u8], frames: u8) -> Result<Vec<u8>, AllocError> {
     let mut text = head.to_vec(alloc)?;

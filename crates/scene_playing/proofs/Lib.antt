@@ -1,6 +1,7 @@
 mod Standing
 mod Jobs
 mod Begun
+mod Collecting
 mod Gathered
 mod EndLaws
 mod LineLaws

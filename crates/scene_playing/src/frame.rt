@@ -1,5 +1,5 @@
 // One frame of a scene.
-ghost use Rattle.std.specs.Prelude.{◌≡◌, ◌+◌, ◌≤◌, ℕ, List, Some, true, map, length, slice_get, MatchResult, IfOk};
+ghost use Rattle.std.specs.Prelude.{◌≡◌, ◌+◌, ◌≤◌, ℕ, List, [], Some, true, map, length, slice_get, MatchResult, IfOk};
 ghost use Rattle.std.specs.List.{AllByRecursion};
 ghost use Rattle.gfx_model.specs.World.{Item};
 ghost use Rattle.scene_model.specs.Scene.{views_of};
@@ -18,22 +18,22 @@ ghost use Rattle.scene_playing.specs.Order.{order_seen, Allows};
 ghost use Rattle.scene_playing.specs.Frames.{note_seen};
 ghost use Rattle.scene_playing.specs.Steps.{FrameEnds, first_after};
 
-use crate::beginning::{Names, record_blocks};
+use crate::beginning::{Names, collect, record_blocks};
 use crate::ordered::is_in_order;
 use crate::played::FrameNote;
-use block_recording::{Desk, help};
+use crate::recorders::Recorders;
+use block_recording::Job;
 use context_frames::{frame_law, recorded_law};
+use draw_encoder::Bundle;
 use frame_record::{FrameLink, JournalEntry};
 use gfx_context::{BackNote, Context, FrameReport, Naming};
 use gfx_words::Handle;
-use io_edge::Gate;
 use resource_laws::bare_start_law;
 use scene_lines::{places_law, play_lines};
 use scene_progress::{next_law, plan_law};
 use scene_text::{Journal, Scene, SceneFrame};
 use std::alloc::{AllocError, Global};
-use std::sync::{Arc, Wait};
-use std::thread::Threads;
+use std::sync::Arc;
 
 /// What a frame tells that ended: its journal, its note, the frame that came back, and whether it was given.
 #[derive(Drop)]
@@ -75,8 +75,8 @@ fn play_beside<'t, C: Naming, L: FrameLink + Drop>(
 }
 
 /// Ends a frame whose lines were played, and of which so many were dropped.
-fn end_frame<'t, C: Naming, L: FrameLink + Drop, R: Threads + Wait + Sync>(
-    rt: &R,
+fn end_frame<'t, C: Naming, L: FrameLink + Drop, W: Recorders<Job<'t, C>, Bundle<C>>>(
+    recorders: &mut W,
     alloc: Global,
     order: Option<&Journal>,
     scene: &'t Scene,
@@ -89,12 +89,15 @@ fn end_frame<'t, C: Naming, L: FrameLink + Drop, R: Threads + Wait + Sync>(
     requires views { C.views ≡ views_of (scene_seen scene.now) }
     requires recorded { IsRecorded (scene_seen scene.now) context.old.book.resources.frame (frame_seen frame.now) handles.now context.old }
     requires dropped { dropped ≡ (all_of (scene_seen scene.now) context.old.book.resources.frame (frame_seen frame.now)).dropped }
+    requires owes { W.owes recorders.old (length context.old.seat.off) }
     ensures ended { MatchResult result
         (λ e. FrameEnds (scene_seen scene.now) context.old.book.resources.frame (frame_seen frame.now) (map entry_seen e.journal.items) (note_seen e.note) e.given handles.now context.old context.new)
         (λ _. context.new.given ≡ context.old.given) }
     ensures back { MatchResult result (λ e. first_outcome context.new.back ≡ first_after (first_outcome context.old.back) e.back) (λ _. context.new.back ≡ context.old.back) }
     ensures allowed { IfOk result (λ e. Allows (order_seen order.entry) context.old.book.resources.frame (map entry_seen e.journal.items)) }
     ensures origin { L.origin context.new.link ≡ L.origin context.old.link }
+    ensures none_off { context.new.seat.off ≡ [] }
+    ensures owes { W.owes recorders.new 0 }
 {
     let _ = scene;
     let _ = frame;
@@ -106,11 +109,11 @@ fn end_frame<'t, C: Naming, L: FrameLink + Drop, R: Threads + Wait + Sync>(
     bare_start_law();
     context.tell_facts();
     let number = context.frame_number();
-    context.collect(rt);
+    collect(recorders, context);
     if !is_in_order(alloc, order, number, context.gathered()) {
         return Err(AllocError);
     }
-    let Ok(report) = context.end(rt) else {
+    let Ok(report) = context.end() else {
         return Err(AllocError);
     };
     let FrameReport {
@@ -133,12 +136,10 @@ fn end_frame<'t, C: Naming, L: FrameLink + Drop, R: Threads + Wait + Sync>(
 }
 
 /// Plays the frame whose number the context has: its lines before, the blocks, its lines beside; and ends it. `Err` for want of
-/// memory: then the frame was not given, and encoders that were begun have ended or will.
-pub(crate) fn play_frame<'t, C: Naming, L: FrameLink + Drop, R: Threads + Wait + Sync, G: Gate>(
-    rt: &R,
-    gate: &G,
+/// memory: then the frame was not given, and encoders that were begun are gathered.
+pub(crate) fn play_frame<'t, C: Naming, L: FrameLink + Drop, W: Recorders<Job<'t, C>, Bundle<C>>>(
+    recorders: &mut W,
     alloc: Global,
-    desk: &Desk<'t, C>,
     order: Option<&Journal>,
     scene: &'t Scene,
     frame: &'t SceneFrame,
@@ -152,21 +153,29 @@ pub(crate) fn play_frame<'t, C: Naming, L: FrameLink + Drop, R: Threads + Wait +
     requires bounded { IsBounded (scene_seen scene.now) }
     requires there { slice_get (scene_seen scene.now).frames context.old.book.resources.frame ≡ Some (frame_seen frame.now) }
     requires at { IsAt (scene_seen scene.now) context.old.book.resources.frame handles.old context.old }
+    requires none_off { context.old.seat.off ≡ [] }
+    requires owes { W.owes recorders.old 0 }
     ensures ended { MatchResult result
         (λ e. FrameEnds (scene_seen scene.now) context.old.book.resources.frame (frame_seen frame.now) (map entry_seen e.journal.items) (note_seen e.note) e.given handles.new context.old context.new)
         (λ _. context.new.given ≡ context.old.given) }
     ensures back { MatchResult result (λ e. first_outcome context.new.back ≡ first_after (first_outcome context.old.back) e.back) (λ _. context.new.back ≡ context.old.back) }
     ensures allowed { IfOk result (λ e. Allows (order_seen order.entry) context.old.book.resources.frame (map entry_seen e.journal.items)) }
     ensures origin { L.origin context.new.link ≡ L.origin context.old.link }
+    ensures none_off { context.new.seat.off ≡ [] }
+    ensures owes { W.owes recorders.new 0 }
 {
     places_law();
     let names = scene.names.as_slice();
     let before = play_lines(alloc, context, handles, names, frame.before.as_slice())?;
     let shared = shared_names(alloc, handles)?;
-    let all = record_blocks(rt, gate, alloc, desk, order, scene, frame, context, &shared);
+    let all = record_blocks(recorders, scene, frame, context, &shared);
     let beside = play_beside(alloc, scene, frame, context, handles, all);
-    help(rt, gate, desk);
-    let beside = beside?;
+    let Ok(beside) = beside else {
+        collect(recorders, context);
+        return Err(AllocError);
+    };
     let dropped = u64::from(before) + u64::from(beside);
-    end_frame(rt, alloc, order, scene, frame, context, handles, dropped)
+    end_frame(
+        recorders, alloc, order, scene, frame, context, handles, dropped,
+    )
 }

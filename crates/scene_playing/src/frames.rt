@@ -17,17 +17,16 @@ ghost use Rattle.scene_playing.specs.Steps.{first_after};
 
 use crate::frame::{EndedFrame, play_frame};
 use crate::played::{FrameNote, Played};
-use block_recording::Desk;
+use crate::recorders::Recorders;
+use block_recording::Job;
+use draw_encoder::Bundle;
 use frame_record::{FrameLink, JournalEntry, Outcome};
 use gfx_context::{BackNote, Context, Naming, Shared, Start};
 use gfx_words::{FEWEST_VIEWS, Handle, MOST_VIEWS};
 use hold_table::ApiSeat;
-use io_edge::Gate;
 use scene_progress::{frames_law, lawful_law, next_law, noted_law};
 use scene_text::{Journal, Scene, Sequence};
 use std::alloc::{AllocError, Global};
-use std::sync::Wait;
-use std::thread::Threads;
 
 /// What the frames told that ended so far, with room for all of a scene.
 #[derive(Drop)]
@@ -87,11 +86,9 @@ impl Told {
 }
 
 /// Plays the frames from the first on, up to one that was not given. Answers whether all were given.
-fn play_all<'t, C: Naming, L: FrameLink + Drop, R: Threads + Wait + Sync, G: Gate>(
-    rt: &R,
-    gate: &G,
+fn play_all<'t, C: Naming, L: FrameLink + Drop, W: Recorders<Job<'t, C>, Bundle<C>>>(
+    recorders: &mut W,
     alloc: Global,
-    desk: &Desk<'t, C>,
     order: Option<&Journal>,
     scene: &'t Scene,
     context: &mut Context<'t, C, L>,
@@ -104,6 +101,8 @@ fn play_all<'t, C: Naming, L: FrameLink + Drop, R: Threads + Wait + Sync, G: Gat
     requires readable { IsReadable (scene_seen scene.now) }
     requires bounded { IsBounded (scene_seen scene.now) }
     requires at { IsAt (scene_seen scene.now) 0 handles.old context.old }
+    requires none_off { context.old.seat.off ≡ [] }
+    requires owes { W.owes recorders.old 0 }
     requires none { (context.old.given ≡ []) × (context.old.back ≡ []) }
     requires told { (told.old.lists.items ≡ []) × (told.old.notes.items ≡ []) × (told.old.outcome ≡ Outcome.Shown) }
     requires room { (length scene.now.frames ≤ vec_capacity told.old.lists) × (length scene.now.frames ≤ vec_capacity told.old.notes) }
@@ -111,12 +110,13 @@ fn play_all<'t, C: Naming, L: FrameLink + Drop, R: Threads + Wait + Sync, G: Gat
     ensures follows { Follows (order_seen order.entry) (map (map entry_seen) told.new.lists.items) }
     ensures outcome { told.new.outcome ≡ first_outcome context.new.back }
     ensures origin { L.origin context.new.link ≡ L.origin context.old.link }
+    ensures none_off { context.new.seat.off ≡ [] }
 {
     frames_law();
     lawful_law();
     noted_law();
     for frame in scene.frames.as_slice() {
-        let played = play_frame(rt, gate, alloc, desk, order, scene, frame, context, handles);
+        let played = play_frame(recorders, alloc, order, scene, frame, context, handles);
         let Ok(ended) = played else {
             return false;
         };
@@ -128,8 +128,7 @@ fn play_all<'t, C: Naming, L: FrameLink + Drop, R: Threads + Wait + Sync, G: Gat
 }
 
 /// Takes back what is out, and gives what the frames left.
-fn finish<'t, C: Naming, L: FrameLink + Drop, R: Threads + Wait + Sync>(
-    rt: &R,
+fn finish<'t, C: Naming, L: FrameLink + Drop>(
     scene: &Scene,
     context: Context<'t, C, L>,
     told: Told,
@@ -137,6 +136,7 @@ fn finish<'t, C: Naming, L: FrameLink + Drop, R: Threads + Wait + Sync>(
 ) -> Played<L>
     requires ended { AreEnded (scene_seen scene.now) context.given (map (map entry_seen) told.lists.items) (map note_seen told.notes.items) is_whole }
     requires outcome { told.outcome ≡ first_outcome context.back }
+    requires none_off { context.seat.off ≡ [] }
     ensures played { ArePlayed (scene_seen scene.now) (L.given result.link) (L.back result.link) (journal_seen result.journal) (map note_seen result.notes.items) result.outcome result.is_whole }
     ensures journal { journal_seen result.journal ≡ map (map entry_seen) told.lists.items }
     ensures origin { L.origin result.link ≡ L.origin context.entry.link }
@@ -148,7 +148,7 @@ fn finish<'t, C: Naming, L: FrameLink + Drop, R: Threads + Wait + Sync>(
         outcome,
     } = told;
     context.tell_facts();
-    let closed = context.shutdown(rt);
+    let closed = context.close();
     let [first, second, third] = closed.backs;
     let outcome = later(later(later(outcome, first), second), third);
     Played {
@@ -207,17 +207,16 @@ fn rooms(alloc: Global, scene: &Scene) -> Result<(Told, Vec<Option<Handle>>), Al
 }
 
 /// Plays the frames of a scene over a new context.
-pub(crate) fn play_named<'t, C: Naming, L: FrameLink + Drop, R: Threads + Wait + Sync, G: Gate>(
-    rt: &R,
-    gate: &G,
+pub(crate) fn play_named<'t, C: Naming, L: FrameLink + Drop, W: Recorders<Job<'t, C>, Bundle<C>>>(
+    recorders: &mut W,
     alloc: Global,
     shared: &'t Shared<C>,
-    desk: &Desk<'t, C>,
     order: Option<&Journal>,
     scene: &'t Scene,
     seat: ApiSeat,
     link: L,
 ) -> Played<L>
+    requires owes { W.owes recorders.old 0 }
     requires table { api_table seat ≡ C.table }
     requires seat { api_view seat ≡ first_view 0 }
     requires admits { (e n : ℕ) (items : List Item) (d : ℕ) → IsAccepted (scene_seen scene.now) e n items d → C.admits e n items d }
@@ -247,17 +246,15 @@ pub(crate) fn play_named<'t, C: Naming, L: FrameLink + Drop, R: Threads + Wait +
             let mut handles = handles;
             let mut told = told;
             let is_whole = play_all(
-                rt,
-                gate,
+                recorders,
                 alloc,
-                desk,
                 order,
                 scene,
                 &mut context,
                 handles.as_mut_slice(),
                 &mut told,
             );
-            finish(rt, scene, context, told, is_whole)
+            finish(scene, context, told, is_whole)
         }
         Err((_seat, link)) => nothing(alloc, scene, link),
     }

@@ -1,5 +1,5 @@
 // Recorder threads around all frames.
-ghost use Rattle.std.specs.Prelude.{◌≡◌, ◌≤◌, ◌+◌, ℕ, List, [], map, MatchOption};
+ghost use Rattle.std.specs.Prelude.{◌≡◌, ◌≤◌, ◌+◌, ℕ, List, [], map};
 ghost use Rattle.gfx_model.specs.World.{Item};
 ghost use Rattle.scene_model.specs.Scene.{views_of};
 ghost use Rattle.spelling_model.specs.Readable.{IsReadable};
@@ -12,7 +12,9 @@ ghost use Rattle.scene_playing.specs.Order.{order_seen, Follows};
 ghost use Rattle.scene_playing.specs.Frames.{note_seen, ArePlayed};
 
 use crate::frames::{nothing, play_named};
+use crate::here::play_here;
 use crate::played::Played;
+use crate::recorders::AtDesk;
 use block_recording::{Desk, start_all};
 use draw_encoder::{Naming, Shared};
 use frame_record::FrameLink;
@@ -25,15 +27,12 @@ use std::sync::{Arc, Wait};
 use std::thread;
 use std::thread::Threads;
 
-// How many recorders are started: one for each encoder but the first, and none where an order is given.
-fn recorders(encoders: u8, order: Option<&Journal>) -> u8
+// How many recorders are started: one for each encoder but the first.
+fn recorders(encoders: u8) -> u8
     requires { 1 ≤ encoders }
-    ensures { MatchOption order.entry (result + 1 ≡ encoders) (λ _. result ≡ 0) }
+    ensures { result + 1 ≡ encoders }
 {
-    match order {
-        None => encoders - 1,
-        Some(_) => 0,
-    }
+    encoders - 1
 }
 
 // The desk is captured by value: what a scope's closure ensures is lost where it captures a reference to a type with a lifetime.
@@ -47,7 +46,6 @@ fn with_recorders<
     rt: &R,
     gate: &G,
     alloc: Global,
-    order: Option<&Journal>,
     shared: &'t Shared<C>,
     desk: Arc<Desk<'t, C>, Global>,
     scene: &'t Scene,
@@ -63,7 +61,6 @@ fn with_recorders<
     requires bounded { IsBounded (scene_seen scene.now) }
     requires latency { L.latency link ≡ scene.now.latency }
     requires none { (L.given link ≡ []) × (L.back link ≡ []) }
-    ensures follows { Follows (order_seen order.entry) (journal_seen result.journal) }
     ensures played { ArePlayed (scene_seen scene.now) (L.given result.link) (L.back result.link) (journal_seen result.journal) (map note_seen result.notes.items) result.outcome result.is_whole }
     ensures origin { L.origin result.link ≡ L.origin link }
 {
@@ -80,13 +77,13 @@ fn with_recorders<
             requires bounded { IsBounded (scene_seen scene.now) }
             requires latency { L.latency link ≡ scene.now.latency }
             requires none { (L.given link ≡ []) × (L.back link ≡ []) }
-            ensures follows { Follows (order_seen order.entry) (journal_seen result.journal) }
             ensures played { ArePlayed (scene_seen scene.entry.now) (L.given result.link) (L.back result.link) (journal_seen result.journal) (map note_seen result.notes.items) result.outcome result.is_whole }
             ensures origin { L.origin result.link ≡ L.origin link }
         {
             let desk = desk;
-            start_all(scope, rt, gate, &desk, recorders(scene.encoders, order));
-            let played = play_named(rt, gate, alloc, shared, &desk, order, scene, seat, link);
+            start_all(scope, rt, gate, &desk, recorders(scene.encoders));
+            let mut at_desk = AtDesk::new(rt, gate, shared, &desk);
+            let played = play_named(&mut at_desk, alloc, shared, None, scene, seat, link);
             desk.stop();
             played
         },
@@ -104,7 +101,6 @@ fn play_at_desk<
     rt: &R,
     gate: &G,
     alloc: Global,
-    order: Option<&Journal>,
     shared: &'t Shared<C>,
     scene: &'t Scene,
     seat: ApiSeat,
@@ -119,7 +115,6 @@ fn play_at_desk<
     requires bounded { IsBounded (scene_seen scene.now) }
     requires latency { L.latency link ≡ scene.now.latency }
     requires none { (L.given link ≡ []) × (L.back link ≡ []) }
-    ensures follows { Follows (order_seen order.entry) (journal_seen result.journal) }
     ensures played { ArePlayed (scene_seen scene.now) (L.given result.link) (L.back result.link) (journal_seen result.journal) (map note_seen result.notes.items) result.outcome result.is_whole }
     ensures origin { L.origin result.link ≡ L.origin link }
 {
@@ -129,7 +124,7 @@ fn play_at_desk<
     let Ok(desk) = Arc::new(alloc, desk) else {
         return nothing(alloc, scene, link);
     };
-    with_recorders(rt, gate, alloc, order, shared, desk, scene, seat, link)
+    with_recorders(rt, gate, alloc, shared, desk, scene, seat, link)
 }
 
 // A play of a named table.
@@ -142,7 +137,6 @@ fn play_table<
     rt: &R,
     gate: &G,
     alloc: Global,
-    order: Option<&Journal>,
     scene: &Scene,
     table: HoldTable,
     seat: ApiSeat,
@@ -157,14 +151,13 @@ fn play_table<
     requires bounded { IsBounded (scene_seen scene.now) }
     requires latency { L.latency link ≡ scene.now.latency }
     requires none { (L.given link ≡ []) × (L.back link ≡ []) }
-    ensures follows { Follows (order_seen order.entry) (journal_seen result.journal) }
     ensures played { ArePlayed (scene_seen scene.now) (L.given result.link) (L.back result.link) (journal_seen result.journal) (map note_seen result.notes.items) result.outcome result.is_whole }
     ensures origin { L.origin result.link ≡ L.origin link }
 {
     let Ok(shared) = Shared::<C>::new(alloc, table) else {
         return nothing(alloc, scene, link);
     };
-    play_at_desk(rt, gate, alloc, order, &shared, scene, seat, link)
+    play_at_desk(rt, gate, alloc, &shared, scene, seat, link)
 }
 
 /// Plays the frames of a scene, each encoder but the first on recorder threads, and gives each frame by the link, at which none is
@@ -174,8 +167,7 @@ fn play_table<
 /// frames that were given are the first of the scene by index, for the journal that comes back. Where not all were given, one was
 /// not shown, or memory was wanting. The gate is called before each item's line. It may wait for whatever renders the frames.
 ///
-/// Where an order is given, this thread alone records, the items of each frame in that order, without the gate; the journal that comes
-/// back is then a front of it. A frame whose items had another order would not be given, as for want of memory.
+/// Where an order is given, it plays as `play_here`, and the journal that comes back is a front of the order.
 pub fn play_frames<L: FrameLink + Drop, R: Threads + Wait + Sync, G: Gate + Sync>(
     rt: &R,
     gate: &G,
@@ -192,8 +184,29 @@ pub fn play_frames<L: FrameLink + Drop, R: Threads + Wait + Sync, G: Gate + Sync
     ensures played { ArePlayed (scene_seen scene.now) (L.given result.link) (L.back result.link) (journal_seen result.journal) (map note_seen result.notes.items) result.outcome result.is_whole }
     ensures origin { L.origin result.link ≡ L.origin link }
 {
+    match order {
+        None => play_threaded(rt, gate, alloc, scene, link),
+        Some(_) => play_here(alloc, order, scene, link),
+    }
+}
+
+// A play without an order.
+fn play_threaded<L: FrameLink + Drop, R: Threads + Wait + Sync, G: Gate + Sync>(
+    rt: &R,
+    gate: &G,
+    alloc: Global,
+    scene: &Scene,
+    link: L,
+) -> Played<L>
+    requires readable { IsReadable (scene_seen scene.now) }
+    requires bounded { IsBounded (scene_seen scene.now) }
+    requires latency { L.latency link ≡ scene.now.latency }
+    requires none { (L.given link ≡ []) × (L.back link ≡ []) }
+    ensures played { ArePlayed (scene_seen scene.now) (L.given result.link) (L.back result.link) (journal_seen result.journal) (map note_seen result.notes.items) result.outcome result.is_whole }
+    ensures origin { L.origin result.link ≡ L.origin link }
+{
     let Ok((table, seat)) = HoldTable::new(alloc, 0) else {
         return nothing(alloc, scene, link);
     };
-    play_table::<Brand, L, R, G>(rt, gate, alloc, order, scene, table, seat, link)
+    play_table::<Brand, L, R, G>(rt, gate, alloc, scene, table, seat, link)
 }

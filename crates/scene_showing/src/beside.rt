@@ -11,7 +11,7 @@ ghost use Rattle.scene_playing.specs.Frames.{note_seen};
 ghost use Rattle.scene_showing.specs.Rendered.{AreShown};
 
 use crate::rendered::Rendered;
-use frame_swap::{ApiEnd, RenderEnd};
+use frame_swap::{ApiEnd, RenderEnd, WaitingEnd};
 use io_edge::{Gate, Sink};
 use render_core::{BandRasterizer, Renderer};
 use scene_playing::{Played, play_frames};
@@ -69,17 +69,19 @@ pub(crate) fn render_beside<P: Sink + Send + Drop, R: Threads + Wait + Sync, G: 
             { renderer.run(rt, BandRasterizer::new(rt), end, gate) };
             match scope.spawn_with(promise, job) {
                 Ok(handle) => {
-                    let played = play_frames(rt, gate, alloc, None, scene, api);
+                    let link = WaitingEnd::new(api, rt);
+                    let played = play_frames(rt, gate, alloc, None, scene, link);
                     let Played {
-                        mut link,
+                        link,
                         journal,
                         notes,
                         outcome,
                         is_whole,
                     } = played;
-                    link.stop();
+                    let mut given = link.into_end();
+                    given.stop();
                     let (renderer, end) = handle.join(rt);
-                    link.close(end);
+                    given.close(end);
                     Ok(Rendered {
                         renderer,
                         journal,

@@ -1,6 +1,6 @@
 // Scenes shown, by their texts.
 use io_edge::{MemSink, NoGate};
-use scene_showing::{End, item_counts, show_scene};
+use scene_showing::{End, item_counts, show_here, show_scene};
 use scene_text::read;
 use std::test::Fail;
 
@@ -20,6 +20,23 @@ fn two_frames_of_touches(rt: HostRuntime) -> Result<(), Fail> {
     assert_eq!(rt; showing.sink.bytes(), TWO_RED_PICTURES);
     assert_eq!(rt; showing.journal.frames.as_slice().len(), 2);
     assert_eq!(rt; showing.notes.len(), 2);
+    Ok(())
+}
+
+#[test]
+fn two_frames_on_one_thread(rt: HostRuntime) -> Result<(), Fail> {
+    let alloc = rt.alloc();
+    let scene = read(alloc, TWO_FRAMES).map_err(|_| "scene")?;
+    let sink = MemSink::new(alloc, 64, 5, Vec::new(alloc))?;
+    let showing = show_here(alloc, &scene, sink);
+    assert_eq!(rt; showing.end, End::Done);
+    assert_eq!(rt; showing.sink.bytes(), TWO_RED_PICTURES);
+    assert_eq!(rt; showing.journal.frames.as_slice().len(), 2);
+    assert_eq!(rt; showing.notes.len(), 2);
+    let sink = MemSink::new(alloc, 30, 5, Vec::new(alloc))?;
+    let showing = show_here(alloc, &scene, sink);
+    assert_eq!(rt; showing.end, End::PictureFault);
+    assert_eq!(rt; showing.sink.bytes(), &TWO_RED_PICTURES[..30]);
     Ok(())
 }
 

@@ -4,6 +4,7 @@ use Rattle.frame_record.specs.Seen.{entry_seen}
 use Rattle.gfx_context.specs.Kept.{IsContext}
 use Rattle.gfx_context.specs.Ended.{Collects}
 use Rattle.scene_playing.specs.Steps.{FrameEnds}
+use Rattle.scene_playing.proofs.Collecting.{none_off_ended}
 use Rattle.scene_playing.proofs.EndLaws.{frame_ends, frame_back}
 use Rattle.scene_playing.proofs.FrameLaws.{outcome_after}
 use Rattle.scene_playing.proofs.frame.end_frame.Goals as goal
@@ -17,10 +18,10 @@ returns-clause-ended g c =
     let handles = c.args.handles.now in
     let old = c.args.context.now in
     let new = c.end.new.self in
-    let mid = c.collect.new.self in
+    let mid = c.collect.new.context in
     let planned = c.plan_law.ensures.plan s k f c.requires.recorded.there in
     let kept = subst (λ n. IsContext g.C.Naming.admits n old) c.requires.views c.tell_facts.ensures.keeps in
-    let collects = subst (λ n. Collects g.C.Naming.admits n old mid) c.requires.views c.collect.ensures in
+    let collects = subst (λ n. Collects g.C.Naming.admits n old mid) c.requires.views c.collect.ensures.collects in
     let ends = frame_ends g.C.Naming.admits s k f handles old mid new report c.args.dropped c.requires.admitted c.next_law.ensures.next c.bare_start_law.ensures c.recorded_law.ensures c.frame_law.ensures
     planned.0 planned.1 kept refl c.requires.recorded c.requires.dropped collects c.in-Ok.ensures.answer in
     let items : c.len.result ≡ length report.journal.items = c.len.ensures ∙ report.journal.ok.0 in
@@ -35,10 +36,13 @@ returns-clause-back g c =
     let f = frame_seen c.args.frame.now in
     let old = c.args.context.now in
     let new = c.end.new.self in
-    let mid = c.collect.new.self in
+    let mid = c.collect.new.context in
     let planned = c.plan_law.ensures.plan s k f c.requires.recorded.there in
     let kept = subst (λ n. IsContext g.C.Naming.admits n old) c.requires.views c.tell_facts.ensures.keeps in
-    let collects = subst (λ n. Collects g.C.Naming.admits n old mid) c.requires.views c.collect.ensures in
+    let collects = subst (λ n. Collects g.C.Naming.admits n old mid) c.requires.views c.collect.ensures.collects in
     outcome_after c.in-Ok.report.back old new.back
     (frame_back g.C.Naming.admits s k f c.args.handles.now old mid new c.in-Ok.report c.args.dropped c.requires.admitted c.next_law.ensures.next c.bare_start_law.ensures c.recorded_law.ensures c.frame_law.ensures
     planned.0 planned.1 kept refl c.requires.recorded c.requires.dropped collects c.in-Ok.ensures.answer)
+
+pub returns-clause-none_off : goal.returns-clause-none_off
+returns-clause-none_off g c = none_off_ended c.end.result c.collect.new.context c.end.new.self c.end.ensures.answer c.collect.ensures.collects.none_off

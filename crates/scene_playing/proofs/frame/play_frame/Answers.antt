@@ -6,6 +6,7 @@ use Rattle.scene_lines.specs.Played.{LinesPlayed}
 use Rattle.scene_lines.specs.Names.{LineHasPlace}
 use Rattle.scene_playing.specs.Recording.{HasBegun}
 use Rattle.scene_playing.specs.Order.{order_seen}
+use Rattle.scene_playing.proofs.Collecting.{off_kept}
 use Rattle.scene_playing.proofs.Jobs.{few_in}
 use Rattle.scene_playing.proofs.LineLaws.{number_recorded, places_in, recording_after, recorded_after, recording_now, recorded_now, dropped_now, ended_since, back_since, rest_kept, allowed_since}
 use Rattle.scene_playing.proofs.frame.play_frame.Goals as goal
@@ -51,9 +52,9 @@ end_frame-requires-clause-recorded g c κs within =
     let k = c.args.context.now.book.resources.frame in
     let f = frame_seen c.args.frame.now in
     let first = recording_after s k f c.in_ok-before.before c.args.handles.now c.play_lines.new.handles c.args.context.now c.play_lines.new.calls c.requires.at c.requires.there (subst (λ (ls : List _). LinesPlayed s.names (map resource_line_seen ls) c.in_ok-before.before c.args.context.now.book c.play_lines.new.calls.book c.args.handles.now c.play_lines.new.handles) c.as_slice.ensures (subst (λ (ns : List _). LinesPlayed (map name_seen ns) (map resource_line_seen c.as_slice.result.now) c.in_ok-before.before c.args.context.now.book c.play_lines.new.calls.book c.args.handles.now c.play_lines.new.handles) c.as_slice-names.ensures c.in_ok-before.ensures.played)) c.play_lines.ensures.rest in
-    let all : c.record_blocks-all.new.context.begun ≡ s.encoders = c.record_blocks-all.ensures.all c.in_ok-beside.ensures.played.0 in
+    let all : c.record_blocks-all.new.context.begun ≡ s.encoders = c.record_blocks-all.ensures.all c.in-Ok.ensures.played.0 in
     let begun : HasBegun s.encoders c.play_lines.new.calls c.record_blocks-all.new.context = subst (λ n. HasBegun n c.play_lines.new.calls c.record_blocks-all.new.context) all c.record_blocks-all.ensures.same in
-    let last = recorded_after s k f c.in_ok-beside.beside c.play_lines.new.handles c.play_beside-beside.new.handles c.play_lines.new.calls c.record_blocks-all.new.context c.play_beside-beside.new.context first.0 begun c.in_ok-beside.ensures.played.1 c.play_beside-beside.ensures.rest first.3 in
+    let last = recorded_after s k f c.in-Ok.beside c.play_lines.new.handles c.play_beside-beside.new.handles c.play_lines.new.calls c.record_blocks-all.new.context c.play_beside-beside.new.context first.0 begun c.in-Ok.ensures.played.1 c.play_beside-beside.ensures.rest first.3 in
     recorded_now s k f c.play_beside-beside.new.handles c.play_beside-beside.new.context last.0
 
 pub end_frame-requires-clause-dropped : goal.end_frame-requires-clause-dropped
@@ -62,10 +63,10 @@ end_frame-requires-clause-dropped g c κs within =
     let k = c.args.context.now.book.resources.frame in
     let f = frame_seen c.args.frame.now in
     let first = recording_after s k f c.in_ok-before.before c.args.handles.now c.play_lines.new.handles c.args.context.now c.play_lines.new.calls c.requires.at c.requires.there (subst (λ (ls : List _). LinesPlayed s.names (map resource_line_seen ls) c.in_ok-before.before c.args.context.now.book c.play_lines.new.calls.book c.args.handles.now c.play_lines.new.handles) c.as_slice.ensures (subst (λ (ns : List _). LinesPlayed (map name_seen ns) (map resource_line_seen c.as_slice.result.now) c.in_ok-before.before c.args.context.now.book c.play_lines.new.calls.book c.args.handles.now c.play_lines.new.handles) c.as_slice-names.ensures c.in_ok-before.ensures.played)) c.play_lines.ensures.rest in
-    let all : c.record_blocks-all.new.context.begun ≡ s.encoders = c.record_blocks-all.ensures.all c.in_ok-beside.ensures.played.0 in
+    let all : c.record_blocks-all.new.context.begun ≡ s.encoders = c.record_blocks-all.ensures.all c.in-Ok.ensures.played.0 in
     let begun : HasBegun s.encoders c.play_lines.new.calls c.record_blocks-all.new.context = subst (λ n. HasBegun n c.play_lines.new.calls c.record_blocks-all.new.context) all c.record_blocks-all.ensures.same in
-    let last = recorded_after s k f c.in_ok-beside.beside c.play_lines.new.handles c.play_beside-beside.new.handles c.play_lines.new.calls c.record_blocks-all.new.context c.play_beside-beside.new.context first.0 begun c.in_ok-beside.ensures.played.1 c.play_beside-beside.ensures.rest first.3 in
-    (λ i. c.from.ensures i + c.from-2.ensures i) ∙ dropped_now s k f c.play_beside-beside.new.handles c.play_beside-beside.new.context c.in_ok-before.before c.in_ok-beside.beside last.0 first.1 last.1
+    let last = recorded_after s k f c.in-Ok.beside c.play_lines.new.handles c.play_beside-beside.new.handles c.play_lines.new.calls c.record_blocks-all.new.context c.play_beside-beside.new.context first.0 begun c.in-Ok.ensures.played.1 c.play_beside-beside.ensures.rest first.3 in
+    (λ i. c.from.ensures i + c.from-2.ensures i) ∙ dropped_now s k f c.play_beside-beside.new.handles c.play_beside-beside.new.context c.in_ok-before.before c.in-Ok.beside last.0 first.1 last.1
 
 pub returns-clause-ended : goal.returns-clause-ended
 returns-clause-ended g c =
@@ -73,9 +74,9 @@ returns-clause-ended g c =
     let k = c.args.context.now.book.resources.frame in
     let f = frame_seen c.args.frame.now in
     let first = recording_after s k f c.in_ok-before.before c.args.handles.now c.play_lines.new.handles c.args.context.now c.play_lines.new.calls c.requires.at c.requires.there (subst (λ (ls : List _). LinesPlayed s.names (map resource_line_seen ls) c.in_ok-before.before c.args.context.now.book c.play_lines.new.calls.book c.args.handles.now c.play_lines.new.handles) c.as_slice.ensures (subst (λ (ns : List _). LinesPlayed (map name_seen ns) (map resource_line_seen c.as_slice.result.now) c.in_ok-before.before c.args.context.now.book c.play_lines.new.calls.book c.args.handles.now c.play_lines.new.handles) c.as_slice-names.ensures c.in_ok-before.ensures.played)) c.play_lines.ensures.rest in
-    let all : c.record_blocks-all.new.context.begun ≡ s.encoders = c.record_blocks-all.ensures.all c.in_ok-beside.ensures.played.0 in
+    let all : c.record_blocks-all.new.context.begun ≡ s.encoders = c.record_blocks-all.ensures.all c.in-Ok.ensures.played.0 in
     let begun : HasBegun s.encoders c.play_lines.new.calls c.record_blocks-all.new.context = subst (λ n. HasBegun n c.play_lines.new.calls c.record_blocks-all.new.context) all c.record_blocks-all.ensures.same in
-    let last = recorded_after s k f c.in_ok-beside.beside c.play_lines.new.handles c.play_beside-beside.new.handles c.play_lines.new.calls c.record_blocks-all.new.context c.play_beside-beside.new.context first.0 begun c.in_ok-beside.ensures.played.1 c.play_beside-beside.ensures.rest first.3 in
+    let last = recorded_after s k f c.in-Ok.beside c.play_lines.new.handles c.play_beside-beside.new.handles c.play_lines.new.calls c.record_blocks-all.new.context c.play_beside-beside.new.context first.0 begun c.in-Ok.ensures.played.1 c.play_beside-beside.ensures.rest first.3 in
     let kept = rest_kept s.encoders c.args.context.now c.play_lines.new.calls c.record_blocks-all.new.context c.play_beside-beside.new.context c.play_lines.ensures.rest begun c.play_beside-beside.ensures.rest in
     ended_since c.end_frame.result s c.play_beside-beside.new.context.book.resources.frame k f c.play_beside-beside.new.handles c.args.context.now c.play_beside-beside.new.context c.end_frame.new.context
     (number_recorded s k f c.play_beside-beside.new.handles c.play_beside-beside.new.context last.0) kept.0 c.end_frame.ensures.ended
@@ -86,9 +87,9 @@ returns-clause-back g c =
     let k = c.args.context.now.book.resources.frame in
     let f = frame_seen c.args.frame.now in
     let first = recording_after s k f c.in_ok-before.before c.args.handles.now c.play_lines.new.handles c.args.context.now c.play_lines.new.calls c.requires.at c.requires.there (subst (λ (ls : List _). LinesPlayed s.names (map resource_line_seen ls) c.in_ok-before.before c.args.context.now.book c.play_lines.new.calls.book c.args.handles.now c.play_lines.new.handles) c.as_slice.ensures (subst (λ (ns : List _). LinesPlayed (map name_seen ns) (map resource_line_seen c.as_slice.result.now) c.in_ok-before.before c.args.context.now.book c.play_lines.new.calls.book c.args.handles.now c.play_lines.new.handles) c.as_slice-names.ensures c.in_ok-before.ensures.played)) c.play_lines.ensures.rest in
-    let all : c.record_blocks-all.new.context.begun ≡ s.encoders = c.record_blocks-all.ensures.all c.in_ok-beside.ensures.played.0 in
+    let all : c.record_blocks-all.new.context.begun ≡ s.encoders = c.record_blocks-all.ensures.all c.in-Ok.ensures.played.0 in
     let begun : HasBegun s.encoders c.play_lines.new.calls c.record_blocks-all.new.context = subst (λ n. HasBegun n c.play_lines.new.calls c.record_blocks-all.new.context) all c.record_blocks-all.ensures.same in
-    let last = recorded_after s k f c.in_ok-beside.beside c.play_lines.new.handles c.play_beside-beside.new.handles c.play_lines.new.calls c.record_blocks-all.new.context c.play_beside-beside.new.context first.0 begun c.in_ok-beside.ensures.played.1 c.play_beside-beside.ensures.rest first.3 in
+    let last = recorded_after s k f c.in-Ok.beside c.play_lines.new.handles c.play_beside-beside.new.handles c.play_lines.new.calls c.record_blocks-all.new.context c.play_beside-beside.new.context first.0 begun c.in-Ok.ensures.played.1 c.play_beside-beside.ensures.rest first.3 in
     let kept = rest_kept s.encoders c.args.context.now c.play_lines.new.calls c.record_blocks-all.new.context c.play_beside-beside.new.context c.play_lines.ensures.rest begun c.play_beside-beside.ensures.rest in
     back_since c.end_frame.result c.args.context.now c.play_beside-beside.new.context c.end_frame.new.context kept.1 c.end_frame.ensures.back
 
@@ -98,7 +99,15 @@ returns-clause-allowed g c =
     let k = c.args.context.now.book.resources.frame in
     let f = frame_seen c.args.frame.now in
     let first = recording_after s k f c.in_ok-before.before c.args.handles.now c.play_lines.new.handles c.args.context.now c.play_lines.new.calls c.requires.at c.requires.there (subst (λ (ls : List _). LinesPlayed s.names (map resource_line_seen ls) c.in_ok-before.before c.args.context.now.book c.play_lines.new.calls.book c.args.handles.now c.play_lines.new.handles) c.as_slice.ensures (subst (λ (ns : List _). LinesPlayed (map name_seen ns) (map resource_line_seen c.as_slice.result.now) c.in_ok-before.before c.args.context.now.book c.play_lines.new.calls.book c.args.handles.now c.play_lines.new.handles) c.as_slice-names.ensures c.in_ok-before.ensures.played)) c.play_lines.ensures.rest in
-    let all : c.record_blocks-all.new.context.begun ≡ s.encoders = c.record_blocks-all.ensures.all c.in_ok-beside.ensures.played.0 in
+    let all : c.record_blocks-all.new.context.begun ≡ s.encoders = c.record_blocks-all.ensures.all c.in-Ok.ensures.played.0 in
     let begun : HasBegun s.encoders c.play_lines.new.calls c.record_blocks-all.new.context = subst (λ n. HasBegun n c.play_lines.new.calls c.record_blocks-all.new.context) all c.record_blocks-all.ensures.same in
-    let last = recorded_after s k f c.in_ok-beside.beside c.play_lines.new.handles c.play_beside-beside.new.handles c.play_lines.new.calls c.record_blocks-all.new.context c.play_beside-beside.new.context first.0 begun c.in_ok-beside.ensures.played.1 c.play_beside-beside.ensures.rest first.3 in
+    let last = recorded_after s k f c.in-Ok.beside c.play_lines.new.handles c.play_beside-beside.new.handles c.play_lines.new.calls c.record_blocks-all.new.context c.play_beside-beside.new.context first.0 begun c.in-Ok.ensures.played.1 c.play_beside-beside.ensures.rest first.3 in
     allowed_since c.end_frame.result (order_seen c.args.order) c.play_beside-beside.new.context.book.resources.frame k (number_recorded s k f c.play_beside-beside.new.handles c.play_beside-beside.new.context last.0) c.end_frame.ensures.allowed
+
+pub collect-requires : goal.collect-requires
+collect-requires g c =
+    subst (λ (n : ℕ). g.W.Recorders.owes c.record_blocks-all.new.recorders n) (sym (ap length (off_kept c.record_blocks-all.new.context c.play_beside-beside.new.context c.play_beside-beside.ensures.rest))) c.record_blocks-all.ensures.owes
+
+pub end_frame-requires-clause-owes : goal.end_frame-requires-clause-owes
+end_frame-requires-clause-owes g c κs within =
+    subst (λ (n : ℕ). g.W.Recorders.owes c.record_blocks-all.new.recorders n) (sym (ap length (off_kept c.record_blocks-all.new.context c.play_beside-beside.new.context c.play_beside-beside.ensures.rest))) c.record_blocks-all.ensures.owes

@@ -23,6 +23,8 @@ loop-frame-init g c = record {
   outcome = c.requires.told.2 ∙ sym (ap first_outcome c.requires.none.1);
   lists = (c.args.told.now.lists.ok.0 ∙ ap length c.requires.told.0, c.requires.room.0);
   notes = (c.args.told.now.notes.ok.0 ∙ ap length c.requires.told.1, c.requires.room.1);
+  none_off = c.requires.none_off;
+  owes = c.requires.owes;
   origin = refl;
 }
 
@@ -59,6 +61,8 @@ loop-frame-preserved g c =
       outcome = c.add.ensures.outcome ∙ ap (λ o. first_after o c.in-Ok.ended.back) was.outcome ∙ sym c.in-Ok.ensures.back;
       lists = (room_more c.add.new.self.lists.ok.0 (ap length c.add.ensures.lists.0 ∙ length-append c.loop-frame.told.lists.items _) c.loop-frame.told.lists.ok.0 was.lists.0, subst (λ n. length c.args.scene.now.frames ≤ n) (sym c.add.ensures.lists.1) was.lists.1);
       notes = (room_more c.add.new.self.notes.ok.0 (ap length c.add.ensures.notes.0 ∙ length-append c.loop-frame.told.notes.items _) c.loop-frame.told.notes.ok.0 was.notes.0, subst (λ n. length c.args.scene.now.frames ≤ n) (sym c.add.ensures.notes.1) was.notes.1);
+      none_off = c.play_frame-played.ensures.none_off;
+      owes = c.play_frame-played.ensures.owes;
       origin = c.play_frame-played.ensures.origin ∙ was.origin;
     }
 

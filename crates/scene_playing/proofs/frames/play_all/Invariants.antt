@@ -1,4 +1,4 @@
-use Rattle.std.proofs.Common.{◌≡◌, ◌≤◌, ℕ, map, length, vec_len, vec_capacity}
+use Rattle.std.proofs.Common.{◌≡◌, ◌≤◌, ℕ, map, length, [], vec_len, vec_capacity}
 use Rattle.gfx_words.specs.Seen.{entry_seen}
 use Rattle.scene_text.specs.Seen.{scene_seen}
 use Rattle.render_core.specs.Ended.{first_outcome}
@@ -16,5 +16,7 @@ invariant-loop-frame g l = record {
   outcome : l.told.outcome ≡ first_outcome l.context.back;
   lists : (vec_len l.told.lists ≡ l.frame-index) × (length l.scene.frames ≤ vec_capacity l.told.lists);
   notes : (vec_len l.told.notes ≡ l.frame-index) × (length l.scene.frames ≤ vec_capacity l.told.notes);
+  none_off : l.context.seat.off ≡ [];
+  owes : g.W.Recorders.owes l.recorders 0;
   origin : g.L.FrameLink.origin l.context.link ≡ g.L.FrameLink.origin l.fn.context.link;
 }

@@ -13,10 +13,10 @@ use Rattle.frame_keeping.proofs.Shown.{shown_more}
 use Rattle.frame_keeping.proofs.keeping.KeepingLinkFrameLink.give.Goals as goal
 
 pub give_here-frame-requires-clause-slot : goal.give_here-frame-requires-clause-slot
-give_here-frame-requires-clause-slot g c = let a = c.args.self.now in headed _ _ _ _ (a.has ∙ next_slot _ _ _ _ c.requires.room a.next_is)
+give_here-frame-requires-clause-slot c = let a = c.args.self.now in headed _ _ _ _ (a.has ∙ next_slot _ _ _ _ c.requires.room a.next_is)
 
 pub invariant_of-self : goal.invariant_of-self
-invariant_of-self g c =
+invariant_of-self c =
     let a = c.args.self.now in
     let v = a.seat.me.0 in
     let f = c.args.frame in

@@ -4,12 +4,13 @@ use Rattle.gfx_context.proofs.Linked.{linked_ended, linked_given}
 use Rattle.gfx_context.proofs.Finish.{made_none, made_some, finishes_none, finishes_some}
 use Rattle.gfx_context.proofs.context.Context.finish.Goals as goal
 
-pub give-requires-clause-room : goal.give-requires-clause-room
-give-requires-clause-room g c =
+pub give-requires : goal.give-requires
+give-requires g c =
     let f = made_some c.args.given c.args.prepared.work c.finish-frame.result.frame c.in-Some.frame c.self.inside.core c.finish-frame.new.self c.in-Some.is c.finish-frame.ensures.answer in
     let few : c.self.inside.core.state.out < c.self.inside.core.state.book.resources.latency = subst (λ (o : ContextView g.row.L.Denot). o.out < o.book.resources.latency) (sym c.self.view_is) (c.requires.out f.0) in
     let counted = c.self.invariant.frames.counted in
-    let late = c.self.invariant.latency_is in omega (arith, few, counted, late)
+    let late = c.self.invariant.latency_is in
+    record { room = omega (arith, few, counted, late) }
 
 pub invariant_of-self : goal.invariant_of-self
 invariant_of-self g c =

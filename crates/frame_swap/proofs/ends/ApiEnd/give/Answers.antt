@@ -4,23 +4,23 @@ use Rattle.frame_swap.specs.declared.content.Content.TheVariants.{Given}
 use Rattle.frame_swap.specs.Views.{SwapView, Slots, empty_slots, gave}
 use Rattle.frame_swap.proofs.Steps.{gives_keep}
 use Rattle.frame_swap.proofs.Slots.{next_slot, next_place, headed, first_value}
-use Rattle.frame_swap.proofs.ends.ApiEndFrameLink.give.Goals as goal
+use Rattle.frame_swap.proofs.ends.ApiEnd.give.Goals as goal
 
 pub exchange-requires : goal.exchange-requires
-exchange-requires g c =
+exchange-requires c =
     let a = c.args.self.now in
     let was = a.has ∙ next_slot _ _ _ _ c.requires.room a.next_is in
     (search rules, (None, headed _ _ _ _ was))
 
 pub unreachable-requires : goal.unreachable-requires
-unreachable-requires g c =
+unreachable-requires c =
     let a = c.args.self.now in
     let was = a.has ∙ next_slot _ _ _ _ c.requires.room a.next_is in
     let same : None ≡ Some c.in-Some.field-0 = ap first_value (sym was ∙ c.exchange.ensures.2) ∙ c.in-Some.is in
     absurd (cc same)
 
 pub store-requires : goal.store-requires
-store-requires g c =
+store-requires c =
     let a = c.args.self.now in
     let was = a.has ∙ next_slot _ _ _ _ c.requires.room a.next_is in
     let now = c.exchange.ensures.3 in
@@ -31,7 +31,7 @@ store-requires g c =
     )
 
 pub returns-clause-view : goal.returns-clause-view
-returns-clause-view g c =
+returns-clause-view c =
     let a = c.args.self.now in
     let was = a.has ∙ next_slot _ _ _ _ c.requires.room a.next_is in
     let now = c.exchange.ensures.3 in
@@ -39,7 +39,7 @@ returns-clause-view g c =
     ap (λ m. m.0) (c.store.ensures.2 c.args.frame _ full) ∙ ap (λ m. gave c.args.frame m.0) now
 
 pub invariant_of-self : goal.invariant_of-self
-invariant_of-self g c =
+invariant_of-self c =
     let a = c.args.self.now in
     let was = a.has ∙ next_slot _ _ _ _ c.requires.room a.next_is in
     let now = c.exchange.ensures.3 in

@@ -1,0 +1,89 @@
+// Scenes as text, as C plays them.
+use crate::c_play::gfx_play;
+use crate::playing::Played;
+use std::test::Fail;
+
+const BEFORE: Played = Played {
+    pictures: 7,
+    report: 7,
+    line: 7,
+    cause: 7,
+};
+
+fn told(played: &Played) -> (usize, usize, u32, u32) {
+    (played.pictures, played.report, played.line, played.cause)
+}
+
+// Two frames of one pixel, the first red; a line of the second is dropped.
+const TWO_FRAMES: &[u8] = b"scene 2
+size 1 1
+encoders 2
+latency 2
+frame
+view 0 clear 1 ff0000ff 0 0
+encoder 0
+touch 0
+encoder 1
+touch 0
+frame
+view 0 clear 1 00ff00ff 0 0
+encoder 1
+touch 0
+touch 512
+done
+";
+
+const TWO_PICTURES: &[u8] = b"P6\n1 1\n255\n\xff\0\0P6\n1 1\n255\n\0\xff\0";
+
+const TWO_LINES: &[u8] = b"frame 0 items 2 dropped 0\nframe 1 items 1 dropped 1\n";
+
+#[test]
+fn a_scene_is_played(rt: HostRuntime) -> Result<(), Fail> {
+    let alloc = rt.alloc();
+    let mut pictures = vec![in alloc; 9u8; 30]?;
+    let mut report = vec![in alloc; 9u8; 53]?;
+    let mut played = BEFORE;
+    let status = gfx_play(alloc, TWO_FRAMES, &mut pictures, &mut report, &mut played);
+    assert_eq!(rt; status, 0);
+    assert_eq!(rt; told(&played), (28, 52, 0, 0));
+    assert_eq!(rt; &pictures[..28], TWO_PICTURES);
+    assert_eq!(rt; &pictures[28..], [9, 9].as_slice());
+    assert_eq!(rt; &report[..52], TWO_LINES);
+    assert_eq!(rt; &report[52..], [9].as_slice());
+    Ok(())
+}
+
+#[test]
+fn a_buffer_is_too_small(rt: HostRuntime) -> Result<(), Fail> {
+    let alloc = rt.alloc();
+    for (pictures, report) in [(27, 52), (28, 51), (0, 0)] {
+        let mut pictures = vec![in alloc; 9u8; pictures]?;
+        let mut report = vec![in alloc; 9u8; report]?;
+        let mut played = BEFORE;
+        let status = gfx_play(alloc, TWO_FRAMES, &mut pictures, &mut report, &mut played);
+        assert_eq!(rt; status, 103);
+        assert_eq!(rt; told(&played), (28, 52, 0, 0));
+        assert!(rt; pictures.iter().all(|byte| *byte == 9));
+        assert!(rt; report.iter().all(|byte| *byte == 9));
+    }
+    Ok(())
+}
+
+#[test]
+fn no_scene(rt: HostRuntime) -> Result<(), Fail> {
+    let alloc = rt.alloc();
+    let mut pictures = vec![in alloc; 9u8; 30]?;
+    let mut report = vec![in alloc; 9u8; 60]?;
+    let mut played = BEFORE;
+    let text = b"scene 1\nsize 1 x\n";
+    let status = gfx_play(alloc, text, &mut pictures, &mut report, &mut played);
+    assert_eq!(rt; status, 106);
+    assert_eq!(rt; told(&played), (0, 0, 2, 6));
+    let long = vec![in alloc; 0u8; 16_777_217]?;
+    let status = gfx_play(alloc, &long, &mut pictures, &mut report, &mut played);
+    assert_eq!(rt; status, 107);
+    assert_eq!(rt; told(&played), (0, 0, 2, 6));
+    assert!(rt; pictures.iter().all(|byte| *byte == 9));
+    assert!(rt; report.iter().all(|byte| *byte == 9));
+    Ok(())
+}
