@@ -14,7 +14,7 @@
  *
  * Statuses. Each call answers 0 or why it did nothing. After any answer but 0 all is as it was, except where a call says otherwise. Where
  * several reasons hold, the first in the order of the call's list is answered. GFX_OUT_OF_MEMORY comes from the calls alone that list it; it is
- * the last, but from gfx_init, gfx_begin and gfx_create_texture it may come before others.
+ * the last, but from gfx_init, gfx_begin, gfx_create_texture and gfx_play it may come before others.
  */
 #ifndef GFX_H
 #define GFX_H
@@ -86,12 +86,18 @@ typedef struct gfx_framed { uint32_t number; size_t picture; uint64_t dropped; }
  * that fails, from 1, and the cause, 1 to 12 (docs/formats.md). */
 typedef struct gfx_played { size_t pictures, report; uint32_t line, cause; } gfx_played;
 
-/* ---- a scene as text; it needs no context, and may be called by several threads at once, each with its own buffers */
+/* ---- a scene as text; it needs no context, and may be called by several threads at once, each with its own
+ * buffers and its own `played`; they may share the text */
 
 /* Plays a scene's text (docs/formats.md) on the calling thread, and writes the P6 texts of its pictures one behind the other, and its report: a
- * line for each frame with its items and its dropped lines. It is what the program gfx_play writes in the mode `play`. What the buffers have
- * behind that is as before. GFX_TOO_LONG; GFX_NO_SCENE with the line and the cause; GFX_TOO_SMALL where a buffer is too small, with the
- * lengths that are wanted, which are those of any play of this text; GFX_OUT_OF_MEMORY. After all of these the buffers are as before. */
+ * line for each frame with its items and its dropped lines. It is one of the outputs that the program gfx_play can write in the mode `play`,
+ * by the order of one encoder after another; where no two encoders of a frame share a key in a view, every run has these pictures. What the
+ * buffers have behind that is as before.
+ * GFX_TOO_LONG; GFX_NO_SCENE with the line and the cause; GFX_TOO_SMALL where a buffer is too small, with the lengths that are wanted;
+ * GFX_OUT_OF_MEMORY. After all of these the buffers are as before. After GFX_DONE and GFX_TOO_SMALL `line` and `cause` are 0; after
+ * GFX_NO_SCENE `pictures` and `report` are 0; after GFX_TOO_LONG and GFX_OUT_OF_MEMORY `played` is as before.
+ * The whole scene is played before the lengths are known, also where a buffer is too small; till then the library keeps all pictures in
+ * memory of its own. A picture has at most GFX_PICTURE_BYTES(width, height) bytes. */
 gfx_status gfx_play(const uint8_t *text, size_t text_length, uint8_t *pictures, size_t pictures_length, uint8_t *report, size_t report_length, gfx_played *played);
 
 /* ---- a context; each of its calls by one thread at a time */

@@ -250,8 +250,8 @@ static void play_lines(char *text) {
 
 static void play_text(const char *text, size_t n) {
     gfx_played played = {0, 0, 0, 0};
-    uint8_t none = 0;
-    uint8_t *pictures = &none, *report = &none;
+    uint8_t none[2] = {0, 0};
+    uint8_t *pictures = &none[0], *report = &none[1];
     size_t pictures_length = 0, report_length = 0;
     gfx_status status = gfx_play((const uint8_t *)text, n, pictures, 0, report, 0, &played);
     if (status == GFX_TOO_SMALL) {

@@ -14,8 +14,8 @@ use std::alloc::Global;
 use std::marker::Model;
 use std::sync::Arc;
 
-/// A job that is recorded line by line, for a replay that records several encoders on one thread in a given order. What it will
-/// have recorded at its end is admitted by its type. Contracts see a `StepsView`.
+/// A job that is recorded line by line, for a play that records several encoders on one thread, in a given order or one
+/// after another. What it will have recorded at its end is admitted by its type. Contracts see a `StepsView`.
 #[derive(Drop)]
 pub struct Steps<'t, C: Naming> {
     encoder: Encoder<'t, C>,

@@ -19,13 +19,13 @@ AreHandedOut _ shown told p q r s = ⊥
 abbrev pub IsShownOut : PlayEnd → (text pictures pictures_after report report_after : List ℕ) → Type 0
 IsShownOut e text p q r s = (run : Run) × IsPlayed false text run × (run.ending ≡ all_done) × AreHandedOut e run.pictures run.noted p q r s
 
--- what stands after a play that ends so; the buffers are as before wherever it is not done
+-- what stands after a play that ends so; the buffers are as before wherever it is not done. Memory is not wanting of a text that is too long
 abbrev pub Plays : PlayEnd → (text pictures pictures_after report report_after : List ℕ) → Type 0
 Plays (Done m n) text p q r s = IsShownOut (Done m n) text p q r s
 Plays (TooSmall m n) text p q r s = IsShownOut (TooSmall m n) text p q r s
 Plays (NoScene line cause) text p q r s = (run : Run) × IsPlayed false text run × (run.ending ≡ scene_refused line cause) × (q ≡ p) × (s ≡ r)
 Plays TooLong text p q r s = (longest_input < length text) × (q ≡ p) × (s ≡ r)
-Plays OutOfMemory text p q r s = (q ≡ p) × (s ≡ r)
+Plays OutOfMemory text p q r s = (length text ≤ longest_input) × (q ≡ p) × (s ≡ r)
 
 -- the number that C sees
 abbrev pub end_number : PlayEnd → ℕ

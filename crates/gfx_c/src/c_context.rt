@@ -8,9 +8,9 @@ ghost use Rattle.gfx_c.specs.Opening.{Opens, BeginsInto, opened_into, begun_into
 
 use crate::context::Context;
 use crate::encoder::Encoder;
-use crate::held::{put_context, put_encoder, take_context};
+use crate::held::{put_context, put_encoder};
 use crate::objects::Object;
-use crate::slot::{Slot, is_null};
+use crate::slot::{Slot, is_null, put, take};
 use c_words::{Fault, NO_OBJECT};
 use context_core::Room;
 use gfx_words::Refusal;
@@ -57,12 +57,20 @@ fn begin_for(
     requires { encoder.old.value ≡ None }
     ensures { OnContext context.old.value context.new.value result (λ r c d. (encoder.new.value ≡ begun_into r) × BeginsHere r (room_seen room) c d) (encoder.new.value ≡ None) }
 {
-    let Some((object, mut api)) = take_context(context, alloc) else {
+    let Some(mut object) = take(context, alloc) else {
         return NO_OBJECT;
     };
-    let begun = api.begin(room);
-    put_context(context, object, api);
-    hand_encoder(encoder, blank, begun)
+    match &mut *object {
+        Object::Api(api) => {
+            let begun = api.begin(room);
+            put(context, object);
+            hand_encoder(encoder, blank, begun)
+        }
+        _ => {
+            put(context, object);
+            NO_OBJECT
+        }
+    }
 }
 
 /// Makes a context, whose pictures have these sides, for a handle that is null.
@@ -85,9 +93,15 @@ pub extern "C" fn gfx_init(alloc: Global, context: &mut Slot, width: u16, height
 pub extern "C" fn gfx_shutdown(alloc: Global, context: &mut Slot) -> u32
     ensures { ShutsDown context.old.value context.new.value result }
 {
-    match take_context(context, alloc) {
-        Some(_given_up) => 0,
-        None => NO_OBJECT,
+    let Some(object) = take(context, alloc) else {
+        return NO_OBJECT;
+    };
+    match &*object {
+        Object::Api(_) => 0,
+        _ => {
+            put(context, object);
+            NO_OBJECT
+        }
     }
 }
 
@@ -122,12 +136,20 @@ pub extern "C" fn gfx_begin(
 pub extern "C" fn gfx_collect(alloc: Global, context: &mut Slot, off: &mut u32) -> u32
     ensures { OnContext context.old.value context.new.value result (λ r c d. (r ≡ Ok (tt {0})) × Collects off.new c d) (off.new ≡ off.old) }
 {
-    let Some((object, mut api)) = take_context(context, alloc) else {
+    let Some(mut object) = take(context, alloc) else {
         return NO_OBJECT;
     };
-    *off = api.collect();
-    put_context(context, object, api);
-    0
+    match &mut *object {
+        Object::Api(api) => {
+            *off = api.collect();
+            put(context, object);
+            0
+        }
+        _ => {
+            put(context, object);
+            NO_OBJECT
+        }
+    }
 }
 
 /// Tells the number of the frame that is recorded.
@@ -135,10 +157,18 @@ pub extern "C" fn gfx_collect(alloc: Global, context: &mut Slot, off: &mut u32) 
 pub extern "C" fn gfx_frame_number(alloc: Global, context: &mut Slot, number: &mut u32) -> u32
     ensures { OnContext context.old.value context.new.value result (λ r c d. (r ≡ Ok (tt {0})) × (d ≡ c) × (number.new ≡ c.core.state.book.resources.frame)) (number.new ≡ number.old) }
 {
-    let Some((object, api)) = take_context(context, alloc) else {
+    let Some(mut object) = take(context, alloc) else {
         return NO_OBJECT;
     };
-    *number = api.frame_number();
-    put_context(context, object, api);
-    0
+    match &mut *object {
+        Object::Api(api) => {
+            *number = api.frame_number();
+            put(context, object);
+            0
+        }
+        _ => {
+            put(context, object);
+            NO_OBJECT
+        }
+    }
 }

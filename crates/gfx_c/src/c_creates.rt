@@ -8,8 +8,8 @@ ghost use Rattle.gfx_c.specs.Exports.{OnContext, word_after};
 ghost use Rattle.c_words.specs.Layouts.{parts_of};
 ghost use Rattle.c_words.specs.Statuses.{status_of};
 
-use crate::held::{put_context, take_context};
-use crate::slot::Slot;
+use crate::objects::Object;
+use crate::slot::{Slot, put, take};
 use c_words::{Fault, NO_OBJECT, Part};
 use gfx_words::Handle;
 use std::alloc::Global;
@@ -38,12 +38,20 @@ pub extern "C" fn gfx_create_layout(
 ) -> u32
     ensures { OnContext context.old.value context.new.value result (λ r c d. (thing.new ≡ word_after r thing.old) × MakesLayout (parts_of parts.now) r c d) (thing.new ≡ thing.old) }
 {
-    let Some((object, mut api)) = take_context(context, alloc) else {
+    let Some(mut object) = take(context, alloc) else {
         return NO_OBJECT;
     };
-    let answer = api.create_layout(parts);
-    put_context(context, object, api);
-    word(answer, thing)
+    match &mut *object {
+        Object::Api(api) => {
+            let answer = api.create_layout(parts);
+            put(context, object);
+            word(answer, thing)
+        }
+        _ => {
+            put(context, object);
+            NO_OBJECT
+        }
+    }
 }
 
 /// Makes a vertex buffer of a layout.
@@ -57,12 +65,20 @@ pub extern "C" fn gfx_create_vertex_buffer(
 ) -> u32
     ensures { OnContext context.old.value context.new.value result (λ r c d. (thing.new ≡ word_after r thing.old) × OnThing c.rows layout r c d (λ h. CreatesHere r (model.create_vertex_buffer h bytes.now) c d)) (thing.new ≡ thing.old) }
 {
-    let Some((object, mut api)) = take_context(context, alloc) else {
+    let Some(mut object) = take(context, alloc) else {
         return NO_OBJECT;
     };
-    let answer = api.create_vertex_buffer(layout, bytes);
-    put_context(context, object, api);
-    word(answer, thing)
+    match &mut *object {
+        Object::Api(api) => {
+            let answer = api.create_vertex_buffer(layout, bytes);
+            put(context, object);
+            word(answer, thing)
+        }
+        _ => {
+            put(context, object);
+            NO_OBJECT
+        }
+    }
 }
 
 /// Makes an index buffer, of indices of two bytes.
@@ -75,12 +91,20 @@ pub extern "C" fn gfx_create_index_buffer(
 ) -> u32
     ensures { OnContext context.old.value context.new.value result (λ r c d. (thing.new ≡ word_after r thing.old) × CreatesHere r (model.create_index_buffer bytes.now) c d) (thing.new ≡ thing.old) }
 {
-    let Some((object, mut api)) = take_context(context, alloc) else {
+    let Some(mut object) = take(context, alloc) else {
         return NO_OBJECT;
     };
-    let answer = api.create_index_buffer(bytes);
-    put_context(context, object, api);
-    word(answer, thing)
+    match &mut *object {
+        Object::Api(api) => {
+            let answer = api.create_index_buffer(bytes);
+            put(context, object);
+            word(answer, thing)
+        }
+        _ => {
+            put(context, object);
+            NO_OBJECT
+        }
+    }
 }
 
 /// Makes a texture of texels of four bytes. A `blit` of 0 makes one that no blit may write.
@@ -97,12 +121,20 @@ pub extern "C" fn gfx_create_texture(
 ) -> u32
     ensures { OnContext context.old.value context.new.value result (λ r c d. (thing.new ≡ word_after r thing.old) × MatchOption (format_of_number format) ((r ≡ Err faults.BadValue) × (d ≡ c)) (λ f. CreatesOrWants r (model.create_texture width height f (nat_lt 0 blit) (model.bytes_source bytes.now)) c d)) (thing.new ≡ thing.old) }
 {
-    let Some((object, mut api)) = take_context(context, alloc) else {
+    let Some(mut object) = take(context, alloc) else {
         return NO_OBJECT;
     };
-    let answer = api.create_texture(width, height, format, blit > 0, bytes);
-    put_context(context, object, api);
-    word(answer, thing)
+    match &mut *object {
+        Object::Api(api) => {
+            let answer = api.create_texture(width, height, format, blit > 0, bytes);
+            put(context, object);
+            word(answer, thing)
+        }
+        _ => {
+            put(context, object);
+            NO_OBJECT
+        }
+    }
 }
 
 /// Makes a texture all of whose texels are these four bytes.
@@ -122,18 +154,26 @@ pub extern "C" fn gfx_create_filled_texture(
 ) -> u32
     ensures { OnContext context.old.value context.new.value result (λ r c d. (thing.new ≡ word_after r thing.old) × MatchOption (format_of_number format) ((r ≡ Err faults.BadValue) × (d ≡ c)) (λ f. CreatesHere r (model.create_texture width height f (nat_lt 0 blit) (model.fill_source (red ∷ green ∷ blue ∷ alpha ∷ []))) c d)) (thing.new ≡ thing.old) }
 {
-    let Some((object, mut api)) = take_context(context, alloc) else {
+    let Some(mut object) = take(context, alloc) else {
         return NO_OBJECT;
     };
-    let answer = api.create_filled_texture(
-        width,
-        height,
-        format,
-        blit > 0,
-        [red, green, blue, alpha],
-    );
-    put_context(context, object, api);
-    word(answer, thing)
+    match &mut *object {
+        Object::Api(api) => {
+            let answer = api.create_filled_texture(
+                width,
+                height,
+                format,
+                blit > 0,
+                [red, green, blue, alpha],
+            );
+            put(context, object);
+            word(answer, thing)
+        }
+        _ => {
+            put(context, object);
+            NO_OBJECT
+        }
+    }
 }
 
 /// Makes a frame buffer of a colour texture, and of a depth texture or none by 0.
@@ -147,12 +187,20 @@ pub extern "C" fn gfx_create_frame_buffer(
 ) -> u32
     ensures { OnContext context.old.value context.new.value result (λ r c d. (thing.new ≡ word_after r thing.old) × OnThing c.rows color r c d (λ h. OnMaybe c.rows depth r c d (λ o. CreatesHere r (model.create_frame_buffer h o) c d))) (thing.new ≡ thing.old) }
 {
-    let Some((object, mut api)) = take_context(context, alloc) else {
+    let Some(mut object) = take(context, alloc) else {
         return NO_OBJECT;
     };
-    let answer = api.create_frame_buffer(color, depth);
-    put_context(context, object, api);
-    word(answer, thing)
+    match &mut *object {
+        Object::Api(api) => {
+            let answer = api.create_frame_buffer(color, depth);
+            put(context, object);
+            word(answer, thing)
+        }
+        _ => {
+            put(context, object);
+            NO_OBJECT
+        }
+    }
 }
 
 /// Makes a program: 0 the colour uniform, 1 the vertex colour, 2 the sample, 3 the product of the last two.
@@ -165,12 +213,20 @@ pub extern "C" fn gfx_create_program(
 ) -> u32
     ensures { OnContext context.old.value context.new.value result (λ r c d. (thing.new ≡ word_after r thing.old) × MatchOption (program_of_number program) ((r ≡ Err faults.BadValue) × (d ≡ c)) (λ k. CreatesHere r (model.create_program k) c d)) (thing.new ≡ thing.old) }
 {
-    let Some((object, mut api)) = take_context(context, alloc) else {
+    let Some(mut object) = take(context, alloc) else {
         return NO_OBJECT;
     };
-    let answer = api.create_program(program);
-    put_context(context, object, api);
-    word(answer, thing)
+    match &mut *object {
+        Object::Api(api) => {
+            let answer = api.create_program(program);
+            put(context, object);
+            word(answer, thing)
+        }
+        _ => {
+            put(context, object);
+            NO_OBJECT
+        }
+    }
 }
 
 /// Makes a uniform, 0 of four numbers and 1 of one, or refers to the live one of that name once more.
@@ -184,10 +240,18 @@ pub extern "C" fn gfx_create_uniform(
 ) -> u32
     ensures { OnContext context.old.value context.new.value result (λ r c d. (thing.new ≡ word_after r thing.old) × MatchOption (uniform_of_number kind) ((r ≡ Err faults.BadValue) × (d ≡ c)) (λ k. CreatesHere r (model.create_uniform name.now k) c d)) (thing.new ≡ thing.old) }
 {
-    let Some((object, mut api)) = take_context(context, alloc) else {
+    let Some(mut object) = take(context, alloc) else {
         return NO_OBJECT;
     };
-    let answer = api.create_uniform(name, kind);
-    put_context(context, object, api);
-    word(answer, thing)
+    match &mut *object {
+        Object::Api(api) => {
+            let answer = api.create_uniform(name, kind);
+            put(context, object);
+            word(answer, thing)
+        }
+        _ => {
+            put(context, object);
+            NO_OBJECT
+        }
+    }
 }

@@ -5,8 +5,8 @@ ghost use Rattle.gfx_c.specs.Frames.{FramesHere, framed_after};
 ghost use Rattle.c_words.specs.Statuses.{status_of};
 
 use crate::frame::Framed;
-use crate::held::{put_context, take_context};
-use crate::slot::Slot;
+use crate::objects::Object;
+use crate::slot::{Slot, put, take};
 use c_words::{Fault, NO_OBJECT};
 use std::alloc::Global;
 
@@ -34,10 +34,18 @@ pub extern "C" fn gfx_frame(
 ) -> u32
     ensures { OnContext context.old.value context.new.value result (λ r c d. FramesHere r picture.old picture.new c d × (framed.new ≡ framed_after r framed.old)) ((picture.new ≡ picture.old) × (framed.new ≡ framed.old)) }
 {
-    let Some((object, mut api)) = take_context(context, alloc) else {
+    let Some(mut object) = take(context, alloc) else {
         return NO_OBJECT;
     };
-    let answer = api.frame(picture);
-    put_context(context, object, api);
-    tell(answer, framed)
+    match &mut *object {
+        Object::Api(api) => {
+            let answer = api.frame(picture);
+            put(context, object);
+            tell(answer, framed)
+        }
+        _ => {
+            put(context, object);
+            NO_OBJECT
+        }
+    }
 }

@@ -4,8 +4,8 @@ ghost use Rattle.gfx_model.specs.Resources as model;
 ghost use Rattle.gfx_c.specs.Calls.{DestroysHere, UpdatesHere, OnThing};
 ghost use Rattle.gfx_c.specs.Exports.{OnContext};
 
-use crate::held::{put_context, take_context};
-use crate::slot::Slot;
+use crate::objects::Object;
+use crate::slot::{Slot, put, take};
 use c_words::{NO_OBJECT, status};
 use fix_math::Rect;
 use std::alloc::Global;
@@ -21,12 +21,20 @@ pub extern "C" fn gfx_update_buffer(
 ) -> u32
     ensures { OnContext context.old.value context.new.value result (λ r c d. OnThing c.rows buffer r c d (λ h. UpdatesHere r (model.update_buffer h offset bytes.now) c d)) ⊤ }
 {
-    let Some((object, mut api)) = take_context(context, alloc) else {
+    let Some(mut object) = take(context, alloc) else {
         return NO_OBJECT;
     };
-    let answer = api.update_buffer(buffer, offset, bytes);
-    put_context(context, object, api);
-    status(answer)
+    match &mut *object {
+        Object::Api(api) => {
+            let answer = api.update_buffer(buffer, offset, bytes);
+            put(context, object);
+            status(answer)
+        }
+        _ => {
+            put(context, object);
+            NO_OBJECT
+        }
+    }
 }
 
 /// Changes texels of a texture.
@@ -43,12 +51,20 @@ pub extern "C" fn gfx_update_texture(
 ) -> u32
     ensures { OnContext context.old.value context.new.value result (λ r c d. OnThing c.rows texture r c d (λ thing. UpdatesHere r (model.update_texture thing (record { x = x; y = y; w = w; h = h }) bytes.now) c d)) ⊤ }
 {
-    let Some((object, mut api)) = take_context(context, alloc) else {
+    let Some(mut object) = take(context, alloc) else {
         return NO_OBJECT;
     };
-    let answer = api.update_texture(texture, Rect { x, y, w, h }, bytes);
-    put_context(context, object, api);
-    status(answer)
+    match &mut *object {
+        Object::Api(api) => {
+            let answer = api.update_texture(texture, Rect { x, y, w, h }, bytes);
+            put(context, object);
+            status(answer)
+        }
+        _ => {
+            put(context, object);
+            NO_OBJECT
+        }
+    }
 }
 
 /// Destroys a thing, or takes one reference of a uniform.
@@ -56,10 +72,18 @@ pub extern "C" fn gfx_update_texture(
 pub extern "C" fn gfx_destroy(alloc: Global, context: &mut Slot, thing: u64) -> u32
     ensures { OnContext context.old.value context.new.value result (λ r c d. OnThing c.rows thing r c d (λ h. DestroysHere r h c d)) ⊤ }
 {
-    let Some((object, mut api)) = take_context(context, alloc) else {
+    let Some(mut object) = take(context, alloc) else {
         return NO_OBJECT;
     };
-    let answer = api.destroy(thing);
-    put_context(context, object, api);
-    status(answer)
+    match &mut *object {
+        Object::Api(api) => {
+            let answer = api.destroy(thing);
+            put(context, object);
+            status(answer)
+        }
+        _ => {
+            put(context, object);
+            NO_OBJECT
+        }
+    }
 }

@@ -6,8 +6,8 @@ ghost use Rattle.gfx_c.specs.Calls.{ChangesHere, OnMaybe};
 ghost use Rattle.gfx_c.specs.Exports.{OnContext};
 ghost use Rattle.c_words.specs.Modes.{mode_of_number};
 
-use crate::held::{put_context, take_context};
-use crate::slot::Slot;
+use crate::objects::Object;
+use crate::slot::{Slot, put, take};
 use crate::transform::Transform;
 use c_words::{NO_OBJECT, status};
 use fix_math::{Affine, Rect};
@@ -26,12 +26,20 @@ pub extern "C" fn gfx_set_view_rect(
 ) -> u32
     ensures { OnContext context.old.value context.new.value result (λ r c d. ChangesHere r (model.set_view_rect view (record { x = x; y = y; w = w; h = h })) c d) ⊤ }
 {
-    let Some((object, mut api)) = take_context(context, alloc) else {
+    let Some(mut object) = take(context, alloc) else {
         return NO_OBJECT;
     };
-    let answer = api.set_view_rect(view, Rect { x, y, w, h });
-    put_context(context, object, api);
-    status(answer)
+    match &mut *object {
+        Object::Api(api) => {
+            let answer = api.set_view_rect(view, Rect { x, y, w, h });
+            put(context, object);
+            status(answer)
+        }
+        _ => {
+            put(context, object);
+            NO_OBJECT
+        }
+    }
 }
 
 /// Sets the scissor of a view; with both sides 0 there is none.
@@ -47,12 +55,20 @@ pub extern "C" fn gfx_set_view_scissor(
 ) -> u32
     ensures { OnContext context.old.value context.new.value result (λ r c d. ChangesHere r (model.set_view_scissor view (record { x = x; y = y; w = w; h = h })) c d) ⊤ }
 {
-    let Some((object, mut api)) = take_context(context, alloc) else {
+    let Some(mut object) = take(context, alloc) else {
         return NO_OBJECT;
     };
-    let answer = api.set_view_scissor(view, Rect { x, y, w, h });
-    put_context(context, object, api);
-    status(answer)
+    match &mut *object {
+        Object::Api(api) => {
+            let answer = api.set_view_scissor(view, Rect { x, y, w, h });
+            put(context, object);
+            status(answer)
+        }
+        _ => {
+            put(context, object);
+            NO_OBJECT
+        }
+    }
 }
 
 /// Sets what entering a view clears: 1 the colour, 2 the depth, 4 the stencil.
@@ -71,12 +87,20 @@ pub extern "C" fn gfx_set_view_clear(
 ) -> u32
     ensures { OnContext context.old.value context.new.value result (λ r c d. ChangesHere r (model.set_view_clear view (record { flags = flags; color = red ∷ green ∷ blue ∷ alpha ∷ []; depth = depth; stencil = stencil })) c d) ⊤ }
 {
-    let Some((object, mut api)) = take_context(context, alloc) else {
+    let Some(mut object) = take(context, alloc) else {
         return NO_OBJECT;
     };
-    let answer = api.set_view_clear(view, flags, [red, green, blue, alpha], depth, stencil);
-    put_context(context, object, api);
-    status(answer)
+    match &mut *object {
+        Object::Api(api) => {
+            let answer = api.set_view_clear(view, flags, [red, green, blue, alpha], depth, stencil);
+            put(context, object);
+            status(answer)
+        }
+        _ => {
+            put(context, object);
+            NO_OBJECT
+        }
+    }
 }
 
 /// Sets how a view orders its draws and touches: 0 by program, 1 as they come, 2 by ascending depth, 3 by descending depth.
@@ -84,12 +108,20 @@ pub extern "C" fn gfx_set_view_clear(
 pub extern "C" fn gfx_set_view_mode(alloc: Global, context: &mut Slot, view: u16, mode: u8) -> u32
     ensures { OnContext context.old.value context.new.value result (λ r c d. MatchOption (mode_of_number mode) ((r ≡ Err faults.BadValue) × (d ≡ c)) (λ m. ChangesHere r (model.set_view_mode view m) c d)) ⊤ }
 {
-    let Some((object, mut api)) = take_context(context, alloc) else {
+    let Some(mut object) = take(context, alloc) else {
         return NO_OBJECT;
     };
-    let answer = api.set_view_mode(view, mode);
-    put_context(context, object, api);
-    status(answer)
+    match &mut *object {
+        Object::Api(api) => {
+            let answer = api.set_view_mode(view, mode);
+            put(context, object);
+            status(answer)
+        }
+        _ => {
+            put(context, object);
+            NO_OBJECT
+        }
+    }
 }
 
 /// Sets the transform of a view.
@@ -102,12 +134,20 @@ pub extern "C" fn gfx_set_view_transform(
 ) -> u32
     ensures { OnContext context.old.value context.new.value result (λ r c d. ChangesHere r (model.set_view_transform view transform.now.m) c d) ⊤ }
 {
-    let Some((object, mut api)) = take_context(context, alloc) else {
+    let Some(mut object) = take(context, alloc) else {
         return NO_OBJECT;
     };
-    let answer = api.set_view_transform(view, Affine { m: transform.m });
-    put_context(context, object, api);
-    status(answer)
+    match &mut *object {
+        Object::Api(api) => {
+            let answer = api.set_view_transform(view, Affine { m: transform.m });
+            put(context, object);
+            status(answer)
+        }
+        _ => {
+            put(context, object);
+            NO_OBJECT
+        }
+    }
 }
 
 /// Sets the target of a view, a frame buffer, or the back buffer by 0.
@@ -120,12 +160,20 @@ pub extern "C" fn gfx_set_view_target(
 ) -> u32
     ensures { OnContext context.old.value context.new.value result (λ r c d. OnMaybe c.rows target r c d (λ o. ChangesHere r (model.set_view_target view o) c d)) ⊤ }
 {
-    let Some((object, mut api)) = take_context(context, alloc) else {
+    let Some(mut object) = take(context, alloc) else {
         return NO_OBJECT;
     };
-    let answer = api.set_view_target(view, target);
-    put_context(context, object, api);
-    status(answer)
+    match &mut *object {
+        Object::Api(api) => {
+            let answer = api.set_view_target(view, target);
+            put(context, object);
+            status(answer)
+        }
+        _ => {
+            put(context, object);
+            NO_OBJECT
+        }
+    }
 }
 
 /// Sets the views that come first.
@@ -133,12 +181,20 @@ pub extern "C" fn gfx_set_view_target(
 pub extern "C" fn gfx_set_view_order(alloc: Global, context: &mut Slot, views: &[u16]) -> u32
     ensures { OnContext context.old.value context.new.value result (λ r c d. ChangesHere r (model.set_view_order views.now) c d) ⊤ }
 {
-    let Some((object, mut api)) = take_context(context, alloc) else {
+    let Some(mut object) = take(context, alloc) else {
         return NO_OBJECT;
     };
-    let answer = api.set_view_order(views);
-    put_context(context, object, api);
-    status(answer)
+    match &mut *object {
+        Object::Api(api) => {
+            let answer = api.set_view_order(views);
+            put(context, object);
+            status(answer)
+        }
+        _ => {
+            put(context, object);
+            NO_OBJECT
+        }
+    }
 }
 
 /// Sets a view as it is at first.
@@ -146,10 +202,18 @@ pub extern "C" fn gfx_set_view_order(alloc: Global, context: &mut Slot, views: &
 pub extern "C" fn gfx_reset_view(alloc: Global, context: &mut Slot, view: u16) -> u32
     ensures { OnContext context.old.value context.new.value result (λ r c d. ChangesHere r (model.reset_view view) c d) ⊤ }
 {
-    let Some((object, mut api)) = take_context(context, alloc) else {
+    let Some(mut object) = take(context, alloc) else {
         return NO_OBJECT;
     };
-    let answer = api.reset_view(view);
-    put_context(context, object, api);
-    status(answer)
+    match &mut *object {
+        Object::Api(api) => {
+            let answer = api.reset_view(view);
+            put(context, object);
+            status(answer)
+        }
+        _ => {
+            put(context, object);
+            NO_OBJECT
+        }
+    }
 }

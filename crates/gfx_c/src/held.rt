@@ -1,7 +1,7 @@
 // The object behind a handle, out of its box and back into it.
 ghost use Rattle.std.specs.Prelude.{◌≡◌, Some, None, MatchOption};
 ghost use Rattle.gfx_c.specs.declared.objects.Object.TheVariants.{Api, Recording};
-ghost use Rattle.gfx_c.specs.Exports.{context_of, encoder_of};
+ghost use Rattle.gfx_c.specs.Exports.{encoder_of};
 
 use crate::context::Context;
 use crate::encoder::Encoder;
@@ -9,27 +9,6 @@ use crate::objects::Object;
 use crate::slot::{Slot, put, take};
 use std::alloc::Global;
 use std::mem;
-
-/// Takes the context of a handle, with the box that it was in. None where the handle is another, which stays as it was.
-pub(crate) fn take_context(slot: &mut Slot, alloc: Global) -> Option<(Box<Object>, Context)>
-    ensures { MatchOption result ((context_of slot.old.value ≡ None) × (slot.new.value ≡ slot.old.value)) (λ p. (slot.old.value ≡ Some (Api p.1)) × (slot.new.value ≡ None)) }
-{
-    let Some(mut object) = take(slot, alloc) else {
-        return None;
-    };
-    match mem::replace(&mut *object, Object::Blank) {
-        Object::Api(context) => Some((object, context)),
-        Object::Recording(encoder) => {
-            *object = Object::Recording(encoder);
-            put(slot, object);
-            None
-        }
-        Object::Blank => {
-            put(slot, object);
-            None
-        }
-    }
-}
 
 /// Puts a context into a box, and that into a handle.
 pub(crate) fn put_context(slot: &mut Slot, object: Box<Object>, context: Context)

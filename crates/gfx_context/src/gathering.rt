@@ -67,7 +67,8 @@ impl<'t, C: Naming, L: FrameLink + Drop> Context<'t, C, L> {
 
     /// How many encoders of this frame are off: begun, and not gathered.
     pub fn off(&self) -> u32
-        ensures { result ≡ length self.now.seat.off }
+        ensures count { result ≡ length self.now.seat.off }
+        ensures none { result ≡ 0 → self.now.seat.off ≡ [] }
     {
         self.core.off()
     }

@@ -4,10 +4,11 @@ ghost use Rattle.gfx_model.specs.Views.{fewest_views};
 ghost use Rattle.gfx_model.specs.World.{Item as SeenItem};
 ghost use Rattle.hold_table.specs.Seats.{table_of, api_table, api_view};
 ghost use Rattle.hold_table.specs.Views.{first_view};
+ghost use Rattle.frame_record.specs.Links.{frames_of};
 
 use crate::limit_tests::START;
 use frame_record::{JournalEntry, OrderedItem, end_of_run};
-use frame_swap::{WaitingEnd, swap_pair};
+use frame_swap::{RenderEnd, WaitingEnd, swap_pair};
 use gfx_context::{Context, Encoder, Naming, Room, Shared};
 use hold_table::{ApiSeat, HoldTable};
 use std::alloc::Global;
@@ -60,51 +61,69 @@ fn told(order: &[OrderedItem]) -> Told {
     (order.len(), end_of_run(order, 0, 0), [first, second, last])
 }
 
+// A frame of eight full encoders is given. How many touches were accepted.
+fn all_given<C: Naming, R: Threads + Wait + Sync>(
+    rt: &R,
+    context: &mut Context<'_, C, WaitingEnd<'_, R>>,
+) -> Option<u32>
+    requires admits { (e f d : ℕ) (items : List SeenItem) → C.admits e f items d }
+{
+    let touched = eight(rt, context)?;
+    if context.is_ended() {
+        return None;
+    }
+    match context.frame(rt) {
+        Ok(_) => Some(touched),
+        Err(_) => None,
+    }
+}
+
 // The order of the frame that the renderer's end takes.
+fn order_taken(alloc: Global, render: &mut RenderEnd) -> Option<Told>
+    requires { render.old.seat.me.0.taken ≡ frames_of render.old.seat.me.0.returned }
+{
+    let Ok(Some(frame)) = render.try_take() else {
+        return None;
+    };
+    let mut order = Vec::new(alloc);
+    match frame.ordered(&mut order) {
+        Ok(_) => Some(told(&order)),
+        Err(_) => None,
+    }
+}
+
+// Both, by a new context.
 fn whole_order<C: Naming, R: Threads + Wait + Sync>(
     rt: &R,
     alloc: Global,
     table: HoldTable,
     seat: ApiSeat,
-) -> Option<(u32, Told)>
+) -> (Option<u32>, Option<Told>)
     requires table { (table_of table ≡ C.table) × (api_table seat ≡ C.table) × (api_view seat ≡ first_view 0) }
     requires views { C.views ≡ fewest_views }
     requires admits { (e f d : ℕ) (items : List SeenItem) → C.admits e f items d }
 {
     let Ok(shared) = Shared::<C>::new(alloc, table) else {
-        return None;
+        return (None, None);
     };
     let Ok((api, mut render)) = swap_pair(alloc, 1) else {
-        return None;
+        return (None, None);
     };
     let link = WaitingEnd::new(api, rt);
     let Ok(mut context) = Context::init(alloc, &shared, seat, link, START) else {
-        return None;
+        return (None, None);
     };
-    let touched = eight(rt, &mut context)?;
-    if context.is_ended() {
-        return None;
-    }
-    let Ok(_) = context.frame(rt) else {
-        return None;
-    };
-    let Ok(Some(frame)) = render.try_take() else {
-        return None;
-    };
-    let mut order = Vec::new(alloc);
-    let Ok(_) = frame.ordered(&mut order) else {
-        return None;
-    };
-    Some((touched, told(&order)))
+    let touched = all_given(rt, &mut context);
+    (touched, order_taken(alloc, &mut render))
 }
 
 // Touch k of an encoder is of view k mod 256, so view 0 has 32 touches of each encoder and view 255 has 31, the last of them number 7,935.
 #[test]
 fn the_order_of_all_items(rt: HostRuntime) -> Result<(), Fail> {
     let (table, seat) = HoldTable::new(rt.alloc(), 0)?;
-    let found = whole_order::<Brand, _>(&rt, rt.alloc(), table, seat).ok_or("refused")?;
-    let (touched, (items, of_first, entries)) = found;
-    assert_eq!(rt; (touched, items, of_first), (65_528, 65_528, 256));
+    let (touched, order) = whole_order::<Brand, _>(&rt, rt.alloc(), table, seat);
+    let (items, of_first, entries) = order.ok_or("refused")?;
+    assert_eq!(rt; (touched, items, of_first), (Some(65_528), 65_528, 256));
     let first = JournalEntry {
         encoder: 0,
         ordinal: 0,

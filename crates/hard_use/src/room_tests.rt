@@ -131,6 +131,33 @@ fn filled<C: Naming>(encoder: &mut Encoder<'_, C>, uniform: Handle, bytes: &[u8]
 
 // Fills the greatest room of one encoder, and the items of seven more. What the first answered, the touches of the others, and the
 // entries of the frame's journal.
+fn all_filled<C: Naming, R: Threads + Wait + Sync>(
+    rt: &R,
+    alloc: Global,
+    context: &mut Calls<'_, C>,
+) -> Option<(Filled, u32, usize)>
+    requires admits { (e f d : ℕ) (items : List SeenItem) → C.admits e f items d }
+{
+    let Ok(uniform) = context.create_uniform(b"u", UniformKind::Int) else {
+        return None;
+    };
+    let Ok(bytes) = Vec::from_elem(alloc, 7u8, 1_048_576) else {
+        return None;
+    };
+    let mut first = begun(context, GREATEST)?;
+    let answers = filled(&mut first, uniform, &bytes);
+    first.end(rt, 0);
+    let touched = seven_more(rt, context)?;
+    if context.is_ended() {
+        return None;
+    }
+    let Ok(report) = context.frame(rt) else {
+        return None;
+    };
+    Some((answers, touched, report.journal.len()))
+}
+
+// The same by a new context.
 fn whole_frame<C: Naming, R: Threads + Wait + Sync>(
     rt: &R,
     alloc: Global,
@@ -150,23 +177,7 @@ fn whole_frame<C: Naming, R: Threads + Wait + Sync>(
     let Ok(mut context) = Context::init(alloc, &shared, seat, link, START) else {
         return None;
     };
-    let Ok(uniform) = context.create_uniform(b"u", UniformKind::Int) else {
-        return None;
-    };
-    let Ok(bytes) = Vec::from_elem(alloc, 7u8, 1_048_576) else {
-        return None;
-    };
-    let mut first = begun(&mut context, GREATEST)?;
-    let answers = filled(&mut first, uniform, &bytes);
-    first.end(rt, 0);
-    let touched = seven_more(rt, &mut context)?;
-    if context.is_ended() {
-        return None;
-    }
-    let Ok(report) = context.frame(rt) else {
-        return None;
-    };
-    Some((answers, touched, report.journal.len()))
+    all_filled(rt, alloc, &mut context)
 }
 
 fn begun<'t, C: Naming>(context: &mut Calls<'t, C>, room: Room) -> Option<Encoder<'t, C>> {

@@ -60,7 +60,7 @@ pub(crate) fn play_bytes<R: Threads + Wait + Sync, P: Sink + Send + Drop, N: Sin
 /// behind the report where it is asked for. One encoder records after another. A line whose call is refused is dropped and counted,
 /// and the play goes on.
 ///
-/// The status says how it ended, as of `play`: `Scene` comes exactly by the bytes, `PictureFault` and `NoteFault` only where that
+/// The status says how it ended, as of `play`: `Scene` comes only where the bytes are no scene, `PictureFault` and `NoteFault` only where that
 /// sink's count of faults rose in this call, `OutOfMemory` is free, and the others but `Done` never come.
 pub fn play_bytes_here<P: Sink + Drop, N: Sink>(
     alloc: Global,

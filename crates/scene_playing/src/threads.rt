@@ -167,7 +167,7 @@ fn play_table<
 /// frames that were given are the first of the scene by index, for the journal that comes back. Where not all were given, one was
 /// not shown, or memory was wanting. The gate is called before each item's line. It may wait for whatever renders the frames.
 ///
-/// Where an order is given, it plays as `play_here`, and the journal that comes back is a front of the order.
+/// Where an order is given, it plays as `play_here`, without the gate, and the journal that comes back is a front of the order.
 pub fn play_frames<L: FrameLink + Drop, R: Threads + Wait + Sync, G: Gate + Sync>(
     rt: &R,
     gate: &G,
