@@ -118,7 +118,31 @@ static void record(gfx_encoder *encoder, const gfx_thing *of) {
     MUST(gfx_end(encoder, 1));
 }
 
-/* Makes things, and two frames with two encoders each. Answers how many frames had a picture. */
+/* Plays a scene's text: two frames of one pixel. Where memory is wanting nothing is written. */
+static void play_text(void) {
+    static const char text[] = "scene 2\nsize 1 1\nencoders 2\nlatency 2\nframe\nview 0 clear 1 ff0000ff 0 0\nencoder 0\ntouch 0\n"
+                               "frame\nview 0 clear 1 00ff00ff 0 0\nencoder 1\ntouch 0\ntouch 512\ndone\n";
+    static const char lines[] = "frame 0 items 1 dropped 0\nframe 1 items 1 dropped 1\n";
+    static const uint8_t shown[28] = "P6\n1 1\n255\n\377\0\0P6\n1 1\n255\n\0\377";
+    uint8_t pictures[30], report[60];
+    gfx_played played = {7, 7, 7, 7};
+    memset(pictures, 9, sizeof pictures);
+    memset(report, 9, sizeof report);
+    failed = false;
+    gfx_status status = gfx_play((const uint8_t *)text, sizeof text - 1, pictures, sizeof pictures, report, sizeof report, &played);
+    if (status == GFX_OUT_OF_MEMORY) {
+        if (!failed) wrong("no allocation failed in gfx_play");
+        for (size_t i = 0; i < sizeof report; i++)
+            if (report[i] != 9 || pictures[i / 2] != 9) wrong("a play wrote where memory was wanting");
+        if (played.pictures != 7 || played.report != 7 || played.line != 7 || played.cause != 7) wrong("a play was told that wanted memory");
+        wants++;
+        status = gfx_play((const uint8_t *)text, sizeof text - 1, pictures, sizeof pictures, report, sizeof report, &played);
+    }
+    if (status != GFX_DONE || played.pictures != sizeof shown || played.report != sizeof lines - 1) wrong("gfx_play");
+    if (memcmp(pictures, shown, sizeof shown) != 0 || memcmp(report, lines, sizeof lines - 1) != 0) wrong("what gfx_play wrote");
+}
+
+/* Plays a text; makes things, and two frames with two encoders each. Answers how many frames had a picture. */
 static int play(void) {
     static const uint8_t corners[24] = {0, 0, 0, 0, 0, 0, 1, 0, 0, 0, 1, 0, 0, 0, 255, 255, 0, 0, 255, 255, 0, 0, 255, 255};
     static const uint8_t order[6] = {0, 0, 1, 0, 2, 0}, texels[16] = {200, 100, 50, 255, 1, 2, 3, 4};
@@ -126,6 +150,7 @@ static int play(void) {
     gfx_part corner = {GFX_POSITION, GFX_FIXED, 2};
     gfx_thing of[9], depth, target, more;
     int frame = 0;
+    play_text();
     MUST(gfx_init(&context, WIDTH, HEIGHT));
     MAKES(gfx_create_layout(&context, &corner, 1, &of[0]), of[0]);
     MAKES(gfx_create_vertex_buffer(&context, of[0], corners, sizeof corners, &of[1]), of[1]);
