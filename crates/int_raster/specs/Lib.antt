@@ -4,6 +4,7 @@ pub mod Places
 pub mod Painted
 pub mod Rules
 pub mod Bands
+pub mod Sharing
 pub mod Listing
 pub mod Cuts
 pub mod Sampled

@@ -1,5 +1,6 @@
 // Bands of rows.
-ghost use Rattle.std.specs.Prelude.{◌≡◌, ◌≤◌, ◌+◌, ◌*◌, ◌/◌};
+ghost use Rattle.std.specs.Prelude.{◌≡◌, ◌≤◌, ◌+◌};
+ghost use Rattle.int_raster.specs.Sharing.{IsShare};
 
 /// Whole rows of a surface of a width, `count` of them from its row `top` on.
 #[derive(Clone, Copy)]
@@ -20,11 +21,12 @@ impl Rows {
     }
 
     /// The rows in two parts, the first `part` of `whole` of them, rounded down, and the rest.
+    #[tactic(auto, unfolding(crate::specs::Sharing::IsShare))]
     pub fn cut(&self, part: u32, whole: u32) -> (Rows, Rows)
         requires some { 1 ≤ whole }
         requires order { part ≤ whole }
         ensures widths { (result.0.width ≡ self.now.width) × (result.1.width ≡ self.now.width) }
-        ensures share { result.0.count ≡ self.now.count * part / whole }
+        ensures share { IsShare part whole self.now.count result.0.count }
         ensures first { result.0.top ≡ self.now.top }
         ensures next { result.1.top ≡ self.now.top + result.0.count }
         ensures all { result.0.count + result.1.count ≡ self.now.count }
