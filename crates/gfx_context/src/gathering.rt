@@ -67,8 +67,7 @@ impl<'t, C: Naming, L: FrameLink + Drop> Context<'t, C, L> {
 
     /// How many encoders of this frame are off: begun, and not gathered.
     pub fn off(&self) -> u32
-        ensures count { result ≡ length self.now.seat.off }
-        ensures none { result ≡ 0 → self.now.seat.off ≡ [] }
+        ensures { result ≡ length self.now.seat.off }
     {
         self.core.off()
     }
