@@ -26,14 +26,6 @@ play_lines-requires-clause-few g c =
     let is = ap length c.as_slice.ensures in
     omega (arith, few, many, is)
 
-pub record_blocks-all-requires-clause-recording : goal.record_blocks-all-requires-clause-recording
-record_blocks-all-requires-clause-recording g c =
-    let s = scene_seen c.args.scene.now in
-    let k = c.args.context.now.book.resources.frame in
-    let f = frame_seen c.args.frame.now in
-    let first = recording_after s k f c.in_ok-before.before c.args.handles.now c.play_lines.new.handles c.args.context.now c.play_lines.new.calls c.requires.at c.requires.there (subst (λ (ls : List _). LinesPlayed s.names (map resource_line_seen ls) c.in_ok-before.before c.args.context.now.book c.play_lines.new.calls.book c.args.handles.now c.play_lines.new.handles) c.as_slice.ensures (subst (λ (ns : List _). LinesPlayed (map name_seen ns) (map resource_line_seen c.as_slice.result.now) c.in_ok-before.before c.args.context.now.book c.play_lines.new.calls.book c.args.handles.now c.play_lines.new.handles) c.as_slice-names.ensures c.in_ok-before.ensures.played)) c.play_lines.ensures.rest in
-    recording_now s k f c.play_lines.new.handles c.in_ok-shared.shared.value.items c.play_lines.new.calls c.in_ok-shared.ensures first.0
-
 pub play_beside-beside-requires-clause-places : goal.play_beside-beside-requires-clause-places
 play_beside-beside-requires-clause-places g c =
     let s = scene_seen c.args.scene.now in
@@ -45,28 +37,6 @@ play_beside-beside-requires-clause-places g c =
 
 pub play_beside-beside-requires-clause-few : goal.play_beside-beside-requires-clause-few
 play_beside-beside-requires-clause-few g c = few_in (scene_seen c.args.scene.now) c.args.context.now.book.resources.frame (frame_seen c.args.frame.now) c.requires.bounded c.requires.there
-
-pub end_frame-requires-clause-recorded : goal.end_frame-requires-clause-recorded
-end_frame-requires-clause-recorded g c κs within =
-    let s = scene_seen c.args.scene.now in
-    let k = c.args.context.now.book.resources.frame in
-    let f = frame_seen c.args.frame.now in
-    let first = recording_after s k f c.in_ok-before.before c.args.handles.now c.play_lines.new.handles c.args.context.now c.play_lines.new.calls c.requires.at c.requires.there (subst (λ (ls : List _). LinesPlayed s.names (map resource_line_seen ls) c.in_ok-before.before c.args.context.now.book c.play_lines.new.calls.book c.args.handles.now c.play_lines.new.handles) c.as_slice.ensures (subst (λ (ns : List _). LinesPlayed (map name_seen ns) (map resource_line_seen c.as_slice.result.now) c.in_ok-before.before c.args.context.now.book c.play_lines.new.calls.book c.args.handles.now c.play_lines.new.handles) c.as_slice-names.ensures c.in_ok-before.ensures.played)) c.play_lines.ensures.rest in
-    let all : c.record_blocks-all.new.context.begun ≡ s.encoders = c.record_blocks-all.ensures.all c.in-Ok.ensures.played.0 in
-    let begun : HasBegun s.encoders c.play_lines.new.calls c.record_blocks-all.new.context = subst (λ n. HasBegun n c.play_lines.new.calls c.record_blocks-all.new.context) all c.record_blocks-all.ensures.same in
-    let last = recorded_after s k f c.in-Ok.beside c.play_lines.new.handles c.play_beside-beside.new.handles c.play_lines.new.calls c.record_blocks-all.new.context c.play_beside-beside.new.context first.0 begun c.in-Ok.ensures.played.1 c.play_beside-beside.ensures.rest first.3 in
-    recorded_now s k f c.play_beside-beside.new.handles c.play_beside-beside.new.context last.0
-
-pub end_frame-requires-clause-dropped : goal.end_frame-requires-clause-dropped
-end_frame-requires-clause-dropped g c κs within =
-    let s = scene_seen c.args.scene.now in
-    let k = c.args.context.now.book.resources.frame in
-    let f = frame_seen c.args.frame.now in
-    let first = recording_after s k f c.in_ok-before.before c.args.handles.now c.play_lines.new.handles c.args.context.now c.play_lines.new.calls c.requires.at c.requires.there (subst (λ (ls : List _). LinesPlayed s.names (map resource_line_seen ls) c.in_ok-before.before c.args.context.now.book c.play_lines.new.calls.book c.args.handles.now c.play_lines.new.handles) c.as_slice.ensures (subst (λ (ns : List _). LinesPlayed (map name_seen ns) (map resource_line_seen c.as_slice.result.now) c.in_ok-before.before c.args.context.now.book c.play_lines.new.calls.book c.args.handles.now c.play_lines.new.handles) c.as_slice-names.ensures c.in_ok-before.ensures.played)) c.play_lines.ensures.rest in
-    let all : c.record_blocks-all.new.context.begun ≡ s.encoders = c.record_blocks-all.ensures.all c.in-Ok.ensures.played.0 in
-    let begun : HasBegun s.encoders c.play_lines.new.calls c.record_blocks-all.new.context = subst (λ n. HasBegun n c.play_lines.new.calls c.record_blocks-all.new.context) all c.record_blocks-all.ensures.same in
-    let last = recorded_after s k f c.in-Ok.beside c.play_lines.new.handles c.play_beside-beside.new.handles c.play_lines.new.calls c.record_blocks-all.new.context c.play_beside-beside.new.context first.0 begun c.in-Ok.ensures.played.1 c.play_beside-beside.ensures.rest first.3 in
-    (λ i. c.from.ensures i + c.from-2.ensures i) ∙ dropped_now s k f c.play_beside-beside.new.handles c.play_beside-beside.new.context c.in_ok-before.before c.in-Ok.beside last.0 first.1 last.1
 
 pub returns-clause-ended : goal.returns-clause-ended
 returns-clause-ended g c =
@@ -104,10 +74,30 @@ returns-clause-allowed g c =
     let last = recorded_after s k f c.in-Ok.beside c.play_lines.new.handles c.play_beside-beside.new.handles c.play_lines.new.calls c.record_blocks-all.new.context c.play_beside-beside.new.context first.0 begun c.in-Ok.ensures.played.1 c.play_beside-beside.ensures.rest first.3 in
     allowed_since c.end_frame.result (order_seen c.args.order) c.play_beside-beside.new.context.book.resources.frame k (number_recorded s k f c.play_beside-beside.new.handles c.play_beside-beside.new.context last.0) c.end_frame.ensures.allowed
 
-pub collect-requires : goal.collect-requires
-collect-requires g c =
-    subst (λ (n : ℕ). g.W.Recorders.owes c.record_blocks-all.new.recorders n) (sym (ap length (off_kept c.record_blocks-all.new.context c.play_beside-beside.new.context c.play_beside-beside.ensures.rest))) c.record_blocks-all.ensures.owes
+pub record_blocks-all-requires : goal.record_blocks-all-requires
+record_blocks-all-requires g c κs =
+    let s = scene_seen c.args.scene.now in
+    let k = c.args.context.now.book.resources.frame in
+    let f = frame_seen c.args.frame.now in
+    let first = recording_after s k f c.in_ok-before.before c.args.handles.now c.play_lines.new.handles c.args.context.now c.play_lines.new.calls c.requires.at c.requires.there (subst (λ (ls : List _). LinesPlayed s.names (map resource_line_seen ls) c.in_ok-before.before c.args.context.now.book c.play_lines.new.calls.book c.args.handles.now c.play_lines.new.handles) c.as_slice.ensures (subst (λ (ns : List _). LinesPlayed (map name_seen ns) (map resource_line_seen c.as_slice.result.now) c.in_ok-before.before c.args.context.now.book c.play_lines.new.calls.book c.args.handles.now c.play_lines.new.handles) c.as_slice-names.ensures c.in_ok-before.ensures.played)) c.play_lines.ensures.rest in
+    let recording = recording_now s k f c.play_lines.new.handles c.in_ok-shared.shared.value.items c.play_lines.new.calls c.in_ok-shared.ensures first.0 in
+    let none : c.play_lines.new.calls.begun ≡ 0 = ap (λ v. v.begun) c.play_lines.ensures.rest ∙ c.requires.at.none_begun in
+    ((refl, tt), (c.requires.admits, (c.requires.views, (c.requires.bounded, (recording, (none, c.requires.owes))))))
 
-pub end_frame-requires-clause-owes : goal.end_frame-requires-clause-owes
-end_frame-requires-clause-owes g c κs within =
-    subst (λ (n : ℕ). g.W.Recorders.owes c.record_blocks-all.new.recorders n) (sym (ap length (off_kept c.record_blocks-all.new.context c.play_beside-beside.new.context c.play_beside-beside.ensures.rest))) c.record_blocks-all.ensures.owes
+pub end_frame-requires : goal.end_frame-requires
+end_frame-requires g c κs =
+    let s = scene_seen c.args.scene.now in
+    let k = c.args.context.now.book.resources.frame in
+    let f = frame_seen c.args.frame.now in
+    let first = recording_after s k f c.in_ok-before.before c.args.handles.now c.play_lines.new.handles c.args.context.now c.play_lines.new.calls c.requires.at c.requires.there (subst (λ (ls : List _). LinesPlayed s.names (map resource_line_seen ls) c.in_ok-before.before c.args.context.now.book c.play_lines.new.calls.book c.args.handles.now c.play_lines.new.handles) c.as_slice.ensures (subst (λ (ns : List _). LinesPlayed (map name_seen ns) (map resource_line_seen c.as_slice.result.now) c.in_ok-before.before c.args.context.now.book c.play_lines.new.calls.book c.args.handles.now c.play_lines.new.handles) c.as_slice-names.ensures c.in_ok-before.ensures.played)) c.play_lines.ensures.rest in
+    let all : c.record_blocks-all.new.context.begun ≡ s.encoders = c.record_blocks-all.ensures.all c.in-Ok.ensures.played.0 in
+    let begun : HasBegun s.encoders c.play_lines.new.calls c.record_blocks-all.new.context = subst (λ n. HasBegun n c.play_lines.new.calls c.record_blocks-all.new.context) all c.record_blocks-all.ensures.same in
+    let last = recorded_after s k f c.in-Ok.beside c.play_lines.new.handles c.play_beside-beside.new.handles c.play_lines.new.calls c.record_blocks-all.new.context c.play_beside-beside.new.context first.0 begun c.in-Ok.ensures.played.1 c.play_beside-beside.ensures.rest first.3 in
+    let recorded = recorded_now s k f c.play_beside-beside.new.handles c.play_beside-beside.new.context last.0 in
+    let dropped = (λ i. c.from.ensures i + c.from-2.ensures i) ∙ dropped_now s k f c.play_beside-beside.new.handles c.play_beside-beside.new.context c.in_ok-before.before c.in-Ok.beside last.0 first.1 last.1 in
+    let owes = subst (λ (n : ℕ). g.W.Recorders.owes c.record_blocks-all.new.recorders n) (sym (ap length (off_kept c.record_blocks-all.new.context c.play_beside-beside.new.context c.play_beside-beside.ensures.rest))) c.record_blocks-all.ensures.owes in
+    ((refl, tt), (c.requires.admitted, (c.requires.views, (recorded, (dropped, owes)))))
+
+pub collect-requires : goal.collect-requires
+collect-requires g c κs =
+    ((refl, tt), subst (λ (n : ℕ). g.W.Recorders.owes c.record_blocks-all.new.recorders n) (sym (ap length (off_kept c.record_blocks-all.new.context c.play_beside-beside.new.context c.play_beside-beside.ensures.rest))) c.record_blocks-all.ensures.owes)

@@ -5,6 +5,7 @@ use Rattle.gfx_words.specs.Seen.{entry_seen}
 use Rattle.scene_text.specs.Seen.{frame_seen, scene_seen}
 use Rattle.render_core.specs.Ended.{first_outcome}
 use Rattle.scene_playing.specs.Frames.{note_seen}
+use Rattle.scene_playing.specs.Recording.{IsAt}
 use Rattle.scene_playing.specs.Steps.{first_after}
 use Rattle.scene_model.specs.Journal.{Journal}
 use Rattle.scene_playing.specs.Order.{order_seen, Follows}
@@ -27,11 +28,6 @@ loop-frame-init g c = record {
   owes = c.requires.owes;
   origin = refl;
 }
-
-pub play_frame-played-requires-clause-there : goal.play_frame-played-requires-clause-there
-play_frame-played-requires-clause-there g c κs within =
-    subst (λ n. slice_get (map frame_seen c.args.scene.now.frames) n ≡ Some (frame_seen c.frame-item.result)) (sym (number_at (scene_seen c.args.scene.now) c.loop-frame.frame-index c.loop-frame.handles c.loop-frame.context c.loop-frame.invariant.at))
-    (frame_at c.as_slice-frame-items.result.now c.args.scene.now.frames c.loop-frame.frame-index c.frame-item.result c.as_slice-frame-items.ensures c.loop-frame-test.true c.frame-item.is)
 
 pub returns-then-not-add-clause-ended : goal.returns-then-not-add-clause-ended
 returns-then-not-add-clause-ended g c =
@@ -73,3 +69,11 @@ returns-then-not-add-clause-follows g c =
     let was = c.loop-frame.invariant in
     let lists = one_seen (map entry_seen) c.loop-frame.told.lists.items c.add.new.self.lists.items c.in-Ok.ended.journal.items c.add.ensures.lists.0 in
     follows_more (order_seen c.args.order) _ _ (map entry_seen c.in-Ok.ended.journal.items) c.loop-frame.context.book.resources.frame k (number_at s k c.loop-frame.handles c.loop-frame.context was.at) was.given.many lists was.follows c.in-Ok.ensures.allowed
+
+pub play_frame-played-requires : goal.play_frame-played-requires
+play_frame-played-requires g c κs =
+    let was = c.loop-frame.invariant in
+    let there = subst (λ n. slice_get (map frame_seen c.args.scene.now.frames) n ≡ Some (frame_seen c.frame-item.result)) (sym (number_at (scene_seen c.args.scene.now) c.loop-frame.frame-index c.loop-frame.handles c.loop-frame.context was.at))
+    (frame_at c.as_slice-frame-items.result.now c.args.scene.now.frames c.loop-frame.frame-index c.frame-item.result c.as_slice-frame-items.ensures c.loop-frame-test.true c.frame-item.is) in
+    let at = subst (λ n. IsAt (scene_seen c.args.scene.now) n c.loop-frame.handles c.loop-frame.context) (sym (number_at (scene_seen c.args.scene.now) c.loop-frame.frame-index c.loop-frame.handles c.loop-frame.context was.at)) was.at in
+    ((refl, tt), (c.requires.admits, (c.requires.admitted, (c.requires.views, (c.requires.readable, (c.requires.bounded, (there, (at, (was.none_off, was.owes)))))))))
