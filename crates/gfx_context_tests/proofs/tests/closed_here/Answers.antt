@@ -4,4 +4,4 @@ use Rattle.gfx_context_tests.proofs.tests.closed_here.Goals as goal
 
 -- none is off
 pub close-requires : goal.close-requires
-close-requires g c = nil_from_length _ (sym c.off.ensures ∙ c.if-off-ne0.false)
+close-requires g c = record { none_off = nil_from_length _ (sym c.off.ensures ∙ c.if-off-ne0.false) }
