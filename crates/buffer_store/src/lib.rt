@@ -7,6 +7,3 @@ mod uniform;
 mod vertices;
 
 pub use store::BufferStore;
-
-#[cfg(test)]
-mod tests;

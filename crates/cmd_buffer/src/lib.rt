@@ -9,6 +9,3 @@ mod write;
 pub use command::{Command, MOST_COMMAND_BYTES, few_bytes};
 pub use read::{CmdBytes, CmdReader};
 pub use write::CmdBuffer;
-
-#[cfg(test)]
-mod tests;

@@ -27,6 +27,3 @@ pub use rooms::{MOST_ROOM_BYTES, MOST_ROOM_ITEMS, MOST_ROOM_UNIFORMS, Room, room
 pub use sources::TexSource;
 pub use states::StateWord;
 pub use stencils::StencilWord;
-
-#[cfg(test)]
-mod tests;

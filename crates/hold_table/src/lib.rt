@@ -6,6 +6,3 @@ mod table;
 mod view;
 
 pub use table::{ApiSeat, EncSeat, HoldTable};
-
-#[cfg(test)]
-mod tests;

@@ -10,6 +10,3 @@ pub use blending::{blend, lay_over, multiply};
 pub use depths::{depth_test, passes_stencil, stencil_step};
 pub use parts::Blending;
 pub use pixels::{Pixel, Shaded, is_stored, pixel_step};
-
-#[cfg(test)]
-mod tests;

@@ -12,6 +12,3 @@ mod textures;
 pub use gfx_words::TexSource;
 pub use source::{BlitBox, TexelSource};
 pub use store::TextureStore;
-
-#[cfg(test)]
-mod tests;

@@ -10,6 +10,3 @@ pub use attributes::{Attr, AttrList, AttrType, PlacedAttr};
 pub use builder::LayoutBuilder;
 pub use fetch::{Vertex, byte_of_fixed};
 pub use layout::VertexLayout;
-
-#[cfg(test)]
-mod tests;

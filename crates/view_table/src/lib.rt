@@ -11,6 +11,3 @@ pub use clears::Clear;
 pub use table::ViewTable;
 pub use targets::LiveTargets;
 pub use views::View;
-
-#[cfg(test)]
-mod tests;

@@ -1,0 +1,228 @@
+// What no clause says: place words as numbers, the answers of names over two frames, and whole frames with threads.
+ghost use Rattle.std.specs.Prelude.{◌≡◌, suc, ◌+◌, ◌<◌, ◌≤◌, [], length};
+ghost use Rattle.schedule_model.specs.Held.{count_of};
+ghost use Rattle.hold_table.specs.Seats.{table_of, api_table, enc_table, api_view, enc_view};
+
+use gfx_words::{Handle, Info, Kind, Refusal};
+use hold_table::*;
+use std::test::Fail;
+use std::thread;
+use std::thread::Threads;
+
+#[test]
+fn words_of_places(rt: HostRuntime) -> Result<(), Fail> {
+    let (table, mut api) = HoldTable::new(rt.alloc(), 0)?;
+    let old = Handle::of(Kind::Layout, 0, 1, Info::Plain);
+    let other = Handle::of(Kind::Layout, 0, 2, Info::Plain);
+    let mut before = table.split(&mut api, 0);
+    assert_eq!(rt;
+        table.name(&mut before, old),
+        Err(Refusal::Stale { word: 0 })
+    );
+    table.place_live(&mut api, old);
+    assert_eq!(rt;
+        table.name(&mut before, old),
+        Ok(()),
+        "a thing created after the split"
+    );
+    assert_eq!(rt;
+        table.name(&mut before, other),
+        Err(Refusal::Stale { word: 5 })
+    );
+    table.place_dying(&mut api, old);
+    assert_eq!(rt;
+        table.name(&mut before, old),
+        Ok(()),
+        "it dies in the recorder's frame"
+    );
+    assert_eq!(rt;
+        table.name(&mut before, other),
+        Err(Refusal::Stale { word: 6 })
+    );
+    table.join(&mut api, before);
+    table.advance(&mut api);
+    let mut after = table.split(&mut api, 0);
+    assert_eq!(rt;
+        table.name(&mut after, old),
+        Err(Refusal::Stale { word: 6 }),
+        "dead before the frame"
+    );
+    table.join(&mut api, after);
+    table.close(api);
+    Ok(())
+}
+
+#[test]
+fn word_of_a_third_serial(rt: HostRuntime) -> Result<(), Fail> {
+    let (table, mut api) = HoldTable::new(rt.alloc(), 0)?;
+    let third = Handle::of(Kind::Layout, 1, 3, Info::Plain);
+    let other = Handle::of(Kind::Layout, 1, 4, Info::Plain);
+    table.place_live(&mut api, third);
+    let mut enc = table.split(&mut api, 7);
+    assert_eq!(rt;
+        table.name(&mut enc, other),
+        Err(Refusal::Stale { word: 13 })
+    );
+    table.join(&mut api, enc);
+    table.close(api);
+    Ok(())
+}
+
+#[test]
+fn word_of_a_later_death(rt: HostRuntime) -> Result<(), Fail> {
+    let (table, mut api) = HoldTable::new(rt.alloc(), 1)?;
+    let thing = Handle::of(Kind::Layout, 0, 1, Info::Plain);
+    let other = Handle::of(Kind::Layout, 0, 2, Info::Plain);
+    table.place_live(&mut api, thing);
+    table.place_dying(&mut api, thing);
+    let mut enc = table.split(&mut api, 0);
+    assert_eq!(rt;
+        table.name(&mut enc, other),
+        Err(Refusal::Stale {
+            word: 17_179_869_190
+        })
+    );
+    table.join(&mut api, enc);
+    table.close(api);
+    Ok(())
+}
+
+#[test]
+fn word_of_a_freed_place(rt: HostRuntime) -> Result<(), Fail> {
+    let (table, mut api) = HoldTable::new(rt.alloc(), 0)?;
+    let thing = Handle::of(Kind::Layout, 0, 1, Info::Plain);
+    table.place_live(&mut api, thing);
+    table.place_dying(&mut api, thing);
+    table.advance(&mut api);
+    table.place_free(&mut api, 0);
+    let mut enc = table.split(&mut api, 0);
+    assert_eq!(rt;
+        table.name(&mut enc, thing),
+        Err(Refusal::Stale { word: 0 })
+    );
+    table.join(&mut api, enc);
+    table.close(api);
+    Ok(())
+}
+
+fn draw_two(table: &HoldTable, mut enc: EncSeat) -> (u64, u64, EncSeat)
+    requires table { enc_table enc ≡ table_of table.now }
+    requires fresh { (enc_view enc).numbers ≡ [] }
+    ensures order { result.0 < result.1 }
+    ensures table { enc_table result.2 ≡ table_of table.now }
+    ensures whose { (enc_view result.2).encoder ≡ (enc_view enc).encoder }
+{
+    let first = table.draw_number(&mut enc);
+    let second = table.draw_number(&mut enc);
+    (first, second, enc)
+}
+
+#[test]
+fn two_recorders(rt: HostRuntime) -> Result<(), Fail> {
+    let (table, mut api) = HoldTable::new(rt.alloc(), 5)?;
+    let one = table.split(&mut api, 0);
+    let two = table.split(&mut api, 1);
+    let shared = &table;
+    let (a, b) = thread::join(
+        &rt,
+        move || draw_two(shared, one),
+        move || draw_two(shared, two),
+    );
+    table.join(&mut api, a.2);
+    table.join(&mut api, b.2);
+    let next = table.advance(&mut api);
+    assert!(rt; next == 4 && a.1 < 4 && b.1 < 4);
+    assert!(rt; a.0 != b.0 && a.0 != b.1 && a.1 != b.0 && a.1 != b.1);
+    table.close(api);
+    Ok(())
+}
+
+// A recorder begins, and is joined before it did anything.
+fn begin_and_join(table: &HoldTable, api: &mut ApiSeat, number: u8)
+    requires table { api_table api.old ≡ table_of table.now }
+    requires number { (number < 8) × (count_of number (api_view api.old).off ≡ 0) }
+    requires room { length (api_view api.old).off + (api_view api.old).joined < 8 }
+    ensures table { api_table api.new ≡ table_of table.now }
+    ensures as_before { api_view api.new ≡ api_view api.old }
+{
+    let unused = table.split(api, number);
+    table.join(api, unused);
+}
+
+#[test]
+fn unused_seat(rt: HostRuntime) -> Result<(), Fail> {
+    let (table, mut api) = HoldTable::new(rt.alloc(), 0)?;
+    begin_and_join(&table, &mut api, 3);
+    begin_and_join(&table, &mut api, 3);
+    let mut enc = table.split(&mut api, 3);
+    assert_eq!(rt; table.draw_number(&mut enc), 0);
+    table.join(&mut api, enc);
+    begin_and_join(&table, &mut api, 3);
+    assert_eq!(rt; table.advance(&mut api), 1);
+    table.close(api);
+    Ok(())
+}
+
+type Answer = Result<(), Refusal>;
+
+// Names the thing and draws a number.
+fn name_and_draw(table: &HoldTable, mut enc: EncSeat, thing: Handle) -> (Answer, u64, EncSeat)
+    requires table { enc_table enc ≡ table_of table.now }
+    requires fresh { (enc_view enc).numbers ≡ [] }
+    ensures table { enc_table result.2 ≡ table_of table.now }
+    ensures whose { (enc_view result.2).encoder ≡ (enc_view enc).encoder }
+{
+    let named = table.name(&mut enc, thing);
+    let number = table.draw_number(&mut enc);
+    (named, number, enc)
+}
+
+// A frame in which two recorders name the thing and draw a number each, at once. It answers what they were told, whether
+// their numbers differ and lie below the next frame's first, and that number.
+fn one_frame<R: Threads>(
+    rt: &R,
+    table: &HoldTable,
+    api: &mut ApiSeat,
+    thing: Handle,
+) -> (Answer, Answer, bool, u64)
+    requires table { api_table api.old ≡ table_of table.now }
+    requires none_begun { ((api_view api.old).off ≡ []) × ((api_view api.old).joined ≡ 0) }
+    requires frame { (api_view api.old).frame < 100 }
+    ensures table { api_table api.new ≡ table_of table.now }
+    ensures none_begun { ((api_view api.new).off ≡ []) × ((api_view api.new).joined ≡ 0) }
+    ensures frame { (api_view api.new).frame ≡ suc (api_view api.old).frame }
+    ensures places { (api_view api.new).places ≡ (api_view api.old).places }
+{
+    let one = table.split(api, 0);
+    let two = table.split(api, 1);
+    let ((a, m, one), (b, n, two)) = thread::join(
+        rt,
+        move || name_and_draw(table, one, thing),
+        move || name_and_draw(table, two, thing),
+    );
+    table.join(api, two);
+    table.join(api, one);
+    let next = table.advance(api);
+    (a, b, m != n && m < next && n < next, next)
+}
+
+#[test]
+fn three_frames(rt: HostRuntime) -> Result<(), Fail> {
+    let (table, mut api) = HoldTable::new(rt.alloc(), 7)?;
+    let thing = Handle::of(Kind::Program, 2, 1, Info::Plain);
+    table.place_live(&mut api, thing);
+    let live = one_frame(&rt, &table, &mut api, thing);
+    assert_eq!(rt; live, (Ok(()), Ok(()), true, 2));
+    table.place_dying(&mut api, thing);
+    let dying = one_frame(&rt, &table, &mut api, thing);
+    assert_eq!(rt; dying, (Ok(()), Ok(()), true, 4));
+    let dead = one_frame(&rt, &table, &mut api, thing);
+    assert_eq!(rt; dead.0, dead.1);
+    let word = 137_438_953_478;
+    assert_eq!(rt;
+        (dead.0, dead.2, dead.3),
+        (Err(Refusal::Stale { word }), true, 6)
+    );
+    table.close(api);
+    Ok(())
+}
