@@ -93,9 +93,10 @@ typedef struct gfx_played { size_t pictures, report; uint32_t line, cause; } gfx
  * line for each frame with its items and its dropped lines. It is one of the outputs that the program gfx_play can write in the mode `play`,
  * by the order of one encoder after another; where no two encoders of a frame share a key in a view, every run has these pictures. What the
  * buffers have behind that is as before.
- * GFX_TOO_LONG; GFX_NO_SCENE with the line and the cause; GFX_TOO_SMALL where a buffer is too small, with the lengths that are wanted;
- * GFX_OUT_OF_MEMORY. After all of these the buffers are as before. After GFX_DONE and GFX_TOO_SMALL `line` and `cause` are 0; after
- * GFX_NO_SCENE `pictures` and `report` are 0; after GFX_TOO_LONG and GFX_OUT_OF_MEMORY `played` is as before.
+ * GFX_TOO_LONG; GFX_NO_SCENE with the line and the cause; GFX_TOO_SMALL where a buffer is too small, with the lengths that are wanted,
+ * which are those of every run on this text; GFX_OUT_OF_MEMORY. After all of these the buffers are as before. After GFX_DONE and
+ * GFX_TOO_SMALL `line` and `cause` are 0; after GFX_NO_SCENE `pictures` and `report` are 0; after GFX_TOO_LONG and GFX_OUT_OF_MEMORY
+ * `played` is as before.
  * The whole scene is played before the lengths are known, also where a buffer is too small; till then the library keeps all pictures in
  * memory of its own. A picture has at most GFX_PICTURE_BYTES(width, height) bytes. */
 gfx_status gfx_play(const uint8_t *text, size_t text_length, uint8_t *pictures, size_t pictures_length, uint8_t *report, size_t report_length, gfx_played *played);

@@ -1,11 +1,14 @@
 -- What a play of a text answered is a run of the definition.
-use Rattle.std.proofs.Common.{◌≡◌, ℕ, Bool, true, false, List, [], Some, Result, Ok, Err, refl, sym, subst, if◌then◌else◌}
+use Rattle.std.proofs.Common.{◌≡◌, ◌∙◌, ◌≤◌, ℕ, length, ap, Bool, true, false, List, [], Some, Result, Ok, Err, refl, sym, subst, if◌then◌else◌}
 use Rattle.std.proofs.lemmas.Option.{same_Some}
 use Rattle.scene_model.specs.Scene.{Scene}
 use Rattle.scene_model.specs.Grammar.{Fault, scene_of, whole_language}
-use Rattle.scene_model.specs.Journal.{Journal}
-use Rattle.scene_model.specs.Output.{length_line}
-use Rattle.scene_model.specs.Run.{Run, all_done, scene_refused, input_too_long, refused, played_scene, played, IsLawfulFor, IsPlayed}
+use Rattle.scene_model.specs.Journal.{Journal, IsLawful}
+use Rattle.scene_model.specs.Output.{length_line, pictures_text}
+use Rattle.scene_model.specs.Run.{shown as shown_run, longest_input, Run, all_done, scene_refused, input_too_long, refused, played_scene, played, IsLawfulFor, IsPlayed}
+use Rattle.spelling_model.proofs.FrameRanges.{reads-readable}
+use Rattle.picture_laws.proofs.Lengths.{length-law}
+use Rattle.scene_player.proofs.Refused.{plays}
 use Rattle.scene_player.specs.declared.status.Status.{Status}
 use Rattle.scene_player.specs.declared.status.Status.TheVariants as status
 use Rattle.scene_player.specs.Ended.{IsAnswered, IsRefused, answer_of}
@@ -14,7 +17,7 @@ use Rattle.scene_player.specs.Numbers.{ending_of}
 use Rattle.scene_player.specs.Parts.{showing_command}
 use Rattle.gfx_c.specs.declared.playing.PlayEnd.{PlayEnd}
 use Rattle.gfx_c.specs.declared.playing.PlayEnd.TheVariants.{Done, NoScene, TooLong, TooSmall, OutOfMemory}
-use Rattle.gfx_c.specs.Plays.{AreHandedOut, Plays}
+use Rattle.gfx_c.specs.Plays.{AreHandedOut, AreLengthsOfRuns, Plays}
 
 -- a run that refuses a scene has none, so any journal is lawful for it
 none_read : (long : Bool) (read : Result Scene Fault) (j : Journal) (line cause : ℕ) → scene_refused line cause ≡ (if long then refused input_too_long length_line else played_scene false (λ s. j) read).ending → IsLawfulFor j read
@@ -27,6 +30,20 @@ abbrev pub IsEnded : Status → (text : List ℕ) → Journal → (before shown 
 IsEnded st text j before shown nothing told first second third fourth =
     IsAnswered st (showing_command false false 0) text j (putting (Some before) (Some shown) first second) (putting (Some nothing) (Some told) third fourth)
 
+-- every run on a text that a scene is has pictures and a report of the lengths of one of them
+module _ (text : List ℕ) (scene : Scene) (j : Journal) (few : length text ≤ longest_input) (is : scene_of whole_language text ≡ Ok scene) (lawful : IsLawful scene j) where
+  shows : (k : Journal) → played false (λ s. k) text ≡ shown_run false scene k
+  shows k = plays false 0 text k scene few is
+
+  one_length : AreLengthsOfRuns text (length (played false (λ s. j) text).pictures) (length (played false (λ s. j) text).noted)
+  one_length run (k, own, same) =
+      let theirs : run ≡ shown_run false scene k = same ∙ shows k in
+      let other : IsLawful scene k = subst (λ (o : Result Scene Fault). IsLawfulFor k o) is own in
+      let lengths : length (pictures_text scene k) ≡ length (pictures_text scene j) = length-law scene k j (reads-readable text scene is) other lawful in (
+        ap (λ (r : Run). length r.pictures) theirs ∙ lengths ∙ sym (ap (λ (r : Run). length r.pictures) (shows j)),
+        ap (λ (r : Run). length r.noted) theirs ∙ sym (ap (λ (r : Run). length r.noted) (shows j)),
+      )
+
 module _ (text : List ℕ) (j : Journal) (shown told : List ℕ) (first second third fourth : ℕ) where
   out_of_run : (e : PlayEnd) (p q r s : List ℕ) → IsEnded status.Done text j [] shown [] told first second third fourth → AreHandedOut e shown told p q r s → Plays e text p q r s
   out_of_run e p q r s a out = by e out where
@@ -36,9 +53,17 @@ module _ (text : List ℕ) (j : Journal) (shown told : List ℕ) (first second t
     is : IsPlayed false text run
     is = (j, subst (λ (o : Result Scene Fault). IsLawfulFor j o) (sym a.0.is.1) a.0.lawful, refl)
 
+    lengths : (m n : ℕ) → m ≡ length run.pictures → n ≡ length run.noted → AreLengthsOfRuns text m n
+    lengths m n shown_is told_is other own =
+        let both = one_length text a.0.scene j a.0.is.0 a.0.is.1 a.0.lawful other own in
+        (both.0 ∙ sym shown_is, both.1 ∙ sym told_is)
+
+    of_run : (e : PlayEnd) → AreHandedOut e shown told p q r s → AreHandedOut e run.pictures run.noted p q r s
+    of_run e o = subst (λ (x : List ℕ). AreHandedOut e x run.noted p q r s) (same_Some shown run.pictures a.0.put) (subst (λ (x : List ℕ). AreHandedOut e shown x p q r s) (same_Some told run.noted a.1) o)
+
     by : (e : PlayEnd) → AreHandedOut e shown told p q r s → Plays e text p q r s
-    by (Done m n) o = (run, is, a.0.done, subst (λ (x : List ℕ). AreHandedOut (Done m n) x run.noted p q r s) (same_Some shown run.pictures a.0.put) (subst (λ (x : List ℕ). AreHandedOut (Done m n) shown x p q r s) (same_Some told run.noted a.1) o))
-    by (TooSmall m n) o = (run, is, a.0.done, subst (λ (x : List ℕ). AreHandedOut (TooSmall m n) x run.noted p q r s) (same_Some shown run.pictures a.0.put) (subst (λ (x : List ℕ). AreHandedOut (TooSmall m n) shown x p q r s) (same_Some told run.noted a.1) o))
+    by (Done m n) o = let handed = of_run (Done m n) o in ((run, is, a.0.done, handed), lengths m n handed.0 handed.1)
+    by (TooSmall m n) o = let handed = of_run (TooSmall m n) o in ((run, is, a.0.done, handed), lengths m n handed.0 handed.1)
     by (NoScene line cause) o = absurd o
     by TooLong o = absurd o
     by OutOfMemory o = absurd o

@@ -19,10 +19,14 @@ AreHandedOut _ shown told p q r s = ⊥
 abbrev pub IsShownOut : PlayEnd → (text pictures pictures_after report report_after : List ℕ) → Type 0
 IsShownOut e text p q r s = (run : Run) × IsPlayed false text run × (run.ending ≡ all_done) × AreHandedOut e run.pictures run.noted p q r s
 
+-- every run of `play` on the text has pictures and a report of these lengths
+abbrev pub AreLengthsOfRuns : (text : List ℕ) → (pictures report : ℕ) → Type 0
+AreLengthsOfRuns text m n = (run : Run) → IsPlayed false text run → (length run.pictures ≡ m) × (length run.noted ≡ n)
+
 -- what stands after a play that ends so; the buffers are as before wherever it is not done. Memory is not wanting of a text that is too long
 abbrev pub Plays : PlayEnd → (text pictures pictures_after report report_after : List ℕ) → Type 0
-Plays (Done m n) text p q r s = IsShownOut (Done m n) text p q r s
-Plays (TooSmall m n) text p q r s = IsShownOut (TooSmall m n) text p q r s
+Plays (Done m n) text p q r s = IsShownOut (Done m n) text p q r s × AreLengthsOfRuns text m n
+Plays (TooSmall m n) text p q r s = IsShownOut (TooSmall m n) text p q r s × AreLengthsOfRuns text m n
 Plays (NoScene line cause) text p q r s = (run : Run) × IsPlayed false text run × (run.ending ≡ scene_refused line cause) × (q ≡ p) × (s ≡ r)
 Plays TooLong text p q r s = (longest_input < length text) × (q ≡ p) × (s ≡ r)
 Plays OutOfMemory text p q r s = (length text ≤ longest_input) × (q ≡ p) × (s ≡ r)

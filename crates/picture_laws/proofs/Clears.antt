@@ -1,17 +1,14 @@
 -- The views of a readable scene clear to colours of four bytes.
-use Rattle.std.proofs.Common.{◌≡◌, ◌∙◌, ℕ, zero, suc, ◌+◌, ◌-◌, Bool, true, false, cond, List, [], ◌∷◌, length, map, replicate, Option, Some, None, refl}
+use Rattle.std.proofs.Common.{ℕ, zero, suc, ◌+◌, ◌-◌, Bool, true, false, cond, List, [], ◌∷◌, map, replicate, Option, Some, None, refl}
 use Rattle.std.specs.Prelude.{⊤, option_map, option_and_then, slice_index_or, slice_set, nat_lt}
-use Rattle.std.specs.List.{AllByRecursion, fold, find}
-use Rattle.gfx_model.specs.Words.{Handle}
-use Rattle.gfx_model.specs.Views.{Views, View, view_at, plain_view, new_views}
-use Rattle.gfx_model.specs.Resources.{Resources, ResourceCall, create_layout, create_vertex_buffer, create_index_buffer, create_texture, create_frame_buffer, create_program, create_uniform, update_buffer, update_texture, destroy, set_view_rect, set_view_scissor, set_view_clear, set_view_mode, set_view_transform, set_view_target, set_view_order, reset_view, Thing, Effect, effect, uniform_effect, named_uniform, destroy_effect, no_change, on_thing, with_references, die, references_of, is_at, with_live_target, with_live_targets, start_frame, deaths_in, Refusal, refusal_of, or_refusal, opening}
-use Rattle.gfx_model.specs.Resources as calls
+use Rattle.std.specs.List.{AllByRecursion, find}
+use Rattle.gfx_model.specs.Views.{Views, View, plain_view}
+use Rattle.gfx_model.specs.Resources.{Resources, ResourceCall, create_layout, create_vertex_buffer, create_index_buffer, create_texture, create_frame_buffer, create_program, create_uniform, update_buffer, update_texture, destroy, set_view_rect, set_view_scissor, set_view_clear, set_view_mode, set_view_transform, set_view_target, set_view_order, reset_view, Thing, Effect, effect, uniform_effect, named_uniform, no_change, on_thing, with_references, die, references_of, is_at, with_live_target, deaths_in, Refusal, refusal_of, or_refusal}
 use Rattle.gfx_model.specs.Vertex.{layout_of_parts}
 use Rattle.scene_model.specs.Scene.{ResourceLine, layout_line, vertex_buffer_line, index_buffer_line, texture_line, frame_buffer_line, program_line, uniform_line, update_line, texel_update_line, destroy_line, rect_line, view_scissor_line, clear_line, mode_line, target_line, view_transform_line, reset_line, order_line, SceneFrame, Scene, views_of}
-use Rattle.scene_model.specs.Fold.{Bindings, Progress, FramePlan, thing_named, option_named, resource_call, after_answer, after_call, after_line, after_lines, at_start, plans_from, first_progress, plans}
-use Rattle.scene_model.specs.Journal.{Journal, pictures}
-use Rattle.spelling_model.specs.Readable.{IsResourceLine, AreResourceLines, bound_by, bound_by_lines, IsFrame, AreFrames, bound_by_frame, IsReadable}
-use Rattle.picture_laws.specs.Whole.{IsFour, AreWhole, ClearsToColors, HasClears, WholeLaw}
+use Rattle.scene_model.specs.Fold.{Bindings, Progress, thing_named, option_named, resource_call, after_answer, after_call, after_line, after_lines, at_start, plans_from, first_progress}
+use Rattle.spelling_model.specs.Readable.{IsResourceLine, AreResourceLines, bound_by, bound_by_lines, AreFrames, bound_by_frame}
+use Rattle.picture_laws.specs.Whole.{IsFour, ClearsToColors, WholeLaw}
 use Rattle.picture_laws.proofs.Kept.{cleared-law}
 
 -- ---- views

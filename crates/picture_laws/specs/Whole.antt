@@ -6,7 +6,8 @@ use Rattle.gfx_model.specs.Vertex.{Color}
 use Rattle.gfx_model.specs.Views.{Views, view_at}
 use Rattle.scene_model.specs.Scene.{Scene}
 use Rattle.scene_model.specs.Fold.{plans}
-use Rattle.scene_model.specs.Journal.{Journal, pictures}
+use Rattle.scene_model.specs.Journal.{Journal, IsLawful, pictures}
+use Rattle.scene_model.specs.Output.{pictures_text}
 use Rattle.spelling_model.specs.Readable.{IsReadable}
 
 -- a colour of four bytes
@@ -35,3 +36,7 @@ ClearedLaw = (s : Scene) (j : Journal) → HasClears s → AllByRecursion (AreWh
 -- the pictures of a readable scene are whole, by any journal
 abbrev pub WholeLaw : Type 0
 WholeLaw = (s : Scene) (j : Journal) → IsReadable s → AllByRecursion (AreWhole s.width s.height) (pictures s j)
+
+-- the texts of a readable scene's pictures are of one length in all, by any lawful journal
+abbrev pub LengthLaw : Type 0
+LengthLaw = (s : Scene) (j k : Journal) → IsReadable s → IsLawful s j → IsLawful s k → length (pictures_text s j) ≡ length (pictures_text s k)

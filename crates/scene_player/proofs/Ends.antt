@@ -76,7 +76,7 @@ module _ (c : Command) (source : Reading) (j : Journal) (pictures notes : Puttin
   read-as status.OutOfMemory bytes h told none = subst (λ (b : List ℕ). IsAnswered status.OutOfMemory c b j pictures notes) (told-is source.before bytes h.0 told h.1) h.3
 
   -- where nothing fails, the answer's ending is the definition's
-  as-defined : (st : Status) (bytes : List ℕ) → IsAnswered st c bytes j pictures notes → (ReadsAndShows c.mode → HasFailedToTake pictures → ⊥) → (HasFailedToTake notes → ⊥) → EndsAs (answer_of c bytes j).ending st
+  pub as-defined : (st : Status) (bytes : List ℕ) → IsAnswered st c bytes j pictures notes → (ReadsAndShows c.mode → HasFailedToTake pictures → ⊥) → (HasFailedToTake notes → ⊥) → EndsAs (answer_of c bytes j).ending st
   as-defined status.Done bytes h taken noted = inl (ap Some (sym h.0.done))
   as-defined status.NoteFault bytes h taken noted = absurd (noted h.2)
   as-defined status.PictureFault bytes h taken noted = absurd (taken h.shows h.failed)
@@ -88,7 +88,7 @@ module _ (c : Command) (source : Reading) (j : Journal) (pictures notes : Puttin
   as-defined (status.Journal place) bytes h taken noted = inl h.refused
 
   -- where the definition refuses the run, it ends so
-  as-refused : (st : Status) (bytes : List ℕ) → IsAnswered st c bytes j pictures notes → ((answer_of c bytes j).ending ≡ all_done → ⊥) → EndsAs (answer_of c bytes j).ending st
+  pub as-refused : (st : Status) (bytes : List ℕ) → IsAnswered st c bytes j pictures notes → ((answer_of c bytes j).ending ≡ all_done → ⊥) → EndsAs (answer_of c bytes j).ending st
   as-refused status.Done bytes h other = absurd (other h.0.done)
   as-refused status.NoteFault bytes h other = absurd (other h.0.done)
   as-refused status.PictureFault bytes h other = absurd (other h.done)

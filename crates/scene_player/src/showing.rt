@@ -1,12 +1,13 @@
 // The three modes, each over what it shows.
 ghost use Rattle.std.specs.Prelude.{◌≡◌, ◌≤◌, true, false, ℕ, Bool, [], length};
 ghost use Rattle.scene_model.specs.JournalText.{journal_of};
+ghost use Rattle.scene_model.specs.Run.{all_done};
 ghost use Rattle.scene_model.specs.Scene as model;
 ghost use Rattle.spelling_model.specs.Readable.{IsReadable};
 ghost use Rattle.scene_text.specs.Bounds.{IsBounded};
 ghost use Rattle.scene_text.specs.Seen.{journal_seen, scene_seen};
-ghost use Rattle.scene_player.specs.Ended.{CountsPictures, IsAnswered, IsSceneOf};
-ghost use Rattle.scene_player.specs.Io.{putting};
+ghost use Rattle.scene_player.specs.Ended.{CountsPictures, EndsAs, IsAnswered, IsSceneOf, answer_of};
+ghost use Rattle.scene_player.specs.Io.{HasFailedToTake, putting};
 ghost use Rattle.scene_player.specs.Parts.{ReadsLawful, making_command, showing_command};
 ghost use Rattle.scene_player.specs.Words.{IsCount};
 
@@ -53,6 +54,33 @@ pub(crate) fn play_bytes<R: Threads + Wait + Sync, P: Sink + Send + Drop, N: Sin
     }
 }
 
+/// Shows the scene that the bytes are, on this thread alone.
+fn show_bytes_here<P: Sink + Drop, N: Sink>(
+    alloc: Global,
+    with_journal: bool,
+    bytes: &[u8],
+    pictures: P,
+    notes: &mut N,
+) -> Played<P>
+    requires { length bytes.now ≤ 16777216 }
+    ensures answered { (count : ℕ) → IsAnswered result.status (showing_command false with_journal count) bytes.now (journal_seen result.journal)
+        (putting (P.held pictures) (P.held result.pictures) (P.faults pictures) (P.faults result.pictures))
+        (putting (N.held notes.old) (N.held notes.new) (N.faults notes.old) (N.faults notes.new)) }
+    ensures counted { (count : ℕ) (s : model.Scene) → IsSceneOf (showing_command false with_journal count) bytes.now s
+        → CountsPictures result.status s (journal_seen result.journal) (P.tally pictures) (P.tally result.pictures) }
+    ensures sure { (P.sure result.pictures ≡ P.sure pictures) × (N.sure notes.new ≡ N.sure notes.old) }
+    ensures no_fewer { (P.faults pictures ≤ P.faults result.pictures) × (N.faults notes.old ≤ N.faults notes.new) }
+{
+    match read(alloc, bytes) {
+        Ok(scene) => {
+            let showing = show_here(alloc, &scene, pictures);
+            finish(alloc, with_journal, showing, notes)
+        }
+        Err(SceneFault::At { line, cause }) => refuse_scene(alloc, line, cause, pictures, notes),
+        Err(SceneFault::OutOfMemory) => blank(alloc, Status::OutOfMemory, pictures),
+    }
+}
+
 /// Shows the scene that the bytes are as `play` does, on this thread alone. It asks for no leave: it starts no thread, and waits for
 /// none.
 ///
@@ -77,15 +105,15 @@ pub fn play_bytes_here<P: Sink + Drop, N: Sink>(
         → CountsPictures result.status s (journal_seen result.journal) (P.tally pictures) (P.tally result.pictures) }
     ensures sure { (P.sure result.pictures ≡ P.sure pictures) × (N.sure notes.new ≡ N.sure notes.old) }
     ensures no_fewer { (P.faults pictures ≤ P.faults result.pictures) × (N.faults notes.old ≤ N.faults notes.new) }
+    // Where the definition refuses the bytes, the play ends so, or for want of memory.
+    ensures refused { (count : ℕ) → ¬ ((answer_of (showing_command false with_journal count) bytes.now (journal_seen result.journal)).ending ≡ all_done)
+        → EndsAs (answer_of (showing_command false with_journal count) bytes.now (journal_seen result.journal)).ending result.status }
+    // Where no sink fails, the play ends as the definition says, or for want of memory.
+    ensures complete { (count : ℕ) → ¬ HasFailedToTake (putting (P.held pictures) (P.held result.pictures) (P.faults pictures) (P.faults result.pictures))
+        → ¬ HasFailedToTake (putting (N.held notes.old) (N.held notes.new) (N.faults notes.old) (N.faults notes.new))
+        → EndsAs (answer_of (showing_command false with_journal count) bytes.now (journal_seen result.journal)).ending result.status }
 {
-    match read(alloc, bytes) {
-        Ok(scene) => {
-            let showing = show_here(alloc, &scene, pictures);
-            finish(alloc, with_journal, showing, notes)
-        }
-        Err(SceneFault::At { line, cause }) => refuse_scene(alloc, line, cause, pictures, notes),
-        Err(SceneFault::OutOfMemory) => blank(alloc, Status::OutOfMemory, pictures),
-    }
+    show_bytes_here(alloc, with_journal, bytes, pictures, notes)
 }
 
 /// The journal that follows a scene, which is lawful for it.
