@@ -251,12 +251,10 @@ static void play_lines(char *text) {
 static void play_text(const char *text, size_t n) {
     gfx_played played = {0, 0, 0, 0};
     uint8_t none[2] = {0, 0};
-    uint8_t *pictures = &none[0], *report = &none[1];
-    size_t pictures_length = 0, report_length = 0;
-    gfx_status status = gfx_play((const uint8_t *)text, n, pictures, 0, report, 0, &played);
-    if (status == GFX_TOO_SMALL) {
-        pictures_length = played.pictures;
-        report_length = played.report;
+    uint8_t *pictures = NULL, *report = NULL;
+    gfx_status status = gfx_play((const uint8_t *)text, n, &none[0], 0, &none[1], 0, &played);
+    if (status == GFX_TOO_SMALL) { /* the lengths are those of every run on this text, so the next call is not answered so */
+        size_t pictures_length = played.pictures, report_length = played.report;
         pictures = malloc(pictures_length + 1);
         report = malloc(report_length + 1);
         if (!pictures || !report) fail("no memory");
@@ -267,8 +265,10 @@ static void play_text(const char *text, size_t n) {
         exit(2);
     }
     if (status != GFX_DONE) fail("the scene is not played");
-    fwrite(pictures, 1, played.pictures, stdout);
-    fwrite(report, 1, played.report, stderr);
+    if (pictures) fwrite(pictures, 1, played.pictures, stdout);
+    if (report) fwrite(report, 1, played.report, stderr);
+    free(pictures);
+    free(report);
 }
 
 int main(int argc, char **argv) {
@@ -280,5 +280,6 @@ int main(int argc, char **argv) {
     text[n] = 0;
     if (argc > 1 && strcmp(argv[1], "lines") == 0) play_lines(text);
     else play_text(text, n);
+    free(text);
     return 0;
 }
