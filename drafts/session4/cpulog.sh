@@ -1,0 +1,1 @@
+while true; do for g in $(pgrep -f "python3 /usr/local/bin/rt (ci|must-fail|plant)"); do awk -v d="$(readlink /proc/$g/cwd)" -v now=$(date +%s) '{printf "%s %s %d %.1f min\n", now, d, $1, ($16+$17)/6000}' /proc/$g/stat 2>/dev/null; done >> /work/h/cpu.log; sleep 10; done
