@@ -1,0 +1,11 @@
+use Rattle.std.proofs.Common.{arith, ap, ◌∙◌}
+use Rattle.gfx_model.specs.Words.{place_of_handle}
+use Rattle.schedule_model.specs.Machine.{place_at}
+use Rattle.hold_table.proofs.PlaceLaws.{place-set}
+use Rattle.test_frames.proofs.hold_table_tests.words_of_places.Goals as goal
+
+-- the thing is live where it was placed
+pub place_dying-requires-clause-place : goal.place_dying-requires-clause-place
+place_dying-requires-clause-place g c =
+    let p = place_of_handle c.of-old.result in
+    ap (λ v. place_at v.places p) c.place_live.ensures.api ∙ place-set _ p _ (omega (arith, ap place_of_handle c.of-old.ensures, c.split-before.new.api.many))

@@ -1,0 +1,9 @@
+//! Tests of scene texts and their lines, over the libraries as the gate has proved them. Each file has the name of the library that it tests.
+#![tactic(auto)]
+
+#[cfg(test)]
+mod scene_lines_tests;
+#[cfg(test)]
+mod scene_text_journal_tests;
+#[cfg(test)]
+mod scene_text_tests;

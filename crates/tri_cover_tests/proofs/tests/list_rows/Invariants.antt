@@ -1,5 +1,0 @@
-use Rattle.std.proofs.Common.{◌-◌}
-use Rattle.tri_cover_tests.proofs.tests.list_rows.Given as goal
-
-abbrev pub decreases-loop-row : goal.decreases-loop-row
-decreases-loop-row g l = l.bottom - l.row
