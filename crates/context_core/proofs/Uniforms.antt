@@ -29,7 +29,7 @@ pub record IsReferred (r : Resources) (e : Effect) : Type 0 where
   pub after : e.after ≡ on_thing (with_references (λ n. n + 1)) serial r
   pub changes : e.changes ≡ []
 
-uniform_by : (r : Resources) (name : List ℕ) (k : UniformKind) (h : Handle) (o : Option Thing) → AllByRecursion (λ c. c.0 ≡ false) (uniform_refusals r k o) → (uniform_effect r name k o).made ≡ Some h
+pub uniform_by : (r : Resources) (name : List ℕ) (k : UniformKind) (h : Handle) (o : Option Thing) → AllByRecursion (λ c. c.0 ≡ false) (uniform_refusals r k o) → (uniform_effect r name k o).made ≡ Some h
     → IsMake r (uniform_effect r name k o) h ⊎ IsReferred r (uniform_effect r name k o)
 uniform_by r name k h None p m = inl (made_by uniform_kind (uniform_info k) (uniform_content name (zero_value k)) r h p.0 p.1.0 m)
 uniform_by r name k h (Some t) p m = inr (record { serial = t.handle.serial; after = refl; changes = refl })

@@ -58,9 +58,8 @@ Prepares result old new = MatchResult result (λ p. IsReady p old new) (λ cause
 
 -- ---- a frame ends
 
--- a frame is what was written, the views, what was recorded with its journal, and the frame's number; the numbers of its items are
--- those from the frame's first to below a next one, each once
-pub record IsFrameOf (b : BookView) (gathered : List Recording) (base next : ℕ) (f : Frame) : Type 0 where
+-- a frame is what was written, the views, what was recorded with its journal, and the frame's number
+pub record IsFrameOf (b : BookView) (gathered : List Recording) (f : Frame) : Type 0 where
   pub number : f.number ≡ b.resources.frame
   pub views : f.views ≡ b.resources.views
   pub pre : f.pre ≡ b.pre
@@ -68,8 +67,11 @@ pub record IsFrameOf (b : BookView) (gathered : List Recording) (base next : ℕ
   pub payloads : payloads_seen f.payloads.items ≡ b.payloads
   pub recordings : f.recordings.items ≡ gathered
   pub journal : map entry_seen f.journal.items ≡ collected (recordings_seen gathered)
-  pub numbers : (n : ℕ) → count_of n (numbers_in gathered) ≡ once_between base next n
-  pub counted : base + length (numbers_in gathered) ≡ next
+
+-- the numbers are those from a frame's first to below the next one's, each once
+pub record AreNumbered (base next : ℕ) (numbers : List ℕ) : Type 0 where
+  pub once : (n : ℕ) → count_of n numbers ≡ once_between base next n
+  pub counted : base + length numbers ≡ next
 
 -- the state of the calls with work written in it
 abbrev pub with_work : Work → BookView → BookView
@@ -79,9 +81,29 @@ with_work w b = record b { pre = w.pre; post = w.post; payloads = payloads_seen 
 abbrev pub started : BookView → BookView
 started b = record { resources = model.start_frame (b.resources.frame + 1) b.resources; pre = []; post = []; payloads = [] }
 
--- a frame of the work and of what was gathered is made and is out, and the next one starts with nothing written, begun or gathered
+-- a frame of the work and of what was gathered is made, and is given and out from then on; its numbers are those that the seat gathered
+pub record MakesFrame (work : Work) (f : Frame) (old new : CoreView) : Type 0 where
+  pub is_of : IsFrameOf (with_work work old.state.book) old.state.gathered f
+  pub numbers : old.state.seat.numbers ≡ numbers_in old.state.gathered
+  pub same : new ≡ record old { state = record old.state { gathered = []; is_given = true; out = old.state.out + 1 } }
+
+-- the frame after the one that was given starts, with none of its encoders begun
+pub record StartsNext (old new : CoreView) : Type 0 where
+  pub numbered : AreNumbered old.state.seat.base new.state.seat.base old.state.seat.numbers
+  pub seat : new.state.seat ≡ record (advanced new.state.seat.base old.state.seat) { places = new.state.seat.places }
+  pub same : new ≡ record old {
+    state = record old.state {
+      book = record old.state.book { resources = model.start_frame (old.state.book.resources.frame + 1) old.state.book.resources };
+      seat = new.state.seat;
+      begun = 0;
+      is_given = false;
+    };
+  }
+
+-- both together: a frame of the work and of what was gathered is made and is out, and the next one starts with nothing written, begun or gathered
 pub record Gives (work : Work) (f : Frame) (old new : CoreView) : Type 0 where
-  pub is_of : IsFrameOf (with_work work old.state.book) old.state.gathered old.state.seat.base new.state.seat.base f
+  pub is_of : IsFrameOf (with_work work old.state.book) old.state.gathered f
+  pub numbered : AreNumbered old.state.seat.base new.state.seat.base (numbers_in old.state.gathered)
   pub seat : new.state.seat ≡ record (advanced new.state.seat.base old.state.seat) { places = new.state.seat.places }
   pub same : new ≡ record old {
     state = record old.state {
@@ -89,6 +111,7 @@ pub record Gives (work : Work) (f : Frame) (old new : CoreView) : Type 0 where
       seat = new.state.seat;
       begun = 0;
       gathered = [];
+      is_given = false;
       out = old.state.out + 1;
     };
   }
@@ -98,4 +121,4 @@ abbrev pub Finishes : Bool → Work → Option Frame → (old new : CoreView) �
 Finishes is_shown work frame old new =
     MatchOption frame
     ((is_shown ≡ false) × (new ≡ ended_core old))
-    (λ f. (is_shown ≡ true) × Gives work f old new)
+    (λ f. (is_shown ≡ true) × MakesFrame work f old new)

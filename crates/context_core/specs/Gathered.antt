@@ -1,5 +1,5 @@
 -- What is known of the recordings that were collected.
-use Rattle.std.specs.Prelude.{ℕ, ◌≡◌, ◌≤◌, ◌+◌, nat_lt, if◌then◌else◌, List, map, length, sum_by, ⊤}
+use Rattle.std.specs.Prelude.{ℕ, ◌≡◌, ◌<◌, ◌≤◌, ◌+◌, nat_lt, if◌then◌else◌, Bool, true, false, List, [], map, length, sum_by, ⊤}
 use Rattle.std.specs.List.{AllByRecursion}
 use Rattle.gfx_model.specs.World.{Item}
 use Rattle.schedule_model.specs.Machine.{Place}
@@ -28,6 +28,10 @@ once_below begun e = if nat_lt e begun then 1 else 0
 abbrev pub anything : ℕ → ℕ → List Item → ℕ → Type 0
 anything encoder frame items dropped = ⊤
 
+-- every list of items and every number is admitted
+abbrev pub AdmitsAll : (admits : ℕ → ℕ → List Item → ℕ → Type 0) → Type 0
+AdmitsAll admits = (encoder frame dropped : ℕ) (items : List Item) → admits encoder frame items dropped
+
 -- a recording of a frame: it is admitted, its numbers ascend, its ranges lie within, and each handle of it is of a thing that can be named in the frame
 pub record IsCollected (admits : ℕ → ℕ → List Item → ℕ → Type 0) (views frame : ℕ) (places : List Place) (r : Recording) : Type 0 where
   pub admitted : admits r.encoder frame (items_of r) r.dropped
@@ -51,6 +55,17 @@ pub record AreGathered (admits : ℕ → ℕ → List Item → ℕ → Type 0) (
   pub apart : (n : ℕ) → count_of n seat.numbers ≤ 1
   pub most : length seat.numbers ≤ 65528
   pub collected : AreCollected admits views seat.frame seat.places rs
+
+-- the frame was given: no encoder is off, what was gathered is the frame's, and a frame can follow
+pub record IsGivenAway (seat : SeatView) (rs : List Recording) : Type 0 where
+  pub none_off : seat.off ≡ []
+  pub none_left : rs ≡ []
+  pub not_last : seat.frame < 1073741823
+
+-- what was gathered, before the frame is given and after
+abbrev pub HasGathered : Bool → (admits : ℕ → ℕ → List Item → ℕ → Type 0) (views : ℕ) (seat : SeatView) (begun : ℕ) → List Recording → Type 0
+HasGathered false admits views seat begun rs = AreGathered admits views seat begun rs
+HasGathered true admits views seat begun rs = IsGivenAway seat rs
 
 -- what the seat gathered and who is off, as another view has it; all else as it was
 abbrev pub with_gathered : (new old : SeatView) → SeatView

@@ -8,7 +8,7 @@ use Rattle.gfx_model.specs.Resources.{Resources}
 use Rattle.schedule_model.specs.Machine.{Place}
 use Rattle.hold_table.specs.Views.{SeatView}
 use Rattle.context_core.specs.Places.{IsPlaced, IsUsable, Stays}
-use Rattle.context_core.specs.Gathered.{AreGathered}
+use Rattle.context_core.specs.Gathered.{HasGathered}
 use Rattle.context_core.specs.States.{CoreState}
 
 -- what the seat and the state of the calls say of one another
@@ -41,7 +41,7 @@ pub record IsCore (admits : ℕ → ℕ → List Item → ℕ → Type 0) (views
   pub latency : (1 ≤ v.book.resources.latency) × (v.book.resources.latency ≤ 3)
   pub few : v.out ≤ v.book.resources.latency
   pub encoders : v.begun ≤ 8
-  pub gathered : AreGathered admits views v.seat v.begun v.gathered
+  pub gathered : HasGathered v.is_given admits views v.seat v.begun v.gathered
   pub frames : Out
 
 -- what could be named in this frame or in one before it can be named still

@@ -1,5 +1,5 @@
 -- A core as the definitions see it.
-use Rattle.std.specs.Prelude.{ℕ, Bool, false, List, []}
+use Rattle.std.specs.Prelude.{ℕ, ◌+◌, Bool, false, if◌then◌else◌, List, []}
 use Rattle.atomic_table.specs.Seated.{TableId}
 use Rattle.gfx_model.specs.FrameCalls.{CallState}
 use Rattle.hold_table.specs.Views.{SeatView, first_view}
@@ -9,12 +9,13 @@ use Rattle.resource_book.specs.Written.{BookView}
 use Rattle.resource_book.specs.Opened.{opened}
 
 -- the state of the calls without contents and what they wrote in this frame, what the seat knows, how many encoders were begun in this frame, the recordings
--- that were gathered in it, how many frames are out, whether no frame follows, and the serial of the first thing
+-- that were gathered in it, whether the frame was given, how many frames are out, whether no frame follows, and the serial of the first thing
 pub record CoreState : Type 0 where
   pub book : BookView
   pub seat : SeatView
   pub begun : ℕ
   pub gathered : List Recording
+  pub is_given : Bool
   pub out : ℕ
   pub is_ended : Bool
   pub first : ℕ
@@ -41,6 +42,10 @@ own = record { core = λ v. v.state; with_core = λ s v. record v { state = s } 
 abbrev pub state_of : CoreState → CallState
 state_of v = record { resources = v.book.resources; encoders = v.begun; out = v.out; is_ended = v.is_ended }
 
+-- the number behind the last frame that was given
+abbrev pub frames_end : CoreState → ℕ
+frames_end v = if v.is_given then v.book.resources.frame + 1 else v.book.resources.frame
+
 -- nothing is made, begun or out
 abbrev pub opened_core : Start → CoreState
 opened_core start = record {
@@ -48,6 +53,7 @@ opened_core start = record {
   seat = first_view start.frame;
   begun = 0;
   gathered = [];
+  is_given = false;
   out = 0;
   is_ended = false;
   first = start.serial;

@@ -26,12 +26,14 @@ pub struct Lent {
 impl ContextCore {
     ghost use Rattle.context_core.specs.Calls.{IsBegin, Lends, IsLentLast};
 
-    /// Lends the seat of this frame's next encoder, for a recorder of this room that the caller starts; the core is not ended.
+    /// Lends the seat of this frame's next encoder, for a recorder of this room that the caller starts; the core is not ended, and the
+    /// frame is not given.
     /// `BadSize` exactly where the room is outside its limits; then `NoEncoder` exactly where eight were begun in this frame. It
     /// takes no memory.
     pub fn lend(&mut self, table: &HoldTable, room: Room) -> Result<Lent, Refusal>
         requires table { self.old.table ≡ table_of table.now }
         requires running { self.old.state.is_ended ≡ false }
+        requires not_given { self.old.state.is_given ≡ false }
         ensures { MatchResult result
             (λ l. Lends (room_seen room) l self.old self.new)
             (λ r. IsFirstRefusal (frame_refusal (state_of self.old.state) (begin_encoder (room_seen room))) r × (self.new ≡ self.old)) }
@@ -63,11 +65,12 @@ impl ContextCore {
         self.begun -= 1;
     }
 
-    /// Begins a recorder of this frame's next encoder; the core is not ended. `BadSize` exactly where the room is outside its
-    /// limits; then `NoEncoder` exactly where eight were begun in this frame. After want of memory all is as before.
+    /// Begins a recorder of this frame's next encoder; the core is not ended, and the frame is not given. `BadSize` exactly where the
+    /// room is outside its limits; then `NoEncoder` exactly where eight were begun in this frame. After want of memory all is as before.
     pub fn begin(&mut self, table: &HoldTable, room: Room) -> Result<Recorder, Refusal>
         requires table { self.old.table ≡ table_of table.now }
         requires running { self.old.state.is_ended ≡ false }
+        requires not_given { self.old.state.is_given ≡ false }
         ensures answer { IsBegin own (λ r. r.state) result (room_seen room) self.old self.new }
         ensures table { IfOk result (λ r. r.table ≡ self.old.table) }
     {

@@ -10,7 +10,7 @@ ghost use Rattle.resource_laws.specs.Lawful.{IsLawful};
 ghost use Rattle.resource_book.specs.Opened.{opened};
 ghost use Rattle.context_core.specs.Gathered.{anything};
 ghost use Rattle.context_core.specs.Kept.{IsCore};
-ghost use Rattle.context_core.specs.States.{opened_core};
+ghost use Rattle.context_core.specs.States.{opened_core, frames_end};
 
 use draw_encoder::Recording;
 use frame_record::Frame;
@@ -26,10 +26,13 @@ pub(crate) const MOST_ENCODERS: usize = 8;
 /// The state of the calls of one thread, with its seat of a hold table. Each call that changes a place, lends or joins a seat or
 /// starts a frame takes the hold table of its seat. No call waits.
 ///
-/// It is ended exactly after `finish` where the frame that came back was not shown, and after want of memory in `prepare`; then no
+/// A frame ends in three steps: `prepare`, `make`, which makes the frame that is to be given, and `start_next`. Between the last
+/// two the frame is given: there no encoder begins, nothing is made or destroyed, and no other frame is made.
+///
+/// It is ended exactly after `make` where the frame that came back was not shown, and after want of memory in `prepare`; then no
 /// encoder begins and no frame ends.
 ///
-/// A frame is out from the `finish` that made it to the `came_back` that tells that it is not; the oldest comes back first. That
+/// A frame is out from the `make` that made it to the `came_back` that tells that it is not; the oldest comes back first. That
 /// nobody reads a frame that came back is its caller's to see to. What could be named in a frame that is out can be named in it
 /// still, as the clause `stays` tells of each call that changes a place.
 /// Contracts see a `CoreView`.
@@ -41,6 +44,7 @@ pub struct ContextCore {
     pub(crate) views: u16,
     pub(crate) begun: u8,
     pub(crate) gathered: Vec<Recording>,
+    pub(crate) is_given: bool,
     pub(crate) out: u8,
     pub(crate) is_ended: bool,
     /// The serial at which it started.
@@ -64,6 +68,7 @@ impl Model for ContextCore {
         seat = api_view c.api;
         begun = c.begun;
         gathered = c.gathered.items;
+        is_given = c.is_given;
         out = c.out;
         is_ended = c.is_ended;
         first = c.first;
@@ -75,6 +80,7 @@ impl Model for ContextCore {
       seat = api_view c.api;
       begun = c.begun;
       gathered = c.gathered.items;
+      is_given = c.is_given;
       out = c.out;
       is_ended = c.is_ended;
       first = c.first;
@@ -113,6 +119,7 @@ impl ContextCore {
                 views: start.views,
                 begun: 0,
                 gathered,
+                is_given: false,
                 out: 0,
                 is_ended: false,
                 first: start.serial,
@@ -150,6 +157,13 @@ impl ContextCore {
         self.begun as u32
     }
 
+    /// Whether the frame was given, and the next one has not started.
+    pub fn is_given(&self) -> bool
+        ensures { result ≡ self.now.state.is_given }
+    {
+        self.is_given
+    }
+
     /// How many frames are out.
     pub fn out(&self) -> u32
         ensures same { result ≡ self.now.state.out }
@@ -168,7 +182,7 @@ impl ContextCore {
     /// The oldest frame that is out is out no longer, and what it names may go. Nobody reads it any more.
     pub fn came_back(&mut self, frame: &Frame)
         requires some { 0 < self.old.state.out }
-        requires oldest { frame.now.number + self.old.state.out ≡ self.old.state.book.resources.frame }
+        requires oldest { frame.now.number + self.old.state.out ≡ frames_end self.old.state }
         ensures { self.new ≡ record self.old { state = record self.old.state { out = self.old.state.out - 1 } } }
     {
         let _ = frame;

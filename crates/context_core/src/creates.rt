@@ -4,7 +4,7 @@ ghost use Rattle.gfx_words.specs.Kinds.{format_seen, program_seen, uniform_seen}
 ghost use Rattle.texture_store.specs.Seen.{own_source_seen};
 ghost use Rattle.hold_table.specs.Seats.{table_of};
 ghost use Rattle.context_core.specs.States.{own};
-ghost use Rattle.std.specs.Prelude.{◌≡◌, None, IfErr};
+ghost use Rattle.std.specs.Prelude.{◌≡◌, false, None, IfErr};
 
 use crate::context::ContextCore;
 use crate::marks::{mark_dying, mark_live};
@@ -24,6 +24,7 @@ impl ContextCore {
         layout: VertexLayout,
     ) -> Result<Handle, Refusal>
         requires table { self.old.table ≡ table_of table.now }
+        requires not_given { self.old.state.is_given ≡ false }
         ensures answer { Creates own result (model.create_layout layout) self.old self.new }
         ensures stays { KeepsUsable self.old.state self.new.state }
     {
@@ -42,6 +43,7 @@ impl ContextCore {
         bytes: &[u8],
     ) -> Result<Handle, Refusal>
         requires table { self.old.table ≡ table_of table.now }
+        requires not_given { self.old.state.is_given ≡ false }
         ensures answer { Creates own result (model.create_vertex_buffer layout bytes.now) self.old self.new }
         ensures stays { KeepsUsable self.old.state self.new.state }
     {
@@ -59,6 +61,7 @@ impl ContextCore {
         bytes: &[u8],
     ) -> Result<Handle, Refusal>
         requires table { self.old.table ≡ table_of table.now }
+        requires not_given { self.old.state.is_given ≡ false }
         ensures answer { Creates own result (model.create_index_buffer bytes.now) self.old self.new }
         ensures stays { KeepsUsable self.old.state self.new.state }
     {
@@ -81,6 +84,7 @@ impl ContextCore {
         source: TexSource,
     ) -> Result<Handle, Refusal>
         requires table { self.old.table ≡ table_of table.now }
+        requires not_given { self.old.state.is_given ≡ false }
         ensures answer { Creates own result (model.create_texture width height (format_seen format) blit_dst (own_source_seen source)) self.old self.new }
         ensures stays { KeepsUsable self.old.state self.new.state }
     {
@@ -101,6 +105,7 @@ impl ContextCore {
         depth: Option<Handle>,
     ) -> Result<Handle, Refusal>
         requires table { self.old.table ≡ table_of table.now }
+        requires not_given { self.old.state.is_given ≡ false }
         ensures answer { Creates own result (model.create_frame_buffer color depth) self.old self.new }
         ensures stays { KeepsUsable self.old.state self.new.state }
     {
@@ -117,6 +122,7 @@ impl ContextCore {
         kind: ProgramKind,
     ) -> Result<Handle, Refusal>
         requires table { self.old.table ≡ table_of table.now }
+        requires not_given { self.old.state.is_given ≡ false }
         ensures answer { Creates own result (model.create_program (program_seen kind)) self.old self.new }
         ensures stays { KeepsUsable self.old.state self.new.state }
     {
@@ -136,6 +142,7 @@ impl ContextCore {
         kind: UniformKind,
     ) -> Result<Handle, Refusal>
         requires table { self.old.table ≡ table_of table.now }
+        requires not_given { self.old.state.is_given ≡ false }
         ensures answer { Creates own result (model.create_uniform name.now (uniform_seen kind)) self.old self.new }
         ensures memory { IfErr result (λ r. r ≡ Refusal.OutOfMemory → model.named_uniform self.old.state.book.resources name.now ≡ None) }
         ensures stays { KeepsUsable self.old.state self.new.state }
@@ -153,6 +160,7 @@ impl ContextCore {
     /// memory. What died can be named in this frame, and its index is given again when no frame that is out can name it.
     pub fn destroy(&mut self, table: &HoldTable, h: Handle) -> Result<(), Refusal>
         requires table { self.old.table ≡ table_of table.now }
+        requires not_given { self.old.state.is_given ≡ false }
         ensures answer { Destroys own result h self.old self.new }
         ensures stays { KeepsUsable self.old.state self.new.state }
     {

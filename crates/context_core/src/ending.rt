@@ -97,7 +97,7 @@ fn next_frame(table: &HoldTable, api: &mut ApiSeat, book: &mut Book)
 }
 
 impl ContextCore {
-    ghost use Rattle.context_core.specs.Ended.{Prepares, Gives, Finishes};
+    ghost use Rattle.context_core.specs.Ended.{Prepares, MakesFrame, Finishes, StartsNext};
 
     /// Prepares the end of the frame: takes what was written, and all memory that is needed. The core is not ended.
     ///
@@ -122,25 +122,17 @@ impl ContextCore {
         }
     }
 
-    fn give(
-        &mut self,
-        table: &HoldTable,
-        work: Work,
-        journal: Vec<JournalEntry>,
-        room: Vec<Recording>,
-    ) -> Frame
-        requires table { self.old.table ≡ table_of table.now }
+    // The frame of the work and of what was gathered, which is given from then on.
+    fn give(&mut self, work: Work, journal: Vec<JournalEntry>, room: Vec<Recording>) -> Frame
+        requires not_given { self.old.state.is_given ≡ false }
         requires none_off { self.old.state.seat.off ≡ [] }
         requires out { self.old.state.out < self.old.state.book.resources.latency }
         requires accepted { frame_refusal (state_of self.old.state) end_frame ≡ None }
-        requires taken { (self.old.state.book.pre ≡ []) × (self.old.state.book.post ≡ []) × (self.old.state.book.payloads ≡ []) }
         requires views { work.views ≡ self.old.state.book.resources.views }
         requires room { (room.items ≡ []) × (8 ≤ vec_capacity room) }
         requires journal { map entry_seen journal.items ≡ collected (recordings_seen self.old.state.gathered) }
-        ensures gives { Gives work result self.old self.new }
-        ensures stays { KeepsOut self.old.state self.new.state }
+        ensures { MakesFrame work result self.old self.new }
     {
-        self.book.tell_facts();
         let Work {
             views,
             pre,
@@ -150,29 +142,26 @@ impl ContextCore {
         let recordings = mem::replace(&mut self.gathered, room);
         let number = self.book.frame();
         let frame = Frame::new(number, views, pre, post, payloads, recordings, journal);
-        next_frame(table, &mut self.api, &mut self.book);
-        self.begun = 0;
+        self.is_given = true;
         self.out += 1;
         frame
     }
 
-    /// Ends the frame by what was prepared: makes the frame that is to be given, which is out from then on, and starts the next
-    /// one; or ends the core, where the frame that came back before was not shown. `is_shown` is true where none came back.
+    /// Makes the frame of what was prepared, which is given and out from then on; or ends the core, where the frame that came back
+    /// before was not shown. `is_shown` is true where none came back. `start_next` follows, when the frame is handed over.
     ///
-    /// The conditions are what `prepare` told: the core is not ended, no encoder was begun since, no view was set and nothing was
-    /// written. Fewer frames are out than may be where one is to be given.
-    pub fn finish(&mut self, table: &HoldTable, prepared: Prepared, is_shown: bool) -> FrameEnd
+    /// The conditions are what `prepare` told: the core is not ended, no encoder was begun since, and no view was set. The frame was
+    /// not given before, and fewer frames are out than may be where one is to be given.
+    pub fn make(&mut self, prepared: Prepared, is_shown: bool) -> FrameEnd
         requires running { self.old.state.is_ended ≡ false }
-        requires table { self.old.table ≡ table_of table.now }
+        requires not_given { self.old.state.is_given ≡ false }
         requires none_off { self.old.state.seat.off ≡ [] }
         requires out { is_shown ≡ true → self.old.state.out < self.old.state.book.resources.latency }
         requires accepted { frame_refusal (state_of self.old.state) end_frame ≡ None }
-        requires taken { (self.old.state.book.pre ≡ []) × (self.old.state.book.post ≡ []) × (self.old.state.book.payloads ≡ []) }
         requires views { prepared.work.views ≡ self.old.state.book.resources.views }
         requires room { (prepared.room.items ≡ []) × (8 ≤ vec_capacity prepared.room) }
         requires journal { map entry_seen prepared.journal.items ≡ collected (recordings_seen self.old.state.gathered) }
         ensures answer { Finishes is_shown prepared.work result.frame self.old self.new }
-        ensures stays { KeepsOut self.old.state self.new.state }
         ensures told { result.journal ≡ prepared.told }
     {
         let Prepared {
@@ -188,10 +177,25 @@ impl ContextCore {
                 journal: told,
             };
         }
-        let frame = self.give(table, work, journal, room);
+        let frame = self.give(work, journal, room);
         FrameEnd {
             frame: Some(frame),
             journal: told,
         }
+    }
+
+    /// Starts the frame after the one that was given: numbers go on behind those that were gathered, and what no frame that is out can
+    /// name is free again. Nothing was destroyed since the work of the frame was taken.
+    pub fn start_next(&mut self, table: &HoldTable)
+        requires table { self.old.table ≡ table_of table.now }
+        requires given { self.old.state.is_given ≡ true }
+        requires taken { self.old.state.book.post ≡ [] }
+        ensures starts { StartsNext self.old self.new }
+        ensures stays { KeepsOut self.old.state self.new.state }
+    {
+        self.book.tell_facts();
+        next_frame(table, &mut self.api, &mut self.book);
+        self.begun = 0;
+        self.is_given = false;
     }
 }

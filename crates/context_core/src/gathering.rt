@@ -40,6 +40,9 @@ impl ContextCore {
     pub fn off(&self) -> u32
         ensures { result ≡ length self.now.state.seat.off }
     {
+        if self.is_given {
+            return 0;
+        }
         self.begun as u32 - self.gathered.len() as u32
     }
 

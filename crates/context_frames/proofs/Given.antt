@@ -17,7 +17,7 @@ use Rattle.context_frames.specs.Laws.{GivenFrameLaw, after_before, after_all}
 use Rattle.context_frames.proofs.Recordings.{gathered, of_plan}
 
 pub given_frames : (L : Type 0) → GatheredLaw → GivenFrameLaw L
-given_frames L law s k f gone first places old next frame w handles planned wrote stands are counted is =
+given_frames L law s k f gone first places old frame w handles planned wrote stands are counted is =
     let plan : FramePlan = plan_of s k f gone (after_before s f first) (after_all s f first) in
     let all : Written = written_by s.names first f in
     let rs : List model.Recorded = recordings_seen old.gathered in

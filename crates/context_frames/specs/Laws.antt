@@ -37,8 +37,8 @@ after_all s f first = after_lines s.names (after_before s f first) f.beside
 -- is the scene's frame by index, by the journal of the recordings
 abbrev pub GivenFrameLaw : Type 0 → Type 0
 GivenFrameLaw L = (s : Scene) (k : ℕ) (f : SceneFrame) (gone : List ℕ) (first : Progress) (places : List Place)
-    (old : ContextView L) (next : ℕ) (frame : Frame) (w : Written) (handles : List (Option Handle))
+    (old : ContextView L) (frame : Frame) (w : Written) (handles : List (Option Handle))
     → slice_get (plans s) k ≡ Some (plan_of s k f gone (after_before s f first) (after_all s f first)) → w ≡ written_by s.names first f
     → StandsFor w (after_all s f first) old.book handles → AreOfFrame (IsAccepted s) (views_of s) k places s.encoders old.gathered
-    → view_count (after_all s f first).resources.views ≡ views_of s → IsFrameOf old next frame
+    → view_count (after_all s f first).resources.views ≡ views_of s → IsFrameOf old frame
     → frame_seen frame ≡ frame_data s k first f (collected (recordings_seen old.gathered))

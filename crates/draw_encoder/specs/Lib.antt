@@ -7,5 +7,4 @@ pub mod Names
 pub mod Calls
 pub mod Bundles
 pub mod Encoders
-pub mod Formats
 pub mod Begins

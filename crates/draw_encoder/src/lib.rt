@@ -3,7 +3,6 @@
 
 mod bundle;
 mod encoder;
-mod handles;
 mod items;
 pub mod laws;
 mod lists;

@@ -12,13 +12,13 @@ ghost use Rattle.draw_encoder.specs.Seen.{room_seen, copy_seen};
 ghost use Rattle.gfx_model.specs.FrameCalls.{IsRoom};
 ghost use Rattle.draw_encoder.specs.Calls.{Answers};
 
-use crate::handles::{
-    differ_in_format, is_no_blit_destination, is_no_color_texture, is_no_uniform_for, is_not_of,
-};
 use crate::items::{BlitCall, Recording, UniformSet};
 use crate::tape::Tape;
 use fix_math::{Affine, Rect};
 use gfx_words::{Handle, Kind, Refusal, Room, StateWord, StencilWord, UniformValue};
+use handle_kinds::{
+    differ_in_format, is_no_blit_destination, is_no_color_texture, is_no_uniform_for, is_not_of,
+};
 use hold_table::{EncSeat, HoldTable};
 use std::alloc::Global;
 use std::marker::Model;

@@ -84,9 +84,8 @@ module _ {L : Type 0} (old : ContextView L) (out : ℕ) (back : List RenderedFra
               payloads = f.payloads ∙ prep.work.payloads;
               recordings = f.recordings;
               journal = f.journal;
-              numbers = f.numbers;
-              counted = f.counted;
             };
+            numbered = g.numbered;
             seat = g.seat;
             same = g.same;
           });
@@ -143,7 +142,7 @@ not_spent v e = refused_by (nat_le greatest_frame v.book.resources.frame) e
 pub made_none : (given : Bool) (work : Work) (o : Option Frame) (a b : CoreView) → o ≡ None → cores.Finishes given work o a b → (given ≡ false) × (b ≡ cores.ended_core a)
 made_none given work o a b is f = subst (λ (x : Option Frame). cores.Finishes given work x a b) is f
 
-pub made_some : (given : Bool) (work : Work) (o : Option Frame) (frame : Frame) (a b : CoreView) → o ≡ Some frame → cores.Finishes given work o a b → (given ≡ true) × cores.Gives work frame a b
+pub made_some : (given : Bool) (work : Work) (o : Option Frame) (frame : Frame) (a b : CoreView) → o ≡ Some frame → cores.Finishes given work o a b → (given ≡ true) × cores.MakesFrame work frame a b
 made_some given work o frame a b is f = subst (λ (x : Option Frame). cores.Finishes given work x a b) is f
 
 module _ {L : Type 0} (given : Bool) (work : Work) (a b : CoreView) (old : ContextView L) where
@@ -161,12 +160,13 @@ module _ {L : Type 0} (given : Bool) (work : Work) (a b : CoreView) (old : Conte
           frame = frame;
           given = is;
           is_of = f.1.is_of;
+          numbered = f.1.numbered;
           seat = f.1.seat;
           same = ap (λ (c : CoreView). context_of c.state now new later) f.1.same ∙ out;
         },
         ap (λ (c : CoreView). c.state.out) f.1.same,
         same,
       )) where
-        out : context_of (record a.state { book = started a.state.book; seat = b.state.seat; begun = 0; gathered = []; out = a.state.out + 1 }) now new later
+        out : context_of (record a.state { book = started a.state.book; seat = b.state.seat; begun = 0; gathered = []; is_given = false; out = a.state.out + 1 }) now new later
             ≡ record (with_written work (context_of a.state gone back link)) { book = started a.state.book; seat = b.state.seat; begun = 0; gathered = []; out = b.state.out; given = now; back = new; link = later }
-        out = λ j. context_of (record a.state { book = started a.state.book; seat = b.state.seat; begun = 0; gathered = []; out = sym (ap (λ (c : CoreView). c.state.out) f.1.same) j }) now new later
+        out = λ j. context_of (record a.state { book = started a.state.book; seat = b.state.seat; begun = 0; gathered = []; is_given = false; out = sym (ap (λ (c : CoreView). c.state.out) f.1.same) j }) now new later

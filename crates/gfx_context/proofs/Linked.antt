@@ -24,6 +24,7 @@ use Rattle.context_core.specs.Calls.{IsPlacedBy, Creates, Updates, Changes, Dest
 use Rattle.context_core.specs.Ended.{Gives, ended_core}
 use Rattle.context_core.specs.States.{CoreView, own}
 use Rattle.resource_book.proofs.SameLaws.{same_law}
+use Rattle.context_core.proofs.Ends.{as_gathered}
 use Rattle.gfx_context.specs.Kept.{AreOut, AreAdmitted, IsLinked, IsContext}
 use Rattle.gfx_context.specs.States.{context_of}
 use Rattle.gfx_context.proofs.OutStays.{out_stays}
@@ -73,12 +74,13 @@ died_frame false h v = refl
 
 module _ {T : TableId} {admits : ℕ → ℕ → List Item → ℕ → Type 0} {views latency : ℕ} {a : CoreView} {given : List Frame} {back : List RenderedFrame} (l : IsLinked T admits views latency a given back) (b : CoreView) where
   -- what was gathered and the frames that are out stay
-  moved : b.table ≡ a.table → view_count b.state.book.resources.views ≡ view_count a.state.book.resources.views → b.state.book.resources.latency ≡ a.state.book.resources.latency → b.state.gathered ≡ a.state.gathered → b.state.out ≡ a.state.out
+  moved : b.table ≡ a.table → view_count b.state.book.resources.views ≡ view_count a.state.book.resources.views → b.state.book.resources.latency ≡ a.state.book.resources.latency → b.state.gathered ≡ a.state.gathered → b.state.is_given ≡ a.state.is_given → b.state.out ≡ a.state.out
       → b.state.seat.frame ≡ a.state.seat.frame → KeepsUsable a.state b.state → IsLinked T admits views latency b given back
-  moved table vs late gathered out frame stays = record {
+  moved table vs late gathered flag out frame stays = record {
     table_is = table ∙ l.table_is;
     views_are = vs ∙ l.views_are;
     latency_is = l.latency_is ∙ sym late;
+    not_given = flag ∙ l.not_given;
     admitted = subst (λ (rs : List Recording). AreAdmitted admits rs) (sym gathered) l.admitted;
     frames = subst (λ (p : ℕ × ℕ). AreOut admits views b.state.seat.places p.0 p.1 given back) (λ j. (sym frame j, sym out j))
         (out_stays admits views a.state.seat.places b.state.seat.places a.state.seat.frame a.state.out given back (λ n lt le. stays n (omega (arith, lt))) l.frames);
@@ -93,6 +95,7 @@ module _ {T : TableId} {admits : ℕ → ℕ → List Item → ℕ → Type 0} {
     table_is = l.table_is;
     views_are = vs ∙ l.views_are;
     latency_is = l.latency_is ∙ sym late;
+    not_given = l.not_given;
     admitted = l.admitted;
     frames = l.frames;
   })
@@ -101,14 +104,14 @@ module _ {T : TableId} {admits : ℕ → ℕ → List Item → ℕ → Type 0} {
   linked_creates call (Ok h) m stays =
       let same = same_law a.state.book.resources call in
       moved (ap (λ (c : CoreView). c.table) m.after) (ap (λ (c : CoreView). view_count c.state.book.resources.views) m.after ∙ same.0) (ap (λ (c : CoreView). c.state.book.resources.latency) m.after ∙ same.1)
-      (ap (λ (c : CoreView). c.state.gathered) m.after) (ap (λ (c : CoreView). c.state.out) m.after) (placed_frame (effect a.state.book.resources call).changes h a.state.seat b.state.seat m.placed) stays
+      (ap (λ (c : CoreView). c.state.gathered) m.after) (ap (λ (c : CoreView). c.state.is_given) m.after) (ap (λ (c : CoreView). c.state.out) m.after) (placed_frame (effect a.state.book.resources call).changes h a.state.seat b.state.seat m.placed) stays
   linked_creates call (Err r) m stays = same_as m.1
 
   pub linked_destroys : (h : Handle) (result : Result (Unit {0}) Refusal) → Destroys own result h a b → KeepsUsable a.state b.state → IsLinked T admits views latency b given back
   linked_destroys h (Ok u) m stays =
       let same = same_law a.state.book.resources (destroy h) in
       moved (ap (λ (c : CoreView). c.table) m.1) (ap (λ (c : CoreView). view_count c.state.book.resources.views) m.1 ∙ same.0) (ap (λ (c : CoreView). c.state.book.resources.latency) m.1 ∙ same.1)
-      (ap (λ (c : CoreView). c.state.gathered) m.1) (ap (λ (c : CoreView). c.state.out) m.1)
+      (ap (λ (c : CoreView). c.state.gathered) m.1) (ap (λ (c : CoreView). c.state.is_given) m.1) (ap (λ (c : CoreView). c.state.out) m.1)
       (ap (λ (c : CoreView). c.state.seat.frame) m.1 ∙ died_frame (not (nat_lt 1 (references_of (find (is_at h.kind h.index) a.state.book.resources.things)))) h a.state.seat) stays
   linked_destroys h (Err r) m stays = same_as m.1
 
@@ -122,7 +125,7 @@ module _ {T : TableId} {admits : ℕ → ℕ → List Item → ℕ → Type 0} {
 
   -- a seat is lent
   pub linked_lent : b ≡ record a { state = with_lent a.state } → IsLinked T admits views latency b given back
-  linked_lent e = subst (λ (c : CoreView). IsLinked T admits views latency c given back) (sym e) (record { table_is = l.table_is; views_are = l.views_are; latency_is = l.latency_is; admitted = l.admitted; frames = l.frames })
+  linked_lent e = subst (λ (c : CoreView). IsLinked T admits views latency c given back) (sym e) (record { table_is = l.table_is; views_are = l.views_are; latency_is = l.latency_is; not_given = l.not_given; admitted = l.admitted; frames = l.frames })
 
   -- bundles are collected
   pub linked_collected : b ≡ record a { state = record a.state { seat = b.state.seat; gathered = b.state.gathered } } → b.state.seat ≡ with_gathered b.state.seat a.state.seat → AreAdmitted admits b.state.gathered → IsLinked T admits views latency b given back
@@ -130,6 +133,7 @@ module _ {T : TableId} {admits : ℕ → ℕ → List Item → ℕ → Type 0} {
     table_is = ap (λ (c : CoreView). c.table) e ∙ l.table_is;
     views_are = ap (λ (c : CoreView). view_count c.state.book.resources.views) e ∙ l.views_are;
     latency_is = l.latency_is ∙ sym (ap (λ (c : CoreView). c.state.book.resources.latency) e);
+    not_given = ap (λ (c : CoreView). c.state.is_given) e ∙ l.not_given;
     admitted = admitted;
     frames = subst (λ (p : SeatView × ℕ). AreOut admits views p.0.places p.0.frame p.1 given back) (λ j. (sym seat j, sym (ap (λ (c : CoreView). c.state.out) e) j)) l.frames;
   }
@@ -141,6 +145,7 @@ module _ {T : TableId} {admits : ℕ → ℕ → List Item → ℕ → Type 0} {
     table_is = l.table_is;
     views_are = l.views_are;
     latency_is = same ∙ l.latency_is;
+    not_given = l.not_given;
     admitted = l.admitted;
     frames = subst (λ (fs : List Frame). AreOut admits views a.state.seat.places a.state.seat.frame (a.state.out - 1) fs new) (sym is)
         (out_back admits views a.state.seat.places a.state.seat.frame given back a.state.out (a.state.out - 1) new r l.frames (omega (arith, some)) c);
@@ -148,7 +153,7 @@ module _ {T : TableId} {admits : ℕ → ℕ → List Item → ℕ → Type 0} {
 
   -- no frame follows
   pub linked_ended : b ≡ ended_core a → IsLinked T admits views latency b given back
-  linked_ended e = subst (λ (c : CoreView). IsLinked T admits views latency c given back) (sym e) (record { table_is = l.table_is; views_are = l.views_are; latency_is = l.latency_is; admitted = l.admitted; frames = l.frames })
+  linked_ended e = subst (λ (c : CoreView). IsLinked T admits views latency c given back) (sym e) (record { table_is = l.table_is; views_are = l.views_are; latency_is = l.latency_is; not_given = l.not_given; admitted = l.admitted; frames = l.frames })
 
   -- a frame is given
   pub linked_given : IsCore anything (view_count a.state.book.resources.views) ⊤ a.state → (work : Work) (f : Frame) → Gives work f a b → KeepsOut a.state b.state → a.state.out < a.state.book.resources.latency
@@ -157,7 +162,8 @@ module _ {T : TableId} {admits : ℕ → ℕ → List Item → ℕ → Type 0} {
       let book : b.state.book.resources ≡ start_frame (a.state.book.resources.frame + 1) a.state.book.resources = ap (λ (c : CoreView). c.state.book.resources) g.same in
       let frame : b.state.seat.frame ≡ suc a.state.seat.frame = ap (λ (s : SeatView). s.frame) g.seat in
       let out : b.state.out ≡ a.state.out + 1 = ap (λ (c : CoreView). c.state.out) g.same in
-      let gathered = gathered_admitted admits (view_count a.state.book.resources.views) views a.state.seat a.state.begun a.state.gathered l.views_are k.gathered l.admitted in
+      let gathered = gathered_admitted admits (view_count a.state.book.resources.views) views a.state.seat a.state.begun a.state.gathered l.views_are
+      (as_gathered anything (view_count a.state.book.resources.views) a.state.seat a.state.begun a.state.gathered a.state.is_given l.not_given k.gathered) l.admitted in
       let more : AreOut admits views a.state.seat.places (suc a.state.seat.frame) (a.state.out + 1) now back = out_given admits views a.state.seat.places a.state.seat.frame given back a.state.out now f l.frames is (g.is_of.number ∙ k.tied.frame)
       (subst (λ (rs : List Recording). AreCollected admits views a.state.seat.frame a.state.seat.places rs) (sym g.is_of.recordings) gathered.collected)
       (subst (λ (vs : Views). AreTargets a.state.seat.frame a.state.seat.places vs.settings) (sym g.is_of.views) k.targets) in
@@ -165,6 +171,7 @@ module _ {T : TableId} {admits : ℕ → ℕ → List Item → ℕ → Type 0} {
         table_is = ap (λ (c : CoreView). c.table) g.same ∙ l.table_is;
         views_are = ap (λ (r : Resources). view_count r.views) book ∙ length-map a.state.book.resources.views.settings (with_live_target a.state.book.resources) ∙ l.views_are;
         latency_is = lates ∙ l.latency_is ∙ sym (ap (λ (r : Resources). r.latency) book);
+        not_given = ap (λ (c : CoreView). c.state.is_given) g.same;
         admitted = subst (λ (rs : List Recording). AreAdmitted admits rs) (sym (ap (λ (c : CoreView). c.state.gathered) g.same)) tt;
         frames = subst (λ (p : ℕ × ℕ × List RenderedFrame). AreOut admits views b.state.seat.places p.0 p.1 now p.2) (λ j. (sym frame j, sym out j, sym same j))
             (out_stays admits views a.state.seat.places b.state.seat.places (suc a.state.seat.frame) (a.state.out + 1) now back (λ n lt le. stays n (omega (arith, le, few))) more);
@@ -183,6 +190,7 @@ module _ {L : Type 0} {T : TableId} {admits : ℕ → ℕ → List Item → ℕ 
     latency = k.latency;
     few = k.few;
     encoders = k.encoders;
-    gathered = gathered_admitted admits (view_count c.state.book.resources.views) views c.state.seat c.state.begun c.state.gathered l.views_are k.gathered l.admitted;
+    gathered = gathered_admitted admits (view_count c.state.book.resources.views) views c.state.seat c.state.begun c.state.gathered l.views_are
+        (as_gathered anything (view_count c.state.book.resources.views) c.state.seat c.state.begun c.state.gathered c.state.is_given l.not_given k.gathered) l.admitted;
     frames = l.frames;
   }

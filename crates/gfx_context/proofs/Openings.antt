@@ -1,5 +1,5 @@
 -- What a new context keeps.
-use Rattle.std.proofs.Common.{◌≡◌, ℕ, List, [], ◌++◌, map, length, sym, ap, ◌∙◌, subst, arith, append-nil}
+use Rattle.std.proofs.Common.{◌≡◌, ℕ, List, [], ◌++◌, map, length, refl, sym, ap, ◌∙◌, subst, arith, append-nil}
 use Rattle.std.specs.List.{AllByRecursion}
 use Rattle.std.proofs.lemmas.List.{length-map, length-replicate, drop_all}
 use Rattle.atomic_table.specs.Seated.{TableId}
@@ -25,6 +25,7 @@ module _ {T : TableId} {admits : ℕ → ℕ → List Item → ℕ → Type 0} {
         table_is = table;
         views_are = length-replicate start.views plain_view ∙ counted;
         latency_is = late;
+        not_given = refl;
         admitted = tt;
         frames = record {
           counted = (let a = ap length none in let b = length-map back (λ r. r.frame) in omega (arith, a, b));

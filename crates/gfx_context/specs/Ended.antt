@@ -71,17 +71,23 @@ MakesWay note old back =
     ((old.out < old.book.resources.latency) × (back ≡ old.back))
     (λ n. (old.out ≡ old.book.resources.latency) × IsBack n old.given old.back back)
 
--- a frame is what the context has of it, with the numbers to below a next one
-abbrev pub IsFrameOf : {L : Type 0} → ContextView L → ℕ → Frame → Type 0
-IsFrameOf old next f = cores.IsFrameOf old.book old.gathered old.seat.base next f
+-- a frame is what the context has of it
+abbrev pub IsFrameOf : {L : Type 0} → ContextView L → Frame → Type 0
+IsFrameOf old f = cores.IsFrameOf old.book old.gathered f
 
--- the frame is given, and the next one starts with nothing written, begun or gathered
+-- the frame is given, and the next one starts with nothing written, begun or gathered; the numbers of its items are those from its first to below the
+-- next one's, each once
 pub record Gives {L : Type 0} (old new : ContextView L) : Type 0 where
   pub frame : Frame
   pub given : new.given ≡ old.given ++ frame ∷ []
-  pub is_of : IsFrameOf old new.seat.base frame
+  pub is_of : IsFrameOf old frame
+  pub numbered : cores.AreNumbered old.seat.base new.seat.base (numbers_in old.gathered)
   pub seat : new.seat ≡ record (advanced new.seat.base old.seat) { places = new.seat.places }
   pub same : new ≡ record old { book = started old.book; seat = new.seat; begun = 0; gathered = []; out = new.out; given = new.given; back = new.back; link = new.link }
+
+-- the frame of this number was given last
+abbrev pub IsLast : ℕ → List Frame → Type 0
+IsLast number given = (before : List Frame) × (frame : Frame) × (given ≡ before ++ frame ∷ []) × (frame.number ≡ number)
 
 -- with work written in it
 abbrev pub with_written : {L : Type 0} → Work → ContextView L → ContextView L

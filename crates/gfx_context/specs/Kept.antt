@@ -1,5 +1,5 @@
 -- What every context keeps.
-use Rattle.std.specs.Prelude.{ℕ, ◌≡◌, ◌≤◌, ◌+◌, ◌-◌, List, ◌++◌, map, length}
+use Rattle.std.specs.Prelude.{ℕ, ◌≡◌, ◌≤◌, ◌+◌, ◌-◌, false, List, ◌++◌, map, length}
 use Rattle.std.specs.List.{AllByRecursion, range_with_len}
 use Rattle.atomic_table.specs.Seated.{TableId}
 use Rattle.gfx_model.specs.World.{Item}
@@ -42,5 +42,6 @@ pub record IsLinked (table : TableId) (admits : ℕ → ℕ → List Item → �
   pub table_is : c.table ≡ table
   pub views_are : view_count c.state.book.resources.views ≡ views
   pub latency_is : latency ≡ c.state.book.resources.latency
+  pub not_given : c.state.is_given ≡ false
   pub admitted : AreAdmitted admits c.state.gathered
   pub frames : AreOut admits views c.state.seat.places c.state.seat.frame c.state.out given back

@@ -1,5 +1,5 @@
 -- A context as the definitions see it.
-use Rattle.std.specs.Prelude.{ℕ, Bool, List, []}
+use Rattle.std.specs.Prelude.{ℕ, Bool, false, List, []}
 use Rattle.gfx_model.specs.Resources.{opening}
 use Rattle.gfx_model.specs.FrameCalls.{CallState}
 use Rattle.hold_table.specs.Views.{SeatView}
@@ -25,13 +25,14 @@ pub record ContextView (L : Type 0) : Type 0 where
   pub back : List RenderedFrame
   pub link : L
 
--- the state of its core
+-- the state of its core: between two calls the frame is not given
 abbrev pub core_in : {L : Type 0} → ContextView L → CoreState
 core_in v = record {
   book = v.book;
   seat = v.seat;
   begun = v.begun;
   gathered = v.gathered;
+  is_given = false;
   out = v.out;
   is_ended = v.is_ended;
   first = v.first;

@@ -1,5 +1,8 @@
 // The context, how it begins, and what it tells.
-ghost use Rattle.std.specs.Prelude.{◌≡◌, ◌≤◌, [], false, IfOk, IfErr};
+ghost use Rattle.std.specs.Prelude.{◌≡◌, ◌≤◌, [], false, option_map, IfOk, IfErr};
+ghost use Rattle.std.specs.List.{find};
+ghost use Rattle.gfx_model.specs.Resources.{is_at};
+ghost use Rattle.gfx_words.specs.Kinds.{kind_seen};
 ghost use Rattle.hold_table.specs.Seats.{api_table, api_view};
 ghost use Rattle.hold_table.specs.Views.{first_view};
 ghost use Rattle.resource_laws.specs.Lawful.{IsLawful};
@@ -10,6 +13,7 @@ ghost use Rattle.gfx_context.specs.Kept.{IsContext};
 use context_core::ContextCore;
 use draw_encoder::{Naming, Shared};
 use frame_record::FrameLink;
+use gfx_words::{Handle, Kind};
 use hold_table::ApiSeat;
 use resource_book::Start;
 use std::alloc::Global;
@@ -89,6 +93,20 @@ impl<'t, C: Naming, L: FrameLink + Drop> Context<'t, C, L> {
         ensures most { result ≤ 1073741823 }
     {
         self.core.frame_number()
+    }
+
+    /// The handle of the thing at a kind's index, live or waiting.
+    pub fn handle_at(&self, kind: Kind, index: u16) -> Option<Handle>
+        ensures { result ≡ option_map (λ t. t.handle) (find (is_at (kind_seen kind) index) self.now.book.resources.things) }
+    {
+        self.core.handle_at(kind, index)
+    }
+
+    /// How many frames may be out.
+    pub fn latency(&self) -> u8
+        ensures { result ≡ self.now.book.resources.latency }
+    {
+        self.core.latency()
     }
 
     /// How many encoders were begun in this frame.

@@ -4,14 +4,18 @@ ghost use Rattle.gfx_model.specs.Frames.{collected};
 ghost use Rattle.gfx_model.specs.FrameCalls.{end_frame, frame_refusal};
 ghost use Rattle.frame_record.specs.Seen.{entry_seen, recordings_seen};
 ghost use Rattle.gfx_context.specs.States.{state_of};
-ghost use Rattle.gfx_context.specs.Ended.{is_shown};
+ghost use Rattle.hold_table.specs.Seats.{table_of};
+ghost use Rattle.context_core.specs.Ended.{StartsNext};
+ghost use Rattle.context_core.specs.Kept.{KeepsOut};
+ghost use Rattle.gfx_context.specs.Ended.{is_shown, IsLast};
 
 use crate::context::Context;
 use crate::report::{BackNote, FrameReport};
-use context_core::{FrameEnd, NotReady, Prepared};
+use context_core::{ContextCore, FrameEnd, NotReady, Prepared};
 use draw_encoder::Naming;
 use frame_record::{FrameLink, JournalEntry, Outcome};
 use gfx_words::Refusal;
+use hold_table::HoldTable;
 use std::sync::Wait;
 
 impl<'t, C: Naming, L: FrameLink + Drop> Context<'t, C, L> {
@@ -47,7 +51,7 @@ impl<'t, C: Naming, L: FrameLink + Drop> Context<'t, C, L> {
         Some(self.take_one())
     }
 
-    /// Gives the frame, or ends the context.
+    /// Makes the frame, gives it to the link and starts the next one, or ends the context.
     fn finish(&mut self, prepared: Prepared, given: bool) -> Vec<JournalEntry>
         requires running { self.old.is_ended ≡ false }
         requires none_off { self.old.seat.off ≡ [] }
@@ -62,11 +66,12 @@ impl<'t, C: Naming, L: FrameLink + Drop> Context<'t, C, L> {
         ensures origin { L.origin self.new.link ≡ L.origin self.old.link }
     {
         self.core.tell_facts();
-        let FrameEnd { frame, journal } = self.core.finish(self.shared.table(), prepared, given);
+        let FrameEnd { frame, journal } = self.core.make(prepared, given);
         match frame {
             None => journal,
             Some(frame) => {
                 self.link.give(frame);
+                start_next(&mut self.core, self.shared.table(), &self.link);
                 journal
             }
         }
@@ -119,6 +124,19 @@ impl<'t, C: Naming, L: FrameLink + Drop> Context<'t, C, L> {
         self.collect(rt);
         self.end()
     }
+}
+
+/// Starts the next frame, when the link has the one before it.
+fn start_next<L: FrameLink>(core: &mut ContextCore, table: &HoldTable, link: &L)
+    requires table { core.old.table ≡ table_of table.now }
+    requires made { core.old.state.is_given ≡ true }
+    requires given { IsLast core.old.state.book.resources.frame (L.given link.now) }
+    requires taken { core.old.state.book.post ≡ [] }
+    ensures starts { StartsNext core.old core.new }
+    ensures stays { KeepsOut core.old.state core.new.state }
+{
+    let _ = link;
+    core.start_next(table);
 }
 
 fn was_shown(back: &Option<BackNote>) -> bool

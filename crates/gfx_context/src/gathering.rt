@@ -1,10 +1,10 @@
 // The bundle of each encoder is collected once.
-ghost use Rattle.std.specs.Prelude.{◌≡◌, List, [], ◌++◌, length};
+ghost use Rattle.std.specs.Prelude.{◌≡◌, false, List, [], ◌++◌, length};
 ghost use Rattle.gfx_model.specs.Views.{view_count};
 ghost use Rattle.hold_table.specs.Seats.{enc_view};
 ghost use Rattle.draw_encoder.specs.declared.items.Recording.{Recording};
 ghost use Rattle.context_core.specs.Ended.{Gathers};
-ghost use Rattle.context_core.specs.Gathered.{AreOfFrame, with_gathered};
+ghost use Rattle.context_core.specs.Gathered.{AreOfFrame, dropped_in, with_gathered};
 ghost use Rattle.gfx_context.specs.Kept.{AreAdmitted};
 
 use crate::context::Context;
@@ -28,6 +28,7 @@ fn gather<C: Naming>(shared: &Shared<C>, core: &mut ContextCore, bundle: Bundle<
 /// Collects the bundle of each encoder that is off, and waits for those that have not ended.
 fn gather_all<C: Naming, R: Wait>(rt: &R, shared: &Shared<C>, core: &mut ContextCore)
     requires table { core.old.table ≡ C.table }
+    requires not_given { core.old.state.is_given ≡ false }
     requires views { view_count core.old.state.book.resources.views ≡ C.views }
     requires admitted { AreAdmitted C.admits core.old.state.gathered }
     ensures none_off { core.new.state.seat.off ≡ [] }
@@ -70,6 +71,13 @@ impl<'t, C: Naming, L: FrameLink + Drop> Context<'t, C, L> {
         ensures { result ≡ length self.now.seat.off }
     {
         self.core.off()
+    }
+
+    /// The sum of the numbers that the encoders collected in this frame ended with.
+    pub fn dropped(&self) -> u64
+        ensures { result ≡ dropped_in self.now.gathered }
+    {
+        self.core.dropped()
     }
 
     /// The recordings of this frame's encoders that were collected. Their journal can be collected.

@@ -10,7 +10,7 @@ pub struct BackNote {
 }
 
 /// What a frame that ended tells.
-#[derive(Drop)]
+#[derive(Debug, Drop, PartialEq, Eq)]
 pub struct FrameReport {
     /// The number of the frame.
     pub number: u32,

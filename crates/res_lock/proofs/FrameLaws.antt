@@ -13,13 +13,14 @@ use Rattle.resource_laws.specs.Bare.{bare_of}
 use Rattle.resource_laws.proofs.RunLaws.{bare_started}
 use Rattle.resource_book.specs.Written.{BookView}
 use Rattle.resource_book.specs.Answered.{IsFirstRefusalOrOutOfMemory}
-use Rattle.hold_table.specs.Views.{SeatView, fresh}
+use Rattle.hold_table.specs.Views.{SeatView, fresh, joined_with}
+use Rattle.draw_encoder.specs.declared.items.Recording.{Recording}
 use Rattle.draw_encoder.specs.Calls.{EncoderView}
 use Rattle.frame_record.specs.declared.frame.Outcome.TheVariants as outcomes
 use Rattle.gfx_context.specs.States.{ContextView, state_of}
-use Rattle.gfx_context.specs.Kept.{IsContext}
+use Rattle.gfx_context.specs.Kept.{IsContext, IsTied}
 use Rattle.gfx_context.specs.Calls as context_calls
-use Rattle.gfx_context.specs.Ended.{is_shown, is_shown_outcome, started, MakesWay, GivesWhere, IsEnd, CollectsAndEnds}
+use Rattle.gfx_context.specs.Ended.{Gathers, is_shown, is_shown_outcome, started, MakesWay, GivesWhere, IsEnd, CollectsAndEnds}
 use Rattle.gfx_context.specs.declared.report.BackNote.{BackNote}
 use Rattle.gfx_context.specs.declared.report.FrameReport.{FrameReport}
 use Rattle.res_lock.specs.Histories.{LockCall, ends_frame, begins, Reply, given, begun, refused, ending, LockEntry, IsToldOrRefused, IsFrameReply, IsRunningReply, after_reply, state_after}
@@ -225,7 +226,11 @@ module _ {L : Type 0} {book : BookView} (start : CallState) (c : ContextView L) 
           calls = b.calls;
           encoder = subst (λ l. (frame_effect true (state_after start l) (begin_encoder room)).made ≡ Some (record { encoder = e.seat.encoder; recorder = e.recorder })) (sym b.before_is) made;
           frame = frame ∙ ap (λ l. (state_after start l).resources.frame) (sym b.before_is);
-          seat = (c.seat, m.seat ∙ ap (λ (n : ℕ). fresh n c.seat) (sym (ap (λ (v : SeatView). v.encoder) m.seat)));
+          seat = (
+            c.seat,
+            m.seat ∙ ap (λ (n : ℕ). fresh n c.seat) (sym (ap (λ (v : SeatView). v.encoder) m.seat)),
+            subst (λ (r : model.Resources). IsTied r c.seat) (ap (λ (z : CallState). z.resources) k.same ∙ ap (λ l. bare_of (state_after start l).resources) (sym b.before_is)) keeps.tied,
+          );
         };
       }
 
@@ -235,6 +240,23 @@ module _ {L : Type 0} {book : BookView} (start : CallState) (c : ContextView L) 
       by : (o : Option model.Refusal) → refusal_seen r ≡ o → MatchOption o (frame_refusal (state_of c) (begin_encoder room) ≡ None) (λ x. frame_refusal (state_of c) (begin_encoder room) ≡ Some x) → Refuses start c h k old new p q log_same (begins room) r o → Refused start c h k old new p q log_same d (begins room) r o
       by None seen first a = refused_by start c h k old new p q log_same d m.1 (begins room) r None (λ x e. absurd (none-some x e)) a
       by (Some x) seen first a = refused_by start c h k old new p q log_same d m.1 (begins room) r (Some x) (λ y e. running start c h k old new p q log_same runs (begins room) (refused r) (subst (λ (o : Option model.Refusal). IsToldOrRefused o (begun (state_after start h).encoders) (refused r)) (sym (sym (begin_refusal_is room) ∙ first)) (r, refl, seen))) a
+
+-- ---- a bundle is gathered
+
+ended_still : {L : Type 0} (o : Option End) (c : ContextView L) (seat : SeatView) (rs : List Recording) → EndedAs o c → EndedAs o (record c { seat = seat; gathered = rs })
+ended_still None c seat rs e = e
+ended_still (Some x) c seat rs e = e
+
+-- the history tells nothing of it
+pub gathered_kept : {L : Type 0} (start : CallState) (book : BookView) (c : ContextView L) (h : List LockEntry) → IsKept start book (record { context = c; history = h }) → (r : Recording) (seat : SeatView) (d : ContextView L) → Gathers r seat c d
+    → IsKept start book (record { context = d; history = h })
+gathered_kept start book c h k r seat d g = subst (λ (x : ContextView _). IsKept start book (record { context = x; history = h })) (sym g.after) (record {
+  legal = k.legal;
+  same = k.same;
+  written = k.written;
+  out = k.out;
+  told = ended_still (end_in start h) c (joined_with c.seat seat) (c.gathered ++ r ∷ []) k.told;
+})
 
 -- ---- what a caller is told of the end of a frame
 

@@ -13,6 +13,7 @@ use Rattle.draw_encoder.specs.Calls.{EncoderView}
 use Rattle.resource_laws.specs.Bare.{bare_of}
 use Rattle.resource_book.specs.Written.{after_in}
 use Rattle.gfx_context.specs.States.{ContextView, state_of}
+use Rattle.gfx_context.specs.Kept.{IsTied}
 use Rattle.gfx_context.specs.declared.report.BackNote.{BackNote}
 use Rattle.gfx_context.specs.declared.report.FrameReport.{FrameReport}
 use Rattle.res_lock.specs.Histories.{LockCall, on_things, ends_frame, begins, Reply, made, done, given, begun, refused, ending, ended, LockEntry, state_after, part_of, IsLegal}
@@ -147,12 +148,13 @@ IsFrameRefused start (lock_refusals.Ended frame) old new = Calls start ends_fram
 abbrev pub IsFramed : CallState → Result FrameReport LockRefusal → (old new : ResPass) → Type 0
 IsFramed start result old new = MatchResult result (λ report. Calls start ends_frame (reply_of report.given report.number report.back) old new) (λ r. IsFrameRefused start r old new)
 
--- an encoder that begins through the lock is the definition's after the history before; its seat is one of that frame, and has drawn and asked nothing
+-- an encoder that begins through the lock is the definition's after the history before; its seat is one of that frame, knows the places of the things
+-- that the history before has, and has drawn and asked nothing
 pub record Begins (start : CallState) (room : Room) (e : EncoderView) (old new : ResPass) : Type 0 where
   pub calls : Calls start (begins room) (begun e.seat.encoder) old new
   pub encoder : (frame_effect true (state_after start calls.before) (begin_encoder room)).made ≡ Some (record { encoder = e.seat.encoder; recorder = e.recorder })
   pub frame : e.seat.frame ≡ (state_after start calls.before).resources.frame
-  pub seat : (v : SeatView) × (e.seat ≡ fresh e.seat.encoder v)
+  pub seat : (v : SeatView) × (e.seat ≡ fresh e.seat.encoder v) × IsTied (bare_of (state_after start calls.before).resources) v
 
 -- a begin through the lock
 abbrev pub IsBegun : CallState → Room → Result EncoderView LockRefusal → (old new : ResPass) → Type 0

@@ -16,7 +16,7 @@ use crate::log::Log;
 use crate::naming::HistoryNaming;
 use crate::state::LockState;
 use crate::table::{HistoryTable, LogTable, ResPass};
-use draw_encoder::{Encoder, Naming};
+use draw_encoder::{Bundle, Encoder, Naming};
 use frame_record::FrameLink;
 use gfx_context::{Context, FrameReport};
 use gfx_words::{Handle, Refusal, Room};
@@ -132,7 +132,8 @@ impl<'t, C: Naming, L: FrameLink + Drop, H: HistoryNaming> ResLock<'t, C, L, H> 
         self.state.lock(rt).frame(rt, &self.table, pass)
     }
 
-    /// Begins an encoder of the frame, which has drawn and asked nothing yet. `Ended` exactly where an earlier frame was not given; then `BadSize` exactly where the room is
+    /// Begins an encoder of the frame, which has drawn and asked nothing yet, and knows the places of the things that live or wait.
+    /// It ends by `end`, or by `finish` and `gather`. `Ended` exactly where an earlier frame was not given; then `BadSize` exactly where the room is
     /// outside its limits; then `NoEncoder` exactly where eight were begun in the frame.
     pub fn begin<R: Wait>(
         &self,
@@ -146,6 +147,12 @@ impl<'t, C: Naming, L: FrameLink + Drop, H: HistoryNaming> ResLock<'t, C, L, H> 
         ensures answer { IsBegun H.start (room_seen room) result pass.old pass.new }
     {
         self.state.lock(rt).begin(&self.table, pass, room)
+    }
+
+    /// Gathers the bundle of an encoder of the frame that is recorded, as `Encoder::finish` gave it. It makes no entry. What it changes
+    /// only the next `frame` tells, which waits for each encoder that was begun and neither ended nor gathered.
+    pub fn gather<R: Wait>(&self, rt: &R, bundle: Bundle<C>) {
+        self.state.lock(rt).gather(bundle);
     }
 
     // A call that makes a thing.

@@ -2,6 +2,8 @@
 ghost use Rattle.std.specs.Prelude.{◌≡◌, ◌<◌, false, [], Ok, Err, IfOk, IfErr};
 ghost use Rattle.gfx_model.specs.FrameCalls.{frame_refusal, end_frame};
 ghost use Rattle.draw_encoder.specs.Seen.{room_seen};
+ghost use Rattle.hold_table.specs.Seats.{enc_view};
+ghost use Rattle.gfx_context.specs.Ended.{Gathers};
 ghost use Rattle.gfx_context.specs.States.{state_of};
 ghost use Rattle.res_lock.specs.Seen.{call_seen, reply_seen};
 ghost use Rattle.res_lock.specs.Seats.{log_table, pass_table, pass_view, pen_table, pen_log, made_by};
@@ -13,7 +15,7 @@ use crate::log::Log;
 use crate::naming::HistoryNaming;
 use crate::table::{LogTable, Pen, ResPass};
 use crate::things::{change, create};
-use draw_encoder::{Encoder, Naming};
+use draw_encoder::{Bundle, Encoder, Naming};
 use frame_record::{FrameLink, Outcome};
 use gfx_context::{BackNote, Context, FrameReport};
 use gfx_words::{Handle, Refusal, Room};
@@ -169,6 +171,14 @@ impl<'t, C: Naming, L: FrameLink + Drop, H: HistoryNaming> LockState<'t, C, L, H
             Ok(report) => Ok(report),
             Err(refusal) => Err(LockRefusal::Refused(refusal)),
         }
+    }
+
+    /// Gathers the bundle of an encoder.
+    pub fn gather(&mut self, bundle: Bundle<C>)
+        ensures gathers { Gathers bundle.0 (enc_view bundle.1) self.old.context self.new.context }
+        ensures history { self.new.history ≡ self.old.history }
+    {
+        self.context.gather(bundle);
     }
 
     /// Begins an encoder.

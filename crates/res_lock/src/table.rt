@@ -1,5 +1,5 @@
 // The table of the history, and passes.
-ghost use Rattle.std.specs.Prelude.{◌≡◌, ◌+◌, ◌<◌, ◌≤◌, ℕ, [], ◌∷◌, ◌++◌, length, Some, None, IfOk};
+ghost use Rattle.std.specs.Prelude.{◌≡◌, ◌==◌, false, ◌+◌, ◌<◌, ◌≤◌, ℕ, [], ◌∷◌, ◌++◌, length, Some, None, IfOk};
 ghost use Rattle.schedule_model.specs.Held.{count_of};
 ghost use Rattle.res_lock.specs.Histories.{part_of};
 ghost use Rattle.res_lock.specs.Seen.{entry_seen};
@@ -50,6 +50,14 @@ impl ResPass {
         ensures { result ≡ caller_of self.now }
     {
         self.caller
+    }
+
+    /// Whether the pass has made as many calls as it can: then no call takes it any more.
+    pub fn is_full(&self) -> bool
+        ensures full { result ≡ (made_by self.now == 4294967295) }
+        ensures room { result ≡ false → made_by self.now < 4294967295 }
+    {
+        self.made == u32::MAX
     }
 
     /// How many calls of this pass stand in the history.

@@ -12,7 +12,7 @@ ghost use Rattle.resource_book.specs.Opened.{opened};
 ghost use Rattle.resource_book.specs.Seen.{rows_seen};
 
 use crate::desk::Desk;
-use crate::find::handle_at;
+use crate::find::{handle_at, word_at};
 use crate::frames::Work;
 use crate::opening::Start;
 use crate::rows::Row;
@@ -261,6 +261,13 @@ impl Book {
         ensures { result ≡ option_map (λ t. t.handle) (find (is_at (kind_seen kind) index) self.now.resources.things) }
     {
         handle_at(&self.desk.shelf.table, kind, index)
+    }
+
+    /// The word of a handle's place: what an encoder that begins now finds there.
+    pub fn word_of(&self, h: Handle) -> u64
+        ensures { result ≡ model.word_of self.now.resources h }
+    {
+        word_at(&self.desk.shelf.table, h.kind(), h.index())
     }
 
     /// The number of the frame that is recorded.

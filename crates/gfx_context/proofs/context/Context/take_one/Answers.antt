@@ -1,4 +1,4 @@
-use Rattle.std.proofs.Common.{◌<◌, ◌∙◌, sym, subst, refl}
+use Rattle.std.proofs.Common.{◌<◌, ◌+◌, Bool, if◌then◌else◌, ap, ◌∙◌, sym, subst, refl}
 use Rattle.gfx_context.specs.States.{ContextView}
 use Rattle.gfx_context.specs.Ended.{IsBack, note_of}
 use Rattle.gfx_context.proofs.Linked.{linked_back}
@@ -10,7 +10,7 @@ came_back-requires-clause-oldest g c =
     let s = c.self.inside.core.state in
     let some : 0 < s.out = subst (λ (o : ContextView g.row.L.Denot). 0 < o.out) (sym c.self.view_is) c.requires in
     let number = oldest_number g.C.Naming.admits g.C.Naming.views s.seat.places s.seat.frame (g.L.FrameLink.given c.self.inside.link) (g.L.FrameLink.back c.self.inside.link) s.out (g.L.FrameLink.back c.take_back-back.new.self) c.take_back-back.result c.self.invariant.frames some c.take_back-back.ensures.back in
-    number ∙ sym c.tell_facts.ensures.keeps.tied.frame
+    number ∙ sym c.tell_facts.ensures.keeps.tied.frame ∙ sym (ap (λ (b : Bool). if b then s.book.resources.frame + 1 else s.book.resources.frame) c.self.invariant.not_given)
 
 pub invariant_of-self : goal.invariant_of-self
 invariant_of-self g c =

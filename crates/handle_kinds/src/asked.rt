@@ -1,21 +1,21 @@
 // What a call asks of a handle.
 ghost use Rattle.std.specs.Prelude.{◌≡◌, ◌&&◌, not};
 ghost use Rattle.gfx_model.specs.Words.{is_kind, uniform_kind};
-ghost use Rattle.draw_encoder.specs.Formats.{is_depth_option};
+ghost use Rattle.handle_kinds.specs.Formats.{is_depth_option};
 ghost use Rattle.gfx_model.specs.Recorder as calls;
 ghost use Rattle.gfx_words.specs.Seen.{kind_seen, value_seen};
 
 use gfx_words::{Format, Handle, Info, Kind, UniformKind, UniformValue};
 
-// It is of another kind.
-pub(crate) fn is_not_of(h: &Handle, kind: Kind) -> bool
+/// The handle is of another kind.
+pub fn is_not_of(h: &Handle, kind: Kind) -> bool
     ensures { result ≡ not (is_kind h.now.kind (kind_seen kind)) }
 {
     h.kind().number() != kind.number()
 }
 
-// It is no texture of colours.
-pub(crate) fn is_no_color_texture(h: &Handle) -> bool
+/// The handle is no texture of colours.
+pub fn is_no_color_texture(h: &Handle) -> bool
     ensures { result ≡ not (calls.is_rgba8_option (calls.format_of h.now)) }
 {
     !is_color_texture(h)
@@ -45,8 +45,8 @@ fn is_depth_texture(h: &Handle) -> bool
     }
 }
 
-// One is no texture, or their formats differ.
-pub(crate) fn differ_in_format(a: &Handle, b: &Handle) -> bool
+/// One of the handles is no texture, or their formats differ.
+pub fn differ_in_format(a: &Handle, b: &Handle) -> bool
     ensures { result ≡ not (calls.same_formats (calls.format_of a.now) (calls.format_of b.now)) }
 {
     !have_one_format(a, b)
@@ -58,8 +58,8 @@ fn have_one_format(a: &Handle, b: &Handle) -> bool
     is_color_texture(a) && is_color_texture(b) || is_depth_texture(a) && is_depth_texture(b)
 }
 
-// It was not made as a destination of blits.
-pub(crate) fn is_no_blit_destination(h: &Handle) -> bool
+/// The handle is no texture that was made as a destination of blits.
+pub fn is_no_blit_destination(h: &Handle) -> bool
     ensures { result ≡ not (calls.is_blit_destination_in h.now.info) }
 {
     match h.info() {
@@ -68,8 +68,8 @@ pub(crate) fn is_no_blit_destination(h: &Handle) -> bool
     }
 }
 
-// It is no uniform, or the value is of the other kind.
-pub(crate) fn is_no_uniform_for(h: &Handle, value: &UniformValue) -> bool
+/// The handle is no uniform, or the value is of the other kind.
+pub fn is_no_uniform_for(h: &Handle, value: &UniformValue) -> bool
     ensures { result ≡ not (is_kind h.now.kind uniform_kind && calls.takes_value h.now.info (value_seen value.now)) }
 {
     is_not_of(h, Kind::Uniform) || !takes(h, value)
