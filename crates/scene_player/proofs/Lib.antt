@@ -9,3 +9,4 @@ pub mod Refused
 pub mod Answered
 pub mod Ends
 pub mod Counts
+pub mod Fronts

@@ -1,5 +1,7 @@
 // The three modes, each over what it shows.
-ghost use Rattle.std.specs.Prelude.{◌≡◌, ◌≤◌, true, false, ℕ, Bool, [], length};
+ghost use Rattle.std.specs.Prelude.{◌≡◌, ◌≤◌, true, false, ℕ, Bool, [], length, take, Ok};
+ghost use Rattle.scene_model.specs.Grammar.{scene_of, whole_language};
+ghost use Rattle.scene_model.specs.Journal.{serial};
 ghost use Rattle.scene_model.specs.JournalText.{journal_of};
 ghost use Rattle.scene_model.specs.Run.{all_done};
 ghost use Rattle.scene_model.specs.Scene as model;
@@ -17,6 +19,7 @@ use crate::status::Status;
 use generated_scene::laws::generated_law;
 use generated_scene::make_scene;
 use io_edge::{Gate, Sink, SureSink};
+use scene_progress::plan_law;
 use scene_showing::{item_counts, replay_scene, show_here, show_scene};
 use scene_text::{
     Journal, JournalFault, Scene, SceneFault, fault_place, read, read_front, read_journal,
@@ -70,6 +73,7 @@ fn show_bytes_here<P: Sink + Drop, N: Sink>(
         → CountsPictures result.status s (journal_seen result.journal) (P.tally pictures) (P.tally result.pictures) }
     ensures sure { (P.sure result.pictures ≡ P.sure pictures) × (N.sure notes.new ≡ N.sure notes.old) }
     ensures no_fewer { (P.faults pictures ≤ P.faults result.pictures) × (N.faults notes.old ≤ N.faults notes.new) }
+    ensures front { (s : model.Scene) → scene_of whole_language bytes.now ≡ Ok s → journal_seen result.journal ≡ take (length (journal_seen result.journal)) (serial s) }
 {
     match read(alloc, bytes) {
         Ok(scene) => {
@@ -85,8 +89,9 @@ fn show_bytes_here<P: Sink + Drop, N: Sink>(
 /// none.
 ///
 /// There are at most 16,777,216 bytes. The order is: the scene; the pictures frame by frame; the notes, with the text of the journal
-/// behind the report where it is asked for. One encoder records after another. A line whose call is refused is dropped and counted,
-/// and the play goes on.
+/// behind the report where it is asked for. One encoder records after another, so that a scene has one journal: it is the scene's
+/// journal of one thread where all was shown, and else a front of it. A line whose call is refused is dropped and counted, and the
+/// play goes on.
 ///
 /// The status says how it ended, as of `play`: `Scene` comes only where the bytes are no scene, `PictureFault` and `NoteFault` only where that
 /// sink's count of faults rose in this call, `OutOfMemory` is free, and the others but `Done` never come.
@@ -112,7 +117,11 @@ pub fn play_bytes_here<P: Sink + Drop, N: Sink>(
     ensures complete { (count : ℕ) → ¬ HasFailedToTake (putting (P.held pictures) (P.held result.pictures) (P.faults pictures) (P.faults result.pictures))
         → ¬ HasFailedToTake (putting (N.held notes.old) (N.held notes.new) (N.faults notes.old) (N.faults notes.new))
         → EndsAs (answer_of (showing_command false with_journal count) bytes.now (journal_seen result.journal)).ending result.status }
+    // The journal is that of one thread, or a front of it.
+    ensures whole { (s : model.Scene) → scene_of whole_language bytes.now ≡ Ok s → result.status ≡ Status.Done → journal_seen result.journal ≡ serial s }
+    ensures front { (s : model.Scene) → scene_of whole_language bytes.now ≡ Ok s → journal_seen result.journal ≡ take (length (journal_seen result.journal)) (serial s) }
 {
+    plan_law();
     show_bytes_here(alloc, with_journal, bytes, pictures, notes)
 }
 

@@ -120,7 +120,7 @@ module _ {L : Type 0} (admits : ℕ → ℕ → List Item → ℕ → Type 0) (s
   gives true g = record {
     frame = g.frame;
     given = g.given ∙ ap (λ fs. fs ++ g.frame ∷ []) (ap (λ v. v.given) collects.same);
-    seen = seen s k f gone (start_of s k) old.seat.places mid new.seat.base g.frame (written_by s.names (start_of s k) f) handles planned refl stands frame_of views g.is_of
+    seen = seen s k f gone (start_of s k) old.seat.places mid g.frame (written_by s.names (start_of s k) f) handles planned refl stands frame_of views g.is_of
         ∙ ap (frame_data s k (start_of s k) f) (sym ends.journal);
     gathered = record {
       gathered = subst (λ (rs : List Recording). IsGathered plan (recordings_seen rs)) (sym g.is_of.recordings) (gathered s k plan planned views old.seat.places mid.gathered (of_plan s k f gone (before_of s k f) (all_of s k f) old.seat.places mid.gathered frame_of));

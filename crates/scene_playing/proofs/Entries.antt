@@ -4,7 +4,7 @@ use Rattle.std.proofs.lemmas.Bool.{eqb-true}
 use Rattle.std.specs.Bool.{Decides}
 use Rattle.gfx_words.specs.declared.journal.JournalEntry.{JournalEntry}
 
-both_true : (b c : Bool) → b && c ≡ true → (b ≡ true) × (c ≡ true)
+pub both_true : (b c : Bool) → b && c ≡ true → (b ≡ true) × (c ≡ true)
 both_true true true e = (refl, refl)
 both_true true false e = absurd cc
 both_true false c e = absurd cc

@@ -8,3 +8,5 @@ mod LineLaws
 mod Entries
 mod FrameLaws
 mod OpeningLaws
+mod Serials
+mod Orders

@@ -1,5 +1,5 @@
 -- The lines of a frame, from its start to its end.
-use Rattle.std.proofs.Common.{◌≡◌, ℕ, ◌+◌, ◌<◌, ◌≤◌, ◌^◌, zero, suc, Bool, true, false, List, [], ◌∷◌, ◌++◌, map, length, fold, Option, Some, None, Result, Ok, Err, MatchResult, IfOk, take, refl, sym, ap, ◌∙◌, subst, arith}
+use Rattle.std.proofs.Common.{◌≡◌, ℕ, ◌+◌, ◌<◌, ◌≤◌, ◌^◌, zero, suc, Bool, true, false, List, [], ◌∷◌, ◌++◌, map, length, fold, Option, Some, None, Result, Ok, Err, MatchResult, refl, sym, ap, ◌∙◌, subst, arith}
 use Rattle.std.proofs.lemmas.List.Sums.{fold-append}
 use Rattle.std.proofs.lemmas.Option.{same_Some, none-some}
 use Rattle.std.specs.List.{AllByRecursion, slice_get}
@@ -14,9 +14,7 @@ use Rattle.scene_progress.proofs.Given.{Keeps, in_frame, lines_keep}
 use Rattle.scene_lines.specs.Names.{LineHasPlace, FrameHasPlaces, PlacesLaw}
 use Rattle.scene_lines.specs.Played.{StandsFor, LinesPlayed}
 use Rattle.gfx_context.specs.States.{ContextView, untouched}
-use Rattle.std.proofs.lemmas.List.{length-append}
-use Rattle.scene_playing.specs.Order.{Allows, Follows}
-use Rattle.scene_model.specs.Journal.{Entry, Journal}
+use Rattle.scene_model.specs.Journal.{Entry}
 use Rattle.gfx_words.specs.Seen.{entry_seen}
 use Rattle.render_core.specs.Ended.{first_outcome}
 use Rattle.scene_playing.specs.declared.frame.EndedFrame.{EndedFrame}
@@ -145,32 +143,3 @@ rest_kept n old first mid last before begun beside = (
   ap (λ v. v.back) beside ∙ ap (λ v. v.back) begun.same ∙ ap (λ v. v.back) before,
   ap (λ v. v.link) beside ∙ ap (λ v. v.link) begun.same ∙ ap (λ v. v.link) before,
 )
-
--- the order that was asked, by the number that the context has
-pub allowed_since : {E : Type 0} (r : Result EndedFrame E) (o : Option Journal) (n k : ℕ) → n ≡ k → IfOk r (λ e. Allows o n (map entry_seen e.journal.items)) → IfOk r (λ e. Allows o k (map entry_seen e.journal.items))
-allowed_since (Ok e) o n k is a = subst (λ (m : ℕ). Allows o m (map entry_seen e.journal.items)) is a
-allowed_since (Err x) o n k is a = tt
-
--- ---- the journal so far is a front of the one that was asked
-
-one_behind : (n : ℕ) → suc n + 1 ≡ suc (n + 1)
-one_behind n = omega arith
-
-take_one_more : (x : List Entry) (xs : Journal) (n : ℕ) (e : List Entry) → take (n + 1) xs ≡ take n xs ++ e ∷ [] → take (suc n + 1) (x ∷ xs) ≡ take (suc n) (x ∷ xs) ++ e ∷ []
-take_one_more x xs n e h = ap (λ m. take m (x ∷ xs)) (one_behind n) ∙ ap (λ ys. x ∷ ys) h
-
-take_more : (read : Journal) (n : ℕ) (e : List Entry) → slice_get read n ≡ Some e → take (n + 1) read ≡ take n read ++ e ∷ []
-take_more [] n e s = absurd (none-some e s)
-take_more (x ∷ xs) zero e s = ap (λ y. y ∷ []) (same_Some x e s)
-take_more (x ∷ xs) (suc n) e s = take_one_more x xs n e (take_more xs n e s)
-
-pub follows_more : (o : Option Journal) (j all : Journal) (e : List Entry) (n k : ℕ) → n ≡ k → length j ≡ k → all ≡ j ++ e ∷ [] → Follows o j → Allows o n e → Follows o all
-follows_more None j all e n k is many told f a = tt
-follows_more (Some read) j all e n k is many told f a =
-    let at : slice_get read (length j) ≡ Some e = ap (slice_get read) (many ∙ sym is) ∙ a in
-    let longer : length all ≡ length j + 1 = ap length told ∙ length-append j (e ∷ []) in
-    told ∙ ap (λ xs. xs ++ e ∷ []) f ∙ sym (take_more read (length j) e at) ∙ ap (λ m. take m read) (sym longer)
-
-pub none_follow : (o : Option Journal) → Follows o []
-none_follow None = tt
-none_follow (Some read) = refl

@@ -14,12 +14,12 @@ ghost use Rattle.scene_lines.specs.Played.{LinesPlayed};
 ghost use Rattle.scene_progress.specs.Progress.{all_of};
 ghost use Rattle.gfx_context.specs.States.{untouched};
 ghost use Rattle.scene_playing.specs.Recording.{IsAt, IsRecorded};
-ghost use Rattle.scene_playing.specs.Order.{order_seen, Allows};
+ghost use Rattle.scene_playing.specs.Order.{wanted_seen, Allows};
 ghost use Rattle.scene_playing.specs.Frames.{note_seen};
 ghost use Rattle.scene_playing.specs.Steps.{FrameEnds, first_after};
 
 use crate::beginning::{Names, collect, record_blocks};
-use crate::ordered::is_in_order;
+use crate::ordered::{Order, is_in_order};
 use crate::played::FrameNote;
 use crate::recorders::Recorders;
 use block_recording::Job;
@@ -31,7 +31,7 @@ use gfx_words::Handle;
 use resource_laws::bare_start_law;
 use scene_lines::{places_law, play_lines};
 use scene_progress::{next_law, plan_law};
-use scene_text::{Journal, Scene, SceneFrame};
+use scene_text::{Scene, SceneFrame};
 use std::alloc::{AllocError, Global};
 use std::sync::Arc;
 
@@ -78,7 +78,7 @@ fn play_beside<'t, C: Naming, L: FrameLink + Drop>(
 fn end_frame<'t, C: Naming, L: FrameLink + Drop, W: Recorders<Job<'t, C>, Bundle<C>>>(
     recorders: &mut W,
     alloc: Global,
-    order: Option<&Journal>,
+    order: Order<'_>,
     scene: &'t Scene,
     frame: &'t SceneFrame,
     context: &mut Context<'t, C, L>,
@@ -94,7 +94,7 @@ fn end_frame<'t, C: Naming, L: FrameLink + Drop, W: Recorders<Job<'t, C>, Bundle
         (λ e. FrameEnds (scene_seen scene.now) context.old.book.resources.frame (frame_seen frame.now) (map entry_seen e.journal.items) (note_seen e.note) e.given handles.now context.old context.new)
         (λ _. context.new.given ≡ context.old.given) }
     ensures back { MatchResult result (λ e. first_outcome context.new.back ≡ first_after (first_outcome context.old.back) e.back) (λ _. context.new.back ≡ context.old.back) }
-    ensures allowed { IfOk result (λ e. Allows (order_seen order.entry) context.old.book.resources.frame (map entry_seen e.journal.items)) }
+    ensures allowed { IfOk result (λ e. Allows (wanted_seen order.entry) context.old.book.resources.frame (map entry_seen e.journal.items)) }
     ensures origin { L.origin context.new.link ≡ L.origin context.old.link }
     ensures none_off { context.new.seat.off ≡ [] }
     ensures owes { W.owes recorders.new 0 }
@@ -140,7 +140,7 @@ fn end_frame<'t, C: Naming, L: FrameLink + Drop, W: Recorders<Job<'t, C>, Bundle
 pub(crate) fn play_frame<'t, C: Naming, L: FrameLink + Drop, W: Recorders<Job<'t, C>, Bundle<C>>>(
     recorders: &mut W,
     alloc: Global,
-    order: Option<&Journal>,
+    order: Order<'_>,
     scene: &'t Scene,
     frame: &'t SceneFrame,
     context: &mut Context<'t, C, L>,
@@ -159,7 +159,7 @@ pub(crate) fn play_frame<'t, C: Naming, L: FrameLink + Drop, W: Recorders<Job<'t
         (λ e. FrameEnds (scene_seen scene.now) context.old.book.resources.frame (frame_seen frame.now) (map entry_seen e.journal.items) (note_seen e.note) e.given handles.new context.old context.new)
         (λ _. context.new.given ≡ context.old.given) }
     ensures back { MatchResult result (λ e. first_outcome context.new.back ≡ first_after (first_outcome context.old.back) e.back) (λ _. context.new.back ≡ context.old.back) }
-    ensures allowed { IfOk result (λ e. Allows (order_seen order.entry) context.old.book.resources.frame (map entry_seen e.journal.items)) }
+    ensures allowed { IfOk result (λ e. Allows (wanted_seen order.entry) context.old.book.resources.frame (map entry_seen e.journal.items)) }
     ensures origin { L.origin context.new.link ≡ L.origin context.old.link }
     ensures none_off { context.new.seat.off ≡ [] }
     ensures owes { W.owes recorders.new 0 }

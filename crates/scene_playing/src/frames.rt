@@ -11,11 +11,12 @@ ghost use Rattle.scene_text.specs.Seen.{journal_seen, scene_seen};
 ghost use Rattle.render_core.specs.Ended.{first_outcome};
 ghost use Rattle.block_recording.specs.Promised.{IsAccepted};
 ghost use Rattle.scene_playing.specs.Recording.{IsAt};
-ghost use Rattle.scene_playing.specs.Order.{order_seen, Follows};
+ghost use Rattle.scene_playing.specs.Order.{wanted_seen, Keeps};
 ghost use Rattle.scene_playing.specs.Frames.{note_seen, AreEnded, ArePlayed};
 ghost use Rattle.scene_playing.specs.Steps.{first_after};
 
 use crate::frame::{EndedFrame, play_frame};
+use crate::ordered::Order;
 use crate::played::{FrameNote, Played};
 use crate::recorders::Recorders;
 use block_recording::Job;
@@ -89,7 +90,7 @@ impl Told {
 fn play_all<'t, C: Naming, L: FrameLink + Drop, W: Recorders<Job<'t, C>, Bundle<C>>>(
     recorders: &mut W,
     alloc: Global,
-    order: Option<&Journal>,
+    order: Order<'_>,
     scene: &'t Scene,
     context: &mut Context<'t, C, L>,
     handles: &mut [Option<Handle>],
@@ -107,7 +108,7 @@ fn play_all<'t, C: Naming, L: FrameLink + Drop, W: Recorders<Job<'t, C>, Bundle<
     requires told { (told.old.lists.items ≡ []) × (told.old.notes.items ≡ []) × (told.old.outcome ≡ Outcome.Shown) }
     requires room { (length scene.now.frames ≤ vec_capacity told.old.lists) × (length scene.now.frames ≤ vec_capacity told.old.notes) }
     ensures ended { AreEnded (scene_seen scene.now) context.new.given (map (map entry_seen) told.new.lists.items) (map note_seen told.new.notes.items) result }
-    ensures follows { Follows (order_seen order.entry) (map (map entry_seen) told.new.lists.items) }
+    ensures keeps { Keeps (wanted_seen order.entry) (map (map entry_seen) told.new.lists.items) }
     ensures outcome { told.new.outcome ≡ first_outcome context.new.back }
     ensures origin { L.origin context.new.link ≡ L.origin context.old.link }
     ensures none_off { context.new.seat.off ≡ [] }
@@ -211,7 +212,7 @@ pub(crate) fn play_named<'t, C: Naming, L: FrameLink + Drop, W: Recorders<Job<'t
     recorders: &mut W,
     alloc: Global,
     shared: &'t Shared<C>,
-    order: Option<&Journal>,
+    order: Order<'_>,
     scene: &'t Scene,
     seat: ApiSeat,
     link: L,
@@ -227,7 +228,7 @@ pub(crate) fn play_named<'t, C: Naming, L: FrameLink + Drop, W: Recorders<Job<'t
     requires latency { L.latency link ≡ scene.now.latency }
     requires none { (L.given link ≡ []) × (L.back link ≡ []) }
     ensures played { ArePlayed (scene_seen scene.now) (L.given result.link) (L.back result.link) (journal_seen result.journal) (map note_seen result.notes.items) result.outcome result.is_whole }
-    ensures follows { Follows (order_seen order.entry) (journal_seen result.journal) }
+    ensures keeps { Keeps (wanted_seen order.entry) (journal_seen result.journal) }
     ensures origin { L.origin result.link ≡ L.origin link }
 {
     next_law();

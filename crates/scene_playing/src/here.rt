@@ -1,7 +1,8 @@
 // A play on one thread.
-ghost use Rattle.std.specs.Prelude.{◌≡◌, ◌≤◌, ◌+◌, ℕ, List, [], map};
+ghost use Rattle.std.specs.Prelude.{◌≡◌, ◌≤◌, ◌+◌, ℕ, List, [], map, Some, None};
 ghost use Rattle.gfx_model.specs.World.{Item};
 ghost use Rattle.scene_model.specs.Scene.{views_of};
+ghost use Rattle.scene_model.specs.Journal.{serial};
 ghost use Rattle.spelling_model.specs.Readable.{IsReadable};
 ghost use Rattle.scene_text.specs.Bounds.{IsBounded};
 ghost use Rattle.scene_text.specs.Seen.{journal_seen, scene_seen};
@@ -12,6 +13,7 @@ ghost use Rattle.scene_playing.specs.Order.{order_seen, Follows};
 ghost use Rattle.scene_playing.specs.Frames.{note_seen, ArePlayed};
 
 use crate::frames::{nothing, play_named};
+use crate::ordered::Order;
 use crate::played::Played;
 use crate::recorders::Here;
 use draw_encoder::{Naming, Shared};
@@ -40,6 +42,7 @@ fn play_table_here<C: Naming, L: FrameLink + Drop>(
     requires latency { L.latency link ≡ scene.now.latency }
     requires none { (L.given link ≡ []) × (L.back link ≡ []) }
     ensures follows { Follows (order_seen order.entry) (journal_seen result.journal) }
+    ensures serial { order_seen order.entry ≡ None → Follows (Some (serial (scene_seen scene.now))) (journal_seen result.journal) }
     ensures played { ArePlayed (scene_seen scene.now) (L.given result.link) (L.back result.link) (journal_seen result.journal) (map note_seen result.notes.items) result.outcome result.is_whole }
     ensures origin { L.origin result.link ≡ L.origin link }
 {
@@ -49,7 +52,8 @@ fn play_table_here<C: Naming, L: FrameLink + Drop>(
     let Ok(mut here) = Here::new(alloc, order) else {
         return nothing(alloc, scene, link);
     };
-    play_named(&mut here, alloc, &shared, order, scene, seat, link)
+    let wanted = Order::here(order);
+    play_named(&mut here, alloc, &shared, wanted, scene, seat, link)
 }
 
 /// Plays the frames of a scene on this thread alone, and gives each frame by the link, at which none is out at the end. It asks for no
@@ -59,8 +63,9 @@ fn play_table_here<C: Naming, L: FrameLink + Drop>(
 /// frames that were given are the first of the scene by index, for the journal that comes back. Where not all were given, one was
 /// not shown, or memory was wanting.
 ///
-/// One encoder records after another. Where an order is given, the items of each frame are recorded in that order; the journal that
-/// comes back is then a front of it. A frame whose items had another order would not be given, as for want of memory.
+/// One encoder records after another: the journal that comes back is a front of the scene's journal of one thread. Where an order
+/// is given, the items of each frame are recorded in that order, and the journal is a front of it. A frame whose items had another
+/// order would not be given, as for want of memory.
 pub fn play_here<L: FrameLink + Drop>(
     alloc: Global,
     order: Option<&Journal>,
@@ -72,6 +77,7 @@ pub fn play_here<L: FrameLink + Drop>(
     requires latency { L.latency link ≡ scene.now.latency }
     requires none { (L.given link ≡ []) × (L.back link ≡ []) }
     ensures follows { Follows (order_seen order.entry) (journal_seen result.journal) }
+    ensures serial { order_seen order.entry ≡ None → Follows (Some (serial (scene_seen scene.now))) (journal_seen result.journal) }
     ensures played { ArePlayed (scene_seen scene.now) (L.given result.link) (L.back result.link) (journal_seen result.journal) (map note_seen result.notes.items) result.outcome result.is_whole }
     ensures origin { L.origin result.link ≡ L.origin link }
 {

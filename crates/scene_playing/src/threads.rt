@@ -13,6 +13,7 @@ ghost use Rattle.scene_playing.specs.Frames.{note_seen, ArePlayed};
 
 use crate::frames::{nothing, play_named};
 use crate::here::play_here;
+use crate::ordered::Order;
 use crate::played::Played;
 use crate::recorders::AtDesk;
 use block_recording::{Desk, start_all};
@@ -83,7 +84,7 @@ fn with_recorders<
             let desk = desk;
             start_all(scope, rt, gate, &desk, recorders(scene.encoders));
             let mut at_desk = AtDesk::new(rt, gate, shared, &desk);
-            let played = play_named(&mut at_desk, alloc, shared, None, scene, seat, link);
+            let played = play_named(&mut at_desk, alloc, shared, Order::Any, scene, seat, link);
             desk.stop();
             played
         },

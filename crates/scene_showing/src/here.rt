@@ -1,12 +1,14 @@
 // A scene's pictures, by one thread.
-ghost use Rattle.std.specs.Prelude.{◌≡◌, ◌≤◌, map, IfOk, IfErr};
+ghost use Rattle.std.specs.Prelude.{◌≡◌, ◌≤◌, map, length, take, IfOk, IfErr};
 ghost use Rattle.spelling_model.specs.Readable.{IsReadable};
+ghost use Rattle.scene_model.specs.Journal.{serial};
 ghost use Rattle.scene_text.specs.Bounds.{IsBounded};
 ghost use Rattle.scene_text.specs.Seen.{journal_seen, scene_seen};
 ghost use Rattle.render_core.specs.Rendered.{seen_by};
 ghost use Rattle.scene_playing.specs.Frames.{note_seen};
 ghost use Rattle.scene_showing.specs.Rendered.{IsNew, AreShown};
 ghost use Rattle.scene_showing.specs.Showing.{IsShowing, IsCounted};
+ghost use Rattle.scene_showing.specs.declared.showing.End.TheVariants as ends;
 
 use crate::rendered::Rendered;
 use crate::showing::Showing;
@@ -29,6 +31,7 @@ fn render_here<P: Sink + Drop>(
     requires readable { IsReadable (scene_seen scene.now) }
     requires bounded { IsBounded (scene_seen scene.now) }
     ensures shown { IfOk result (λ r. AreShown (scene_seen scene.now) (seen_by P.held P.tally P.faults P.sure renderer) (journal_seen r.journal) (map note_seen r.notes.items) r.outcome r.is_whole (seen_by P.held P.tally P.faults P.sure r.renderer)) }
+    ensures front { IfOk result (λ r. journal_seen r.journal ≡ take (length (journal_seen r.journal)) (serial (scene_seen scene.now))) }
     ensures refused { IfErr result (λ r. r ≡ renderer) }
 {
     let link = InPlaceLink::new(alloc, renderer, SerialRasterizer, scene.latency)?;
@@ -58,6 +61,8 @@ fn show_by<P: Sink + Drop>(alloc: Global, scene: &Scene, renderer: Renderer<P>) 
     ensures counted { IsCounted result.end (scene_seen scene.now) (journal_seen result.journal) (map note_seen result.notes.items) (P.tally renderer.sink) (P.tally result.sink) }
     ensures sure { P.sure result.sink ≡ P.sure renderer.sink }
     ensures no_fewer { P.faults renderer.sink ≤ P.faults result.sink }
+    ensures whole { result.end ≡ ends.Done → journal_seen result.journal ≡ serial (scene_seen scene.now) }
+    ensures front { journal_seen result.journal ≡ take (length (journal_seen result.journal)) (serial (scene_seen scene.now)) }
 {
     texts_law();
     kept_law();
@@ -77,6 +82,8 @@ fn show_by<P: Sink + Drop>(alloc: Global, scene: &Scene, renderer: Renderer<P>) 
 ///
 /// The scene is one that was read, or keeps the same bounds. The sink comes back. `PictureFault` only where its count of faults rose
 /// in this call: then a front of the texts was put. For want of memory the whole texts of the first frames were put, and not of all.
+///
+/// The journal that comes back is the scene's journal of one thread where all was shown, and else a front of it.
 pub fn show_here<P: Sink + Drop>(alloc: Global, scene: &Scene, sink: P) -> Showing<P>
     requires readable { IsReadable (scene_seen scene.now) }
     requires bounded { IsBounded (scene_seen scene.now) }
@@ -84,6 +91,8 @@ pub fn show_here<P: Sink + Drop>(alloc: Global, scene: &Scene, sink: P) -> Showi
     ensures counted { IsCounted result.end (scene_seen scene.now) (journal_seen result.journal) (map note_seen result.notes.items) (P.tally sink) (P.tally result.sink) }
     ensures sure { P.sure result.sink ≡ P.sure sink }
     ensures no_fewer { P.faults sink ≤ P.faults result.sink }
+    ensures whole { result.end ≡ ends.Done → journal_seen result.journal ≡ serial (scene_seen scene.now) }
+    ensures front { journal_seen result.journal ≡ take (length (journal_seen result.journal)) (serial (scene_seen scene.now)) }
 {
     match Renderer::new(alloc, scene.width, scene.height, sink) {
         Ok(renderer) => show_by(alloc, scene, renderer),

@@ -11,6 +11,7 @@ use Rattle.scene_player.specs.Parts.{showing_command}
 use Rattle.scene_player.proofs.Answered.{shows-scene}
 use Rattle.scene_player.proofs.Refused.{may-refuse, misreads, plays}
 use Rattle.scene_player.proofs.Counts.{counts-nothing, counts-refused, counts-scene}
+use Rattle.scene_player.proofs.Fronts.{none_front, refused_front, same_front}
 use Rattle.scene_player.proofs.showing.show_bytes_here.Goals as goal
 
 pub returns-in-Ok-clause-answered : goal.returns-in-Ok-clause-answered
@@ -44,3 +45,14 @@ returns-in-Err-At-clause-counted g c = λ count s is.
 pub returns-in-Err-OutOfMemory-clause-counted : goal.returns-in-Err-OutOfMemory-clause-counted
 returns-in-Err-OutOfMemory-clause-counted g c = λ count s is.
     counts-nothing _ status.OutOfMemory c.blank.ensures.status (λ s i old new. tt) s _ _ _
+
+pub returns-in-Ok-clause-front : goal.returns-in-Ok-clause-front
+returns-in-Ok-clause-front g c = λ s is.
+    rw c.finish.ensures.journal
+    (same_front (scene_seen c.in-Ok.scene) s (scene_of whole_language c.args.bytes.now) (journal_seen c.show_here-showing.result.journal) c.in-Ok.ensures.exact is c.show_here-showing.ensures.front)
+
+pub returns-in-Err-At-clause-front : goal.returns-in-Err-At-clause-front
+returns-in-Err-At-clause-front g c = λ s is. refused_front s _ _ _ _ _ _ c.refuse_scene.ensures.refused
+
+pub returns-in-Err-OutOfMemory-clause-front : goal.returns-in-Err-OutOfMemory-clause-front
+returns-in-Err-OutOfMemory-clause-front g c = λ s is. none_front s _ c.blank.ensures.journal

@@ -5,10 +5,11 @@ use Rattle.scene_text.specs.Seen.{frame_seen, scene_seen, name_seen, resource_li
 use Rattle.scene_lines.specs.Played.{LinesPlayed}
 use Rattle.scene_lines.specs.Names.{LineHasPlace}
 use Rattle.scene_playing.specs.Recording.{HasBegun}
-use Rattle.scene_playing.specs.Order.{order_seen}
+use Rattle.scene_playing.specs.Order.{wanted_seen}
 use Rattle.scene_playing.proofs.Collecting.{off_kept}
 use Rattle.scene_playing.proofs.Jobs.{few_in}
-use Rattle.scene_playing.proofs.LineLaws.{number_recorded, places_in, recording_after, recorded_after, recording_now, recorded_now, dropped_now, ended_since, back_since, rest_kept, allowed_since}
+use Rattle.scene_playing.proofs.LineLaws.{number_recorded, places_in, recording_after, recorded_after, recording_now, recorded_now, dropped_now, ended_since, back_since, rest_kept}
+use Rattle.scene_playing.proofs.Orders.{allowed_since}
 use Rattle.scene_playing.proofs.frame.play_frame.Goals as goal
 
 pub play_lines-requires-clause-places : goal.play_lines-requires-clause-places
@@ -72,7 +73,7 @@ returns-clause-allowed g c =
     let all : c.record_blocks-all.new.context.begun ≡ s.encoders = c.record_blocks-all.ensures.all c.in-Ok.ensures.played.0 in
     let begun : HasBegun s.encoders c.play_lines.new.calls c.record_blocks-all.new.context = subst (λ n. HasBegun n c.play_lines.new.calls c.record_blocks-all.new.context) all c.record_blocks-all.ensures.same in
     let last = recorded_after s k f c.in-Ok.beside c.play_lines.new.handles c.play_beside-beside.new.handles c.play_lines.new.calls c.record_blocks-all.new.context c.play_beside-beside.new.context first.0 begun c.in-Ok.ensures.played.1 c.play_beside-beside.ensures.rest first.3 in
-    allowed_since c.end_frame.result (order_seen c.args.order) c.play_beside-beside.new.context.book.resources.frame k (number_recorded s k f c.play_beside-beside.new.handles c.play_beside-beside.new.context last.0) c.end_frame.ensures.allowed
+    allowed_since c.end_frame.result (wanted_seen c.args.order) c.play_beside-beside.new.context.book.resources.frame k (number_recorded s k f c.play_beside-beside.new.handles c.play_beside-beside.new.context last.0) c.end_frame.ensures.allowed
 
 pub record_blocks-all-requires : goal.record_blocks-all-requires
 record_blocks-all-requires g c κs =

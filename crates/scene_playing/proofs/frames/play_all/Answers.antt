@@ -1,4 +1,4 @@
-use Rattle.std.proofs.Common.{◌≡◌, ◌≤◌, ◌<◌, ◌+◌, ℕ, not, Bool, true, false, map, length, refl, sym, ap, ◌∙◌, subst, arith, List, Some}
+use Rattle.std.proofs.Common.{◌≡◌, ◌≤◌, ◌<◌, ◌+◌, ℕ, not, Bool, true, false, map, length, refl, sym, ap, ◌∙◌, subst, arith, Some}
 use Rattle.std.proofs.lemmas.List.{length-append}
 use Rattle.std.specs.List.{slice_get}
 use Rattle.gfx_words.specs.Seen.{entry_seen}
@@ -7,9 +7,9 @@ use Rattle.render_core.specs.Ended.{first_outcome}
 use Rattle.scene_playing.specs.Frames.{note_seen}
 use Rattle.scene_playing.specs.Recording.{IsAt}
 use Rattle.scene_playing.specs.Steps.{first_after}
-use Rattle.scene_model.specs.Journal.{Journal}
-use Rattle.scene_playing.specs.Order.{order_seen, Follows}
-use Rattle.scene_playing.proofs.LineLaws.{number_at, none_follow, follows_more}
+use Rattle.scene_playing.specs.Order.{wanted_seen}
+use Rattle.scene_playing.proofs.LineLaws.{number_at}
+use Rattle.scene_playing.proofs.Orders.{none_keep, keeps_more}
 use Rattle.scene_playing.proofs.FrameLaws.{none_yet, one_seen, stopped_now, more_now, frame_at, so_far}
 use Rattle.scene_playing.proofs.frames.play_all.Goals as goal
 
@@ -20,7 +20,7 @@ pub loop-frame-init : goal.loop-frame-init
 loop-frame-init g c = record {
   at = c.requires.at;
   given = none_yet (scene_seen c.args.scene.now) c.lawful_law.ensures.none c.frames_law.ensures.none _ _ _ c.requires.none.0 (ap (map (map entry_seen)) c.requires.told.0) (ap (map note_seen) c.requires.told.1);
-  follows = subst (λ (x : Journal). Follows (order_seen c.args.order) x) (sym (ap (map (map entry_seen)) c.requires.told.0)) (none_follow (order_seen c.args.order));
+  keeps = none_keep (wanted_seen c.args.order) _ (ap (map (map entry_seen)) c.requires.told.0);
   outcome = c.requires.told.2 ∙ sym (ap first_outcome c.requires.none.1);
   lists = (c.args.told.now.lists.ok.0 ∙ ap length c.requires.told.0, c.requires.room.0);
   notes = (c.args.told.now.notes.ok.0 ∙ ap length c.requires.told.1, c.requires.room.1);
@@ -53,7 +53,7 @@ loop-frame-preserved g c =
     record {
       at = more.0;
       given = more.1;
-      follows = follows_more (order_seen c.args.order) _ _ (map entry_seen c.in-Ok.ended.journal.items) c.loop-frame.context.book.resources.frame k (number_at s k c.loop-frame.handles c.loop-frame.context was.at) was.given.many lists was.follows c.in-Ok.ensures.allowed;
+      keeps = keeps_more (wanted_seen c.args.order) _ _ (map entry_seen c.in-Ok.ended.journal.items) c.loop-frame.context.book.resources.frame k (number_at s k c.loop-frame.handles c.loop-frame.context was.at) was.given.many lists was.keeps c.in-Ok.ensures.allowed;
       outcome = c.add.ensures.outcome ∙ ap (λ o. first_after o c.in-Ok.ended.back) was.outcome ∙ sym c.in-Ok.ensures.back;
       lists = (room_more c.add.new.self.lists.ok.0 (ap length c.add.ensures.lists.0 ∙ length-append c.loop-frame.told.lists.items _) c.loop-frame.told.lists.ok.0 was.lists.0, subst (λ n. length c.args.scene.now.frames ≤ n) (sym c.add.ensures.lists.1) was.lists.1);
       notes = (room_more c.add.new.self.notes.ok.0 (ap length c.add.ensures.notes.0 ∙ length-append c.loop-frame.told.notes.items _) c.loop-frame.told.notes.ok.0 was.notes.0, subst (λ n. length c.args.scene.now.frames ≤ n) (sym c.add.ensures.notes.1) was.notes.1);
@@ -62,13 +62,13 @@ loop-frame-preserved g c =
       origin = c.play_frame-played.ensures.origin ∙ was.origin;
     }
 
-pub returns-then-not-add-clause-follows : goal.returns-then-not-add-clause-follows
-returns-then-not-add-clause-follows g c =
+pub returns-then-not-add-clause-keeps : goal.returns-then-not-add-clause-keeps
+returns-then-not-add-clause-keeps g c =
     let s = scene_seen c.args.scene.now in
     let k = c.loop-frame.frame-index in
     let was = c.loop-frame.invariant in
     let lists = one_seen (map entry_seen) c.loop-frame.told.lists.items c.add.new.self.lists.items c.in-Ok.ended.journal.items c.add.ensures.lists.0 in
-    follows_more (order_seen c.args.order) _ _ (map entry_seen c.in-Ok.ended.journal.items) c.loop-frame.context.book.resources.frame k (number_at s k c.loop-frame.handles c.loop-frame.context was.at) was.given.many lists was.follows c.in-Ok.ensures.allowed
+    keeps_more (wanted_seen c.args.order) _ _ (map entry_seen c.in-Ok.ended.journal.items) c.loop-frame.context.book.resources.frame k (number_at s k c.loop-frame.handles c.loop-frame.context was.at) was.given.many lists was.keeps c.in-Ok.ensures.allowed
 
 pub play_frame-played-requires : goal.play_frame-played-requires
 play_frame-played-requires g c κs =

@@ -1,0 +1,8 @@
+//! Whole inputs and whole outputs: a source read to its end within a limit, and a text put until a sink has taken all of it.
+#![tactic(auto)]
+
+mod putting;
+mod reading;
+
+pub use putting::put_all;
+pub use reading::{InputError, read_all};

@@ -1,0 +1,26 @@
+// Writes a text to a sink.
+ghost use Rattle.std.specs.Prelude.{◌≡◌, ◌≤◌, OnOk, OnErr};
+ghost use Rattle.io_edge.specs.Edge.{with_back, Rose};
+ghost use Rattle.io_whole.specs.Whole.{HasFront};
+
+use io_edge::{Failed, Sink};
+
+/// Puts the text until all of it is taken.
+///
+/// # Errors
+///
+/// `Failed` only where the sink's count of faults rose; a front of the text was put.
+pub fn put_all<P: Sink>(sink: &mut P, text: &[u8]) -> Result<(), Failed>
+    ensures whole { OnOk result (P.held sink.new ≡ with_back (P.held sink.old) text.now) }
+    ensures front { HasFront (P.held sink.old) text.now (P.held sink.new) }
+    ensures failed { OnErr result (Rose (P.faults sink.old) (P.faults sink.new)) }
+    ensures sure { P.sure sink.new ≡ P.sure sink.old }
+    ensures no_fewer { P.faults sink.old ≤ P.faults sink.new }
+{
+    let mut at = 0;
+    while at < text.len() {
+        let n = sink.put(&text[at..])?;
+        at += n;
+    }
+    Ok(())
+}
