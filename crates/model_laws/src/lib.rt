@@ -1,8 +1,8 @@
 //! Laws of the definitions, as functions without parameters: each has an empty body, and its contract is the law.
 //!
 //! They speak of definitions alone, so that a reader can rely on a law without reading its proof, and a program's proof can use it by a call.
-//! There are eleven laws: of order, of a journal's first fault, of reading, of writing, of fronts, of a journal's text, two of recordings,
-//! and three of journals and draw orders.
+//! There are twelve laws: of order, of a journal's first fault, of reading, of writing, of readable scenes, of fronts, of a journal's text,
+//! two of recordings, and three of journals and draw orders.
 //! `one_reading` and `written_front` are corollaries: of the law of reading, and of those of fronts and of writing.
 #![tactic(auto)]
 

@@ -1,5 +1,5 @@
 -- Lines as the code answers them are the definition's.
-use Rattle.std.proofs.Common.{◌≡◌, ◌≢◌, ℕ, zero, suc, ◌+◌, ◌<◌, Bool, true, false, if◌then◌else◌, List, [], ◌∷◌, ◌++◌, length, map, take, fold, Option, Some, None, Ok, is_some, refl, sym, ap, ◌∙◌, subst, arith, slice_index_or, slice_set, eq-eqb, ne_eqb}
+use Rattle.std.proofs.Common.{◌≡◌, ◌≢◌, ℕ, zero, suc, ◌+◌, ◌<◌, Bool, true, false, if◌then◌else◌, List, [], ◌∷◌, ◌++◌, length, map, take, fold, Option, Some, None, Ok, is_some, option_map, refl, sym, ap, ◌∙◌, subst, arith, slice_index_or, slice_set, eq-eqb, ne_eqb}
 use Rattle.std.proofs.lemmas.List.{get_or-set_same, get_or-set_other, length-set, append-nil, append_assoc}
 use Rattle.std.specs.List.{AllByRecursion}
 use Rattle.std.proofs.lemmas.List.Sums.{fold-append}
@@ -16,6 +16,9 @@ use Rattle.resource_book.specs.Written.{BookView, after_in}
 use Rattle.resource_book.specs.Laws.{bared, WrittenLaw}
 use Rattle.resource_book.proofs.WrittenLaws.{written_law}
 use Rattle.scene_laws.specs.SceneFrames.{unless_refused, accepted_call, calls_of}
+use Rattle.dropped_lines.specs.Reasons.{without_call}
+use Rattle.scene_lines.specs.declared.reasons.Reason.{Reason}
+use Rattle.scene_lines.specs.Reasons.{told_refusal, told}
 use Rattle.scene_lines.specs.Names.{AreNamed, with_bound, HasPlace, LineHasPlace}
 use Rattle.scene_lines.specs.Played.{IsAccepted, IsSame, IsCalled, LineCalled, one_if, StandsFor, LinesPlayed}
 
@@ -43,12 +46,12 @@ none_of A = None
 
 module _ (names : List (List ℕ)) (w : Written) (p : Progress) (old new : BookView) (before after : List (Option Handle)) (s : StandsFor w p old before) where
   -- the state after a line stands for the definition's, which has so many dropped lines more
-  pub record Stands (calls : List ResourceCall) (q : Progress) (dropped : Bool) : Type 0 where
+  pub record Stands (calls : List ResourceCall) (q : Progress) (dropped : Option Reason) : Type 0 where
     pub stands : StandsFor (fold after_call w calls) q new after
     pub many : q.dropped ≡ p.dropped + one_if dropped
 
-  same_stands : IsSame old new before after → Stands [] (drop_line p) true
-  same_stands same = record {
+  same_stands : (r : Reason) → IsSame old new before after → Stands [] (drop_line p) (Some r)
+  same_stands r same = record {
     stands = record { resources = s.resources; changes = s.changes; book_is = same.0 ∙ s.book_is; named = subst (λ (hs : List (Option Handle)). AreNamed hs p.bindings) (sym same.1) s.named };
     many = refl;
   }
@@ -60,7 +63,7 @@ module _ (names : List (List ℕ)) (w : Written) (p : Progress) (old new : BookV
       ∙ (bare_law w.resources c).0
       ∙ ap (λ (r : Resources). refusal_of r c) s.resources
 
-  done_stands : (line : ResourceLine) (c : ResourceCall) → LineHasPlace (length before) line → IsAccepted c (created_name line) old new before after → Stands (c ∷ []) (after_answer p line (Ok (effect p.resources c))) false
+  done_stands : (line : ResourceLine) (c : ResourceCall) → LineHasPlace (length before) line → IsAccepted c (created_name line) old new before after → Stands (c ∷ []) (after_answer p line (Ok (effect p.resources c))) None
   done_stands line c place a =
       let made_bare : (effect old.resources c).made ≡ (effect w.resources c).made = ap (λ (v : BookView). (effect v.resources c).made) s.book_is ∙ (bare_law w.resources c).1.made in
       let made_w : (effect w.resources c).made ≡ a.made = sym made_bare ∙ a.is_made in
@@ -78,22 +81,22 @@ module _ (names : List (List ℕ)) (w : Written) (p : Progress) (old new : BookV
         many = (let e : p.dropped ≡ p.dropped + 0 = omega arith in e);
       }
 
-  answered : (line : ResourceLine) (c : ResourceCall) (dropped : Bool) (o : Option Refusal) → refusal_of p.resources c ≡ o → LineHasPlace (length before) line → IsCalled dropped (Some c) (created_name line) old new before after
+  answered : (line : ResourceLine) (c : ResourceCall) (dropped : Option Reason) (without : Reason) (o : Option Refusal) → refusal_of p.resources c ≡ o → LineHasPlace (length before) line → IsCalled dropped (Some c) without (created_name line) old new before after
       → Stands (unless_refused c o) (after_answer p line (or_refusal (effect p.resources c) o)) dropped
-  answered line c true (Some x) e place a = same_stands a.1
-  answered line c true None e place a = absurd (let f : is_some (refusal_of p.resources c) ≡ true = ap is_some (sym (refused c)) ∙ a.0 in let g : is_some (none_of Refusal) ≡ true = ap is_some (sym e) ∙ f in cc)
-  answered line c false (Some x) e place a = absurd (let f : Some x ≡ None = sym e ∙ sym (refused c) ∙ a.passes in cc)
-  answered line c false None e place a = done_stands line c place a
+  answered line c (Some r) without (Some x) e place a = same_stands r a.1
+  answered line c (Some r) without None e place a = absurd (let f : Some r ≡ option_map told_refusal (refusal_of p.resources c) = a.0 ∙ ap (option_map told_refusal) (refused c) in let g : Some r ≡ none_of Reason = f ∙ ap (option_map told_refusal) e in cc)
+  answered line c None without (Some x) e place a = absurd (let f : Some x ≡ None = sym e ∙ sym (refused c) ∙ a.passes in cc)
+  answered line c None without None e place a = done_stands line c place a
 
-  called : (line : ResourceLine) (dropped : Bool) (o : Option ResourceCall) → LineHasPlace (length before) line → IsCalled dropped o (created_name line) old new before after
+  called : (line : ResourceLine) (dropped : Option Reason) (without : Reason) (o : Option ResourceCall) → LineHasPlace (length before) line → IsCalled dropped o without (created_name line) old new before after
       → Stands (accepted_call p.resources o) (model.after_call p line o) dropped
-  called line true None place a = same_stands a
-  called line false None place a = absurd a
-  called line dropped (Some c) place a = answered line c dropped (refusal_of p.resources c) refl place a
+  called line (Some r) without None place a = same_stands r a.1
+  called line None without None place a = absurd a
+  called line dropped without (Some c) place a = answered line c dropped without (refusal_of p.resources c) refl place a
 
-  pub line_stands : (line : ResourceLine) (dropped : Bool) → LineHasPlace (length before) line → LineCalled dropped names line old new before after
+  pub line_stands : (line : ResourceLine) (dropped : Option Reason) → LineHasPlace (length before) line → LineCalled dropped names line old new before after
       → Stands (accepted_call p.resources (resource_call p.bindings names line)) (after_line names p line) dropped
-  line_stands line dropped place a = called line dropped (resource_call p.bindings names line) place (a p.bindings s.named)
+  line_stands line dropped place a = called line dropped (told (without_call line)) (resource_call p.bindings names line) place (a p.bindings s.named)
 
 -- ---- one line more
 
@@ -107,7 +110,7 @@ calls_append names p (y ∷ ys) x =
 pub none_played : (names : List (List ℕ)) (book : BookView) (handles : List (Option Handle)) → LinesPlayed names [] 0 book book handles handles
 none_played names book handles = record { stands = λ w p s. s; dropped_are = λ w p s. (let e : p.dropped ≡ p.dropped + 0 = omega arith in e); many = refl }
 
-pub more_played : (names : List (List ℕ)) (xs : List ResourceLine) (x : ResourceLine) (count : ℕ) (dropped : Bool) (old half new : BookView) (before between after : List (Option Handle)) → LineHasPlace (length before) x → length after ≡ length between
+pub more_played : (names : List (List ℕ)) (xs : List ResourceLine) (x : ResourceLine) (count : ℕ) (dropped : Option Reason) (old half new : BookView) (before between after : List (Option Handle)) → LineHasPlace (length before) x → length after ≡ length between
     → LinesPlayed names xs count old half before between → LineCalled dropped names x half new between after → LinesPlayed names (xs ++ x ∷ []) (count + one_if dropped) old new before after
 more_played names xs x count dropped old half new before between after place many played called = record {
   stands = λ w p s. (let t = step w p s in

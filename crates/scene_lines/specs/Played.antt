@@ -1,5 +1,5 @@
 -- What a line of the API thread does.
-use Rattle.std.specs.Prelude.{◌≡◌, ℕ, ◌+◌, Bool, true, false, List, length, take, fold, Option, Some, None, Result, Ok, Err, MatchResult, is_some, slice_get}
+use Rattle.std.specs.Prelude.{◌≡◌, ℕ, ◌+◌, Bool, true, false, List, length, take, fold, Option, Some, None, Result, Ok, Err, MatchResult, is_some, option_map, slice_get}
 use Rattle.gfx_model.specs.Words.{Handle}
 use Rattle.gfx_model.specs.Resources.{ResourceCall, refusal_of, effect}
 use Rattle.gfx_words.specs.declared.refusals.Refusal as code
@@ -10,6 +10,9 @@ use Rattle.scene_model.specs.Fold.{Bindings, resource_call, created_name, Progre
 use Rattle.resource_book.specs.Written.{BookView, after_in}
 use Rattle.resource_book.specs.Laws.{bared}
 use Rattle.scene_laws.specs.SceneFrames.{calls_of}
+use Rattle.dropped_lines.specs.Reasons.{without_call}
+use Rattle.scene_lines.specs.declared.reasons.Reason.{Reason}
+use Rattle.scene_lines.specs.Reasons.{told_refusal, told}
 use Rattle.scene_lines.specs.Names.{AreNamed, with_bound}
 
 -- ---- one line, as the code answers it
@@ -19,19 +22,19 @@ abbrev pub IsRefusal : code.Refusal → Type 0
 IsRefusal r = is_some (refusal_seen r) ≡ true
 
 -- a refused line is dropped; without memory, which is no refusal of the definitions, there is no answer
-abbrev pub IsDropping : {E : Type 0} → Result Bool E → code.Refusal → Type 0
-IsDropping (Ok dropped) r = (dropped ≡ true) × IsRefusal r
+abbrev pub IsDropping : {E : Type 0} → Result (Option Reason) E → code.Refusal → Type 0
+IsDropping (Ok dropped) r = (dropped ≡ option_map told_refusal (refusal_seen r)) × IsRefusal r
 IsDropping (Err _) r = refusal_seen r ≡ None
 
 -- an accepted create binds the name, a refused one is dropped
-abbrev pub IsBound : {E : Type 0} → Name → Result Handle code.Refusal → Result Bool E → (before after : List (Option Handle)) → Type 0
-IsBound n (Ok h) (Ok dropped) before after = (dropped ≡ false) × (after ≡ with_bound (Some n) (Some h) before)
+abbrev pub IsBound : {E : Type 0} → Name → Result Handle code.Refusal → Result (Option Reason) E → (before after : List (Option Handle)) → Type 0
+IsBound n (Ok h) (Ok dropped) before after = (dropped ≡ None) × (after ≡ with_bound (Some n) (Some h) before)
 IsBound n (Ok h) (Err _) before after = ⊥
 IsBound n (Err r) result before after = IsDropping result r × (after ≡ before)
 
 -- an accepted call is done, a refused one is dropped
-abbrev pub IsDone : {E : Type 0} → Result (Unit {0}) code.Refusal → Result Bool E → Type 0
-IsDone (Ok _) (Ok dropped) = dropped ≡ false
+abbrev pub IsDone : {E : Type 0} → Result (Unit {0}) code.Refusal → Result (Option Reason) E → Type 0
+IsDone (Ok _) (Ok dropped) = dropped ≡ None
 IsDone (Ok _) (Err _) = ⊥
 IsDone (Err r) result = IsDropping result r
 
@@ -47,17 +50,17 @@ pub record IsAccepted (c : ResourceCall) (bound : Option Name) (old new : BookVi
 abbrev pub IsSame : (old new : BookView) → (before after : List (Option Handle)) → Type 0
 IsSame old new before after = (new ≡ old) × (after ≡ before)
 
--- a call, if there is one, is dropped where it is refused, and else done
-abbrev pub IsCalled : (dropped : Bool) → Option ResourceCall → Option Name → (old new : BookView) → (before after : List (Option Handle)) → Type 0
-IsCalled true None bound old new before after = IsSame old new before after
-IsCalled true (Some c) bound old new before after = (is_some (refusal_of old.resources c) ≡ true) × IsSame old new before after
-IsCalled false None bound old new before after = ⊥
-IsCalled false (Some c) bound old new before after = IsAccepted c bound old new before after
+-- a call, if there is one, is dropped where it is refused, with its refusal's reason, and else done; without a call the line is dropped for a reason of its own
+abbrev pub IsCalled : (dropped : Option Reason) → Option ResourceCall → (without : Reason) → Option Name → (old new : BookView) → (before after : List (Option Handle)) → Type 0
+IsCalled (Some r) None without bound old new before after = (r ≡ without) × IsSame old new before after
+IsCalled (Some r) (Some c) without bound old new before after = (Some r ≡ option_map told_refusal (refusal_of old.resources c)) × IsSame old new before after
+IsCalled None None without bound old new before after = ⊥
+IsCalled None (Some c) without bound old new before after = IsAccepted c bound old new before after
 
 -- the same of the call that a line has by what its names stand for
-abbrev pub LineCalled : (dropped : Bool) → (names : List (List ℕ)) → ResourceLine → (old new : BookView) → (before after : List (Option Handle)) → Type 0
+abbrev pub LineCalled : (dropped : Option Reason) → (names : List (List ℕ)) → ResourceLine → (old new : BookView) → (before after : List (Option Handle)) → Type 0
 LineCalled dropped names line old new before after =
-    (bs : Bindings) → AreNamed before bs → IsCalled dropped (resource_call bs names line) (created_name line) old new before after
+    (bs : Bindings) → AreNamed before bs → IsCalled dropped (resource_call bs names line) (told (without_call line)) (created_name line) old new before after
 
 -- the lines whose calls take memory: those that create and those that write contents
 abbrev pub takes_memory : ResourceLine → Bool
@@ -73,16 +76,16 @@ takes_memory (order_line views) = false
 takes_memory _ = true
 
 -- a line is done or dropped; without memory, which only some lines take, nothing has changed
-abbrev pub LineAnswered : {E : Type 0} → Result Bool E → (names : List (List ℕ)) → ResourceLine → (old new : BookView) → (before after : List (Option Handle)) → Type 0
+abbrev pub LineAnswered : {E : Type 0} → Result (Option Reason) E → (names : List (List ℕ)) → ResourceLine → (old new : BookView) → (before after : List (Option Handle)) → Type 0
 LineAnswered result names line old new before after =
     MatchResult result (λ dropped. LineCalled dropped names line old new before after) (λ _. (takes_memory line ≡ true) × IsSame old new before after)
 
 -- ---- lines, as the definition has them
 
 -- how many lines a line drops
-abbrev pub one_if : Bool → ℕ
-one_if true = 1
-one_if false = 0
+abbrev pub one_if : Option Reason → ℕ
+one_if (Some r) = 1
+one_if None = 0
 
 -- what the calls wrote, the definition's state of the lines, and what the code has of both
 pub record StandsFor (w : Written) (p : Progress) (book : BookView) (handles : List (Option Handle)) : Type 0 where

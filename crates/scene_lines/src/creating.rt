@@ -9,6 +9,7 @@ ghost use Rattle.scene_lines.specs.Played.{LineAnswered, IsCalled, IsSame};
 
 use crate::layouts::layout_of;
 use crate::naming::{bind, named, option_named};
+use crate::reasons::Reason;
 use gfx_words::{Format, Handle, ProgramKind, TexSource, UniformKind};
 use resource_book::ResourceCalls;
 use scene_text::{LayoutPart, SceneName};
@@ -19,7 +20,7 @@ pub(crate) fn layout<B: ResourceCalls>(
     handles: &mut [Option<Handle>],
     name: u32,
     parts: &[LayoutPart],
-) -> Result<bool, AllocError>
+) -> Result<Option<Reason>, AllocError>
     requires { name < length handles.old }
     ensures answer { (names : List (List ℕ)) → LineAnswered result names (model.layout_line name (map part_seen parts.now)) (B.book calls.old) (B.book calls.new) handles.old handles.new }
     ensures rest { B.rest calls.new ≡ B.rest calls.old }
@@ -29,7 +30,7 @@ pub(crate) fn layout<B: ResourceCalls>(
             let answer = calls.create_layout(layout);
             bind(handles, name, answer)
         }
-        None => Ok(true),
+        None => Ok(Some(Reason::NoLayout)),
     }
 }
 
@@ -39,7 +40,7 @@ pub(crate) fn vertex_buffer<B: ResourceCalls>(
     name: u32,
     layout: u32,
     bytes: &[u8],
-) -> Result<bool, AllocError>
+) -> Result<Option<Reason>, AllocError>
     requires { name < length handles.old }
     ensures answer { (names : List (List ℕ)) → LineAnswered result names (model.vertex_buffer_line name layout bytes.now) (B.book calls.old) (B.book calls.new) handles.old handles.new }
     ensures rest { B.rest calls.new ≡ B.rest calls.old }
@@ -49,7 +50,7 @@ pub(crate) fn vertex_buffer<B: ResourceCalls>(
             let answer = calls.create_vertex_buffer(layout, bytes);
             bind(handles, name, answer)
         }
-        None => Ok(true),
+        None => Ok(Some(Reason::Unnamed)),
     }
 }
 
@@ -58,7 +59,7 @@ pub(crate) fn index_buffer<B: ResourceCalls>(
     handles: &mut [Option<Handle>],
     name: u32,
     bytes: &[u8],
-) -> Result<bool, AllocError>
+) -> Result<Option<Reason>, AllocError>
     requires { name < length handles.old }
     ensures answer { (names : List (List ℕ)) → LineAnswered result names (model.index_buffer_line name bytes.now) (B.book calls.old) (B.book calls.new) handles.old handles.new }
     ensures rest { B.rest calls.new ≡ B.rest calls.old }
@@ -90,7 +91,7 @@ pub(crate) fn texture<B: ResourceCalls>(
     format: Format,
     blit_dst: bool,
     source: &TexSource,
-) -> Result<bool, AllocError>
+) -> Result<Option<Reason>, AllocError>
     requires { name < length handles.old }
     ensures answer { (names : List (List ℕ)) → LineAnswered result names (model.texture_line name width height (format_seen format) blit_dst (own_source_seen source.now)) (B.book calls.old) (B.book calls.new) handles.old handles.new }
     ensures rest { B.rest calls.new ≡ B.rest calls.old }
@@ -107,10 +108,10 @@ fn target<B: ResourceCalls>(
     name: u32,
     color: Handle,
     depth: Option<Handle>,
-) -> Result<bool, AllocError>
+) -> Result<Option<Reason>, AllocError>
     requires { name < length handles.old }
     ensures answer { MatchResult result
-        (λ dropped. IsCalled dropped (Some (create_frame_buffer color depth)) (Some name) (B.book calls.old) (B.book calls.new) handles.old handles.new)
+        (λ dropped. IsCalled dropped (Some (create_frame_buffer color depth)) Reason.Unnamed (Some name) (B.book calls.old) (B.book calls.new) handles.old handles.new)
         (λ _. IsSame (B.book calls.old) (B.book calls.new) handles.old handles.new) }
     ensures rest { B.rest calls.new ≡ B.rest calls.old }
 {
@@ -124,16 +125,16 @@ pub(crate) fn frame_buffer<B: ResourceCalls>(
     name: u32,
     color: u32,
     depth: Option<u32>,
-) -> Result<bool, AllocError>
+) -> Result<Option<Reason>, AllocError>
     requires { name < length handles.old }
     ensures answer { (names : List (List ℕ)) → LineAnswered result names (model.frame_buffer_line name color depth) (B.book calls.old) (B.book calls.new) handles.old handles.new }
     ensures rest { B.rest calls.new ≡ B.rest calls.old }
 {
     let Some(color) = named(handles, color) else {
-        return Ok(true);
+        return Ok(Some(Reason::Unnamed));
     };
     let Some(depth) = option_named(handles, depth) else {
-        return Ok(true);
+        return Ok(Some(Reason::Unnamed));
     };
     let done = target(calls, handles, name, color, depth)?;
     Ok(done)
@@ -144,7 +145,7 @@ pub(crate) fn program<B: ResourceCalls>(
     handles: &mut [Option<Handle>],
     name: u32,
     kind: ProgramKind,
-) -> Result<bool, AllocError>
+) -> Result<Option<Reason>, AllocError>
     requires { name < length handles.old }
     ensures answer { (names : List (List ℕ)) → LineAnswered result names (model.program_line name (program_seen kind)) (B.book calls.old) (B.book calls.new) handles.old handles.new }
     ensures rest { B.rest calls.new ≡ B.rest calls.old }
@@ -169,7 +170,7 @@ pub(crate) fn uniform<B: ResourceCalls>(
     names: &[SceneName],
     name: u32,
     kind: UniformKind,
-) -> Result<bool, AllocError>
+) -> Result<Option<Reason>, AllocError>
     requires { name < length handles.old }
     ensures answer { LineAnswered result (map name_seen names.now) (model.uniform_line name (uniform_seen kind)) (B.book calls.old) (B.book calls.new) handles.old handles.new }
     ensures rest { B.rest calls.new ≡ B.rest calls.old }

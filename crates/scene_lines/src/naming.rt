@@ -4,6 +4,7 @@ ghost use Rattle.scene_model.specs.Fold.{Bindings, option_named};
 ghost use Rattle.scene_lines.specs.Names.{handle_of, AreNamed};
 ghost use Rattle.scene_lines.specs.Played.{IsDropping, IsBound, IsDone};
 
+use crate::reasons::Reason;
 use gfx_words::{Handle, Refusal};
 use std::alloc::AllocError;
 
@@ -31,39 +32,37 @@ pub(crate) fn option_named(handles: &[Option<Handle>], name: Option<u32>) -> Opt
 }
 
 /// A refused line is dropped; want of memory is handed on.
-fn dropped(refusal: Refusal) -> Result<bool, AllocError>
+fn dropped(refusal: Refusal) -> Result<Option<Reason>, AllocError>
     ensures { IsDropping result refusal }
 {
-    match refusal {
-        Refusal::OutOfMemory => Err(AllocError),
-        _ => Ok(true),
-    }
+    let reason = Reason::of(refusal)?;
+    Ok(Some(reason))
 }
 
-/// Binds a name to what was made; answers whether the line is dropped.
+/// Binds a name to what was made; answers why the line is dropped.
 pub(crate) fn bind(
     handles: &mut [Option<Handle>],
     name: u32,
     answer: Result<Handle, Refusal>,
-) -> Result<bool, AllocError>
+) -> Result<Option<Reason>, AllocError>
     requires { name < length handles.old }
     ensures { IsBound name answer result handles.old handles.new }
 {
     match answer {
         Ok(handle) => {
             handles[name as usize] = Some(handle);
-            Ok(false)
+            Ok(None)
         }
         Err(refusal) => dropped(refusal),
     }
 }
 
-/// Whether the line of a call is dropped.
-pub(crate) fn done(answer: Result<(), Refusal>) -> Result<bool, AllocError>
+/// Why the line of a call is dropped.
+pub(crate) fn done(answer: Result<(), Refusal>) -> Result<Option<Reason>, AllocError>
     ensures { IsDone answer result }
 {
     match answer {
-        Ok(()) => Ok(false),
+        Ok(()) => Ok(None),
         Err(refusal) => dropped(refusal),
     }
 }

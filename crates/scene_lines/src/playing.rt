@@ -8,6 +8,7 @@ ghost use Rattle.scene_lines.specs.Played.{LineAnswered, one_if, LinesPlayed, Fr
 use crate::creating::{
     frame_buffer, index_buffer, layout, program, texture, uniform, vertex_buffer,
 };
+use crate::reasons::Reason;
 use crate::setting::{
     order, view_clear, view_mode, view_rect, view_reset, view_scissor, view_target, view_transform,
 };
@@ -17,14 +18,14 @@ use resource_book::ResourceCalls;
 use scene_text::{ResLine, SceneName};
 use std::alloc::{AllocError, Global};
 
-/// Plays a line; answers whether it is dropped.
-fn play_line<B: ResourceCalls>(
+/// Plays a line; answers why it is dropped, or none where it is done.
+pub fn play_line<B: ResourceCalls>(
     alloc: Global,
     calls: &mut B,
     handles: &mut [Option<Handle>],
     names: &[SceneName],
     line: &ResLine,
-) -> Result<bool, AllocError>
+) -> Result<Option<Reason>, AllocError>
     requires { LineHasPlace (length handles.old) (resource_line_seen line.now) }
     ensures answer { LineAnswered result (map name_seen names.now) (resource_line_seen line.now) (B.book calls.old) (B.book calls.new) handles.old handles.new }
     ensures rest { B.rest calls.new ≡ B.rest calls.old }
@@ -81,11 +82,14 @@ fn play_line<B: ResourceCalls>(
 }
 
 /// How many lines a line drops.
-fn counted(dropped: bool) -> u32
+fn counted(dropped: Option<Reason>) -> u32
     ensures number { result ≡ one_if dropped }
     ensures most { result ≤ 1 }
 {
-    if dropped { 1 } else { 0 }
+    match dropped {
+        Some(_) => 1,
+        None => 0,
+    }
 }
 
 /// Plays lines of the API thread in their order; answers how many were dropped: those whose call was refused, or that name what

@@ -7,6 +7,7 @@ ghost use Rattle.scene_model.specs.Scene as model;
 ghost use Rattle.scene_lines.specs.Played.{LineAnswered};
 
 use crate::naming::{done, option_named};
+use crate::reasons::Reason;
 use fix_math::{Affine, Rect};
 use gfx_words::{Handle, ViewMode};
 use resource_book::ResourceCalls;
@@ -18,7 +19,7 @@ pub(crate) fn view_rect<B: ResourceCalls>(
     handles: &[Option<Handle>],
     view: u16,
     rect: Rect,
-) -> Result<bool, AllocError>
+) -> Result<Option<Reason>, AllocError>
     ensures answer { (names : List (List ℕ)) → LineAnswered result names (model.rect_line view (rect_seen rect)) (B.book calls.old) (B.book calls.new) handles.now handles.now }
     ensures rest { B.rest calls.new ≡ B.rest calls.old }
 {
@@ -31,7 +32,7 @@ pub(crate) fn view_scissor<B: ResourceCalls>(
     handles: &[Option<Handle>],
     view: u16,
     rect: Rect,
-) -> Result<bool, AllocError>
+) -> Result<Option<Reason>, AllocError>
     ensures answer { (names : List (List ℕ)) → LineAnswered result names (model.view_scissor_line view (rect_seen rect)) (B.book calls.old) (B.book calls.new) handles.now handles.now }
     ensures rest { B.rest calls.new ≡ B.rest calls.old }
 {
@@ -44,7 +45,7 @@ pub(crate) fn view_clear<B: ResourceCalls>(
     handles: &[Option<Handle>],
     view: u16,
     clear: Clear,
-) -> Result<bool, AllocError>
+) -> Result<Option<Reason>, AllocError>
     ensures answer { (names : List (List ℕ)) → LineAnswered result names (model.clear_line view (clear_seen clear)) (B.book calls.old) (B.book calls.new) handles.now handles.now }
     ensures rest { B.rest calls.new ≡ B.rest calls.old }
 {
@@ -57,7 +58,7 @@ pub(crate) fn view_mode<B: ResourceCalls>(
     handles: &[Option<Handle>],
     view: u16,
     mode: ViewMode,
-) -> Result<bool, AllocError>
+) -> Result<Option<Reason>, AllocError>
     ensures answer { (names : List (List ℕ)) → LineAnswered result names (model.mode_line view (mode_seen mode)) (B.book calls.old) (B.book calls.new) handles.now handles.now }
     ensures rest { B.rest calls.new ≡ B.rest calls.old }
 {
@@ -70,13 +71,13 @@ pub(crate) fn view_target<B: ResourceCalls>(
     handles: &[Option<Handle>],
     view: u16,
     target: Option<u32>,
-) -> Result<bool, AllocError>
+) -> Result<Option<Reason>, AllocError>
     ensures answer { (names : List (List ℕ)) → LineAnswered result names (model.target_line view target) (B.book calls.old) (B.book calls.new) handles.now handles.now }
     ensures rest { B.rest calls.new ≡ B.rest calls.old }
 {
     match option_named(handles, target) {
         Some(target) => done(calls.set_view_target(view, target)),
-        None => Ok(true),
+        None => Ok(Some(Reason::Unnamed)),
     }
 }
 
@@ -85,7 +86,7 @@ pub(crate) fn view_transform<B: ResourceCalls>(
     handles: &[Option<Handle>],
     view: u16,
     transform: Affine,
-) -> Result<bool, AllocError>
+) -> Result<Option<Reason>, AllocError>
     ensures answer { (names : List (List ℕ)) → LineAnswered result names (model.view_transform_line view (affine_seen transform)) (B.book calls.old) (B.book calls.new) handles.now handles.now }
     ensures rest { B.rest calls.new ≡ B.rest calls.old }
 {
@@ -97,7 +98,7 @@ pub(crate) fn view_reset<B: ResourceCalls>(
     calls: &mut B,
     handles: &[Option<Handle>],
     view: u16,
-) -> Result<bool, AllocError>
+) -> Result<Option<Reason>, AllocError>
     ensures answer { (names : List (List ℕ)) → LineAnswered result names (model.reset_line view) (B.book calls.old) (B.book calls.new) handles.now handles.now }
     ensures rest { B.rest calls.new ≡ B.rest calls.old }
 {
@@ -109,7 +110,7 @@ pub(crate) fn order<B: ResourceCalls>(
     calls: &mut B,
     handles: &[Option<Handle>],
     views: &[u16],
-) -> Result<bool, AllocError>
+) -> Result<Option<Reason>, AllocError>
     ensures answer { (names : List (List ℕ)) → LineAnswered result names (model.order_line views.now) (B.book calls.old) (B.book calls.new) handles.now handles.now }
     ensures rest { B.rest calls.new ≡ B.rest calls.old }
 {

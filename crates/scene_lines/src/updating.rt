@@ -5,6 +5,7 @@ ghost use Rattle.scene_model.specs.Scene as model;
 ghost use Rattle.scene_lines.specs.Played.{LineAnswered};
 
 use crate::naming::{done, named};
+use crate::reasons::Reason;
 use fix_math::Rect;
 use gfx_words::Handle;
 use resource_book::ResourceCalls;
@@ -16,13 +17,13 @@ pub(crate) fn update<B: ResourceCalls>(
     name: u32,
     offset: u32,
     bytes: &[u8],
-) -> Result<bool, AllocError>
+) -> Result<Option<Reason>, AllocError>
     ensures answer { (names : List (List ℕ)) → LineAnswered result names (model.update_line name offset bytes.now) (B.book calls.old) (B.book calls.new) handles.now handles.now }
     ensures rest { B.rest calls.new ≡ B.rest calls.old }
 {
     match named(handles, name) {
         Some(buffer) => done(calls.update_buffer(buffer, offset, bytes)),
-        None => Ok(true),
+        None => Ok(Some(Reason::Unnamed)),
     }
 }
 
@@ -32,13 +33,13 @@ pub(crate) fn texel_update<B: ResourceCalls>(
     name: u32,
     rect: Rect,
     bytes: &[u8],
-) -> Result<bool, AllocError>
+) -> Result<Option<Reason>, AllocError>
     ensures answer { (names : List (List ℕ)) → LineAnswered result names (model.texel_update_line name (rect_seen rect) bytes.now) (B.book calls.old) (B.book calls.new) handles.now handles.now }
     ensures rest { B.rest calls.new ≡ B.rest calls.old }
 {
     match named(handles, name) {
         Some(texture) => done(calls.update_texture(texture, rect, bytes)),
-        None => Ok(true),
+        None => Ok(Some(Reason::Unnamed)),
     }
 }
 
@@ -46,12 +47,12 @@ pub(crate) fn destroy<B: ResourceCalls>(
     calls: &mut B,
     handles: &[Option<Handle>],
     name: u32,
-) -> Result<bool, AllocError>
+) -> Result<Option<Reason>, AllocError>
     ensures answer { (names : List (List ℕ)) → LineAnswered result names (model.destroy_line name) (B.book calls.old) (B.book calls.new) handles.now handles.now }
     ensures rest { B.rest calls.new ≡ B.rest calls.old }
 {
     match named(handles, name) {
         Some(thing) => done(calls.destroy(thing)),
-        None => Ok(true),
+        None => Ok(Some(Reason::Unnamed)),
     }
 }

@@ -1,0 +1,4 @@
+mod Ends
+mod LineTexts
+mod Fronts
+mod FramesPut

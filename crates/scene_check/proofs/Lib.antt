@@ -1,0 +1,5 @@
+mod LineLaws
+mod NumberLaws
+mod MeterLaws
+mod FrameLaws
+pub mod SceneLaws
