@@ -7,7 +7,8 @@ use crate::flat::draw_flat;
 use crate::lists::DrawList;
 use crate::rows::Rows;
 use fix_math::tell_texels;
-use std::thread::{Threads, join_mut};
+use rayon::join_mut;
+use std::thread::Threads;
 
 /// Makes the draws of a list on a band without depth.
 pub(crate) fn draw_flat_list(rows: &Rows, list: &DrawList<'_>, colors: &mut [[u8; 4]])

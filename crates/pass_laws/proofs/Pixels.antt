@@ -33,7 +33,7 @@ deep_back d (p ∷ ps) a = λ i. record { color = p.color; depth = one i } ∷ d
     one : Some (u32_at (depth_bytes p.depth) 0) ≡ p.depth
     one = ap (λ o. Some (u32_at (depth_bytes o) 0)) a.0.1 ∙ ap Some (word_back a.0.0) ∙ sym a.0.1
 
-joined_back : (o : Option Texels) (ps : List Pixel) → AllByRecursion (Fits o) ps
+pub joined_back : (o : Option Texels) (ps : List Pixel) → AllByRecursion (Fits o) ps
     → joined_pixels (map (λ p. p.color) ps) (option_map (with_texel_list (map (λ p. depth_bytes p.depth) ps)) o) ≡ ps
 joined_back None ps a = flat_back ps a
 joined_back (Some d) ps a = deep_back d ps a
@@ -61,11 +61,11 @@ fits_deep d [] zs = tt
 fits_deep d (c ∷ cs) [] = tt
 fits_deep d (c ∷ cs) (z ∷ zs) = ((u32_at z 0, refl), fits_deep d cs zs)
 
-fits_joined : (cs : List Color) (o : Option Texels) → AllByRecursion (Fits o) (joined_pixels cs o)
+pub fits_joined : (cs : List Color) (o : Option Texels) → AllByRecursion (Fits o) (joined_pixels cs o)
 fits_joined cs None = fits_flat cs
 fits_joined cs (Some d) = fits_deep d cs d.texels
 
-fits_changed : (f : ℕ → ℕ → Pixel → Pixel) → Keeps f → (o : Option Texels) (w n : ℕ) (ps : List Pixel) → AllByRecursion (Fits o) ps → AllByRecursion (Fits o) (map_from (λ i p. f (i % w) (i / w) p) n ps)
+pub fits_changed : (f : ℕ → ℕ → Pixel → Pixel) → Keeps f → (o : Option Texels) (w n : ℕ) (ps : List Pixel) → AllByRecursion (Fits o) ps → AllByRecursion (Fits o) (map_from (λ i p. f (i % w) (i / w) p) n ps)
 fits_changed f k o w n [] a = tt
 fits_changed f k o w n (p ∷ ps) a = (k (n % w) (n / w) p o a.0, fits_changed f k o w (n + 1) ps a.1)
 

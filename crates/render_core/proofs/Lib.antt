@@ -7,7 +7,9 @@ mod Pieces
 mod Runs
 mod ShownFrames
 mod Shows
+mod Sides
 mod Tallies
 mod Texts
 mod Turns
 mod ViewRuns
+mod Wants

@@ -3,6 +3,7 @@ pub mod Ended
 pub mod Laws
 pub mod Lending
 pub mod Lists
+pub mod Needs
 pub mod Outcomes
 pub mod Put
 pub mod Rendered

@@ -7,6 +7,8 @@ use Rattle.frame_record.specs.declared.frame.Outcome.{Outcome}
 use Rattle.frame_record.specs.declared.frame.RenderedFrame.{RenderedFrame}
 use Rattle.render_stores.specs.Seen.{stores_seen}
 use Rattle.render_core.specs.declared.renderer.Renderer.{Renderer}
+use Rattle.frame_record.specs.declared.frame.Outcome.TheVariants as outcomes
+use Rattle.render_core.specs.Needs.{NeedsMemory}
 use Rattle.render_core.specs.Outcomes.{has_ended, is_shown, is_skipped}
 use Rattle.render_core.specs.Seen.{frame_seen}
 use Rattle.render_core.specs.Shown.{StoresAfter, HeldAfter, TallyAfter, FaultIf}
@@ -25,9 +27,11 @@ abbrev pub seen_by : {P : Type 0} → (P → Option (List ℕ)) → (P → Optio
 seen_by held tally faults sure r =
     record { stores = stores_seen r.canvas.stores; outcomes = r.outcomes; held = held r.sink; tally = tally r.sink; faults = faults r.sink; sure = sure r.sink }
 
--- a frame is rendered: it is skipped exactly where an earlier one was not shown; else the stores, the sink and the outcomes are by its own outcome
+-- a frame is rendered: it is skipped exactly where an earlier one was not shown; else the stores, the sink and the outcomes are by its own outcome; memory
+-- is wanting only for a frame that takes some
 pub record IsRendered (old : Rendering) (r : RenderedFrame) (new : Rendering) : Type 0 where
   pub skipped : is_skipped r.outcome ≡ has_ended old.outcomes
+  pub needs : r.outcome ≡ outcomes.OutOfMemory → NeedsMemory r.frame
   pub stores : StoresAfter r.outcome old.stores (frame_seen r.frame) new.stores
   pub held : HeldAfter r.outcome (picture_text new.stores.back.color) old.held new.held
   pub tally : TallyAfter r.outcome (picture_text new.stores.back.color) old.tally new.tally

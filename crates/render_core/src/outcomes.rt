@@ -1,5 +1,5 @@
 // The outcomes of a renderer's frames.
-ghost use Rattle.std.specs.Prelude.{◌≡◌, ◌<◌, ◌||◌, [], ◌∷◌, ◌++◌, length, not, option_map};
+ghost use Rattle.std.specs.Prelude.{◌≡◌, ◌<◌, ◌||◌, [], ◌∷◌, ◌++◌, length, not, option_map, true};
 ghost use Rattle.render_core.specs.Counted.{shown_after, end_after, new_end, one_skipped};
 ghost use Rattle.render_core.specs.Outcomes.{has_ended, is_shown, is_skipped};
 
@@ -63,6 +63,13 @@ impl Outcomes {
         ensures { result ≡ has_ended self.now }
     {
         self.end.is_some()
+    }
+
+    /// No frame is rendered any more.
+    pub(crate) fn close(&mut self)
+        ensures { has_ended self.new ≡ true }
+    {
+        self.end = Some(End::new(Fault::Memory));
     }
 
     /// One frame more. It was skipped exactly where an earlier one was not shown.

@@ -1,5 +1,5 @@
 // The text of a picture, in the P6 format of Netpbm.
-ghost use Rattle.std.specs.Prelude.{◌≡◌, ◌≤◌, ◌+◌, ◌-◌, ◌*◌, ◌++◌, length, take, flat_map, IfOk, OnOk};
+ghost use Rattle.std.specs.Prelude.{◌≡◌, ◌≤◌, ◌+◌, ◌-◌, ◌*◌, ◌++◌, length, take, flat_map, IfOk};
 ghost use Rattle.scene_model.specs.Output.{picture_header, picture_text};
 ghost use Rattle.fix_math.specs.Seen.{texels_seen};
 
@@ -9,7 +9,6 @@ use std::alloc::{AllocError, Global};
 /// The text of a picture, which is written anew for each frame. Its room is kept.
 #[derive(Drop)]
 pub(crate) struct PictureText {
-    alloc: Global,
     width: u16,
     height: u16,
     text: Vec<u8>,
@@ -30,7 +29,6 @@ impl PictureText {
         text.extend_from_slice(header.as_bytes())?;
         text.resize(head.saturating_add(3 * count), 0)?;
         Ok(PictureText {
-            alloc,
             width,
             height,
             text,
@@ -38,22 +36,12 @@ impl PictureText {
         })
     }
 
-    /// Writes the picture of these texels. It takes memory only where the sides are others than the last ones.
-    pub(crate) fn write(&mut self, texels: &Texels) -> Result<(), AllocError>
-        ensures { OnOk result (self.new.text.items ≡ picture_text (texels_seen texels.now)) }
-    {
-        if self.width != texels.width || self.height != texels.height {
-            *self = PictureText::new(self.alloc, texels.width, texels.height)?;
-        }
-        self.write_colors(texels);
-        Ok(())
-    }
-
-    /// Writes the picture of texels of the same sides.
-    fn write_colors(&mut self, texels: &Texels)
+    /// Writes the picture of texels of the same sides. It takes no memory.
+    pub(crate) fn write(&mut self, texels: &Texels)
         requires width { self.old.width ≡ texels.now.width }
         requires height { self.old.height ≡ texels.now.height }
-        ensures { self.new.text.items ≡ picture_text (texels_seen texels.now) }
+        ensures text { self.new.text.items ≡ picture_text (texels_seen texels.now) }
+        ensures sides { (self.new.width ≡ self.old.width) × (self.new.height ≡ self.old.height) }
     {
         write_colors(&mut self.text[self.head..], texels.texels.as_slice());
     }

@@ -1,13 +1,19 @@
 // Renders one frame after another.
-ghost use Rattle.std.specs.Prelude.{◌≡◌, ◌≤◌, ◌<◌, ℕ, List, [], ◌∷◌, ◌++◌, length, false, IfOk, IfErr, OnOk};
+ghost use Rattle.std.specs.Prelude.{◌≡◌, ◌⊎◌, ◌≤◌, ◌<◌, ℕ, List, [], ◌∷◌, ◌++◌, length, map, false, IfOk, IfErr, MatchOption, OnOk, OnErr};
 ghost use Rattle.io_edge.specs.Edge.{with_back, Rose};
 ghost use Rattle.gfx_model.specs.World.{World, FrameContent, first_world, frame_step};
 ghost use Rattle.scene_model.specs.Output.{picture_text};
 ghost use Rattle.store_laws.specs.ByIndex.{first_stores, frame_by_index};
 ghost use Rattle.store_laws.specs.Says.{StandsFor, Says, left};
+ghost use Rattle.int_raster.specs.Seen.{surface_seen};
 ghost use Rattle.render_stores.specs.Seen.{stores_seen};
+ghost use Rattle.trace_laws.specs.History.{pixel_at, pixel_history};
+ghost use Rattle.pixel_ops.specs.Seen.{pixel_seen};
+ghost use Rattle.trace_laws.specs.ByIndex.{begun_in, deeds_in, history_in};
+ghost use Rattle.frame_tracing.specs.Seen.{made_seen};
+ghost use Rattle.render_core.specs.Needs.{NeedsMemory, FitsText, FitsAfter};
+ghost use Rattle.frame_record.specs.declared.frame.Outcome.TheVariants as endings;
 ghost use Rattle.render_core.specs.Outcomes.{IsShown, has_ended, is_shown, is_skipped};
-ghost use Rattle.render_core.specs.Rendered.{IsRendered, seen_by};
 ghost use Rattle.render_core.specs.Seen.{frame_seen};
 ghost use Rattle.render_core.specs.Shown.{StoresAfter, HeldAfter, TallyAfter, FaultIf};
 
@@ -15,13 +21,16 @@ use crate::lists::Lists;
 use crate::outcomes::Outcomes;
 use crate::output::put_all;
 use crate::picture::PictureText;
-use crate::views::draw_views;
+use crate::views::{draw_views, parts_of};
 use frame_record::{Frame, Outcome, RenderedFrame};
-use int_raster::Rasterizer;
+use frame_tracing::{Made, Trace, trace_parts};
+use int_raster::{Rasterizer, Surface};
 use io_edge::Sink;
+use pixel_ops::Pixel;
 use render_stores::{RenderStores, execute_all};
 use std::alloc::{AllocError, Global};
 use store_laws::{frame_law, start_law};
+use trace_laws::laws::indexed_law;
 use view_drawing::DrawingRoom;
 
 /// What frames are drawn on, and the rooms that are kept from frame to frame.
@@ -40,6 +49,7 @@ pub struct Renderer<P> {
     canvas: Canvas,
     outcomes: Outcomes,
     sink: P,
+    ghost sides: { has_ended outcomes ≡ false → (canvas.text.width ≡ canvas.stores.back.color.width) × (canvas.text.height ≡ canvas.stores.back.color.height) },
 }
 
 impl Canvas {
@@ -48,7 +58,8 @@ impl Canvas {
         requires high { 1 ≤ height }
         requires narrow { width ≤ 2048 }
         requires low { height ≤ 2048 }
-        ensures { IfOk result (λ c. stores_seen c.stores ≡ first_stores (first_world width height).back) }
+        ensures stores { IfOk result (λ c. stores_seen c.stores ≡ first_stores (first_world width height).back) }
+        ensures fits { IfOk result (λ c. FitsText c) }
     {
         let stores = RenderStores::new(alloc, width, height)?;
         let text = PictureText::new(alloc, width, height)?;
@@ -63,7 +74,9 @@ impl Canvas {
 
     /// Executes a frame's first commands, draws its views, and executes its last commands.
     fn step<D: Rasterizer>(&mut self, rasterizer: &mut D, frame: &Frame) -> Result<(), AllocError>
-        ensures { OnOk result (stores_seen self.new.stores ≡ frame_by_index (stores_seen self.old.stores) (frame_seen frame.now)) }
+        ensures stores { OnOk result (stores_seen self.new.stores ≡ frame_by_index (stores_seen self.old.stores) (frame_seen frame.now)) }
+        ensures needs { OnErr result (NeedsMemory frame.now) }
+        ensures text { self.new.text ≡ self.old.text }
     {
         execute_all(self.alloc, &mut self.stores, &frame.payloads, &frame.pre)?;
         draw_views(
@@ -78,13 +91,45 @@ impl Canvas {
         Ok(())
     }
 
+    /// Executes a frame's first commands, and does its deeds one after another; answers what each does to a pixel of the back buffer.
+    fn trace<D: Rasterizer>(
+        &mut self,
+        rasterizer: &mut D,
+        frame: &Frame,
+        x: u16,
+        y: u16,
+    ) -> Result<Vec<Made>, AllocError>
+        requires { x < 65535 }
+        ensures { let f = frame_seen frame.now in
+            IfOk result (λ made. map made_seen made.items ≡ history_in x y 0 (begun_in (stores_seen self.old.stores) f) (deeds_in f)) }
+    {
+        execute_all(self.alloc, &mut self.stores, &frame.payloads, &frame.pre)?;
+        self.lists.fill(frame)?;
+        let parts = parts_of(self.alloc, frame, &self.lists)?;
+        let mut trace = Trace::new(self.alloc);
+        trace_parts(
+            self.alloc,
+            rasterizer,
+            &mut self.stores,
+            &parts,
+            x,
+            y,
+            &mut trace,
+            &mut self.room,
+        )?;
+        Ok(trace.made)
+    }
+
     /// Draws a frame, and writes the text of its picture.
     fn draw<D: Rasterizer>(&mut self, rasterizer: &mut D, frame: &Frame) -> Result<(), AllocError>
+        requires { FitsText self.old }
+        ensures needs { OnErr result (NeedsMemory frame.now) }
+        ensures fits { OnOk result (FitsText self.new) }
         ensures stores { OnOk result (stores_seen self.new.stores ≡ frame_by_index (stores_seen self.old.stores) (frame_seen frame.now)) }
         ensures text { OnOk result (self.new.text.text.items ≡ picture_text (stores_seen self.new.stores).back.color) }
     {
         self.step(rasterizer, frame)?;
-        self.text.write(&self.stores.back.color)?;
+        self.text.write(&self.stores.back.color);
         Ok(())
     }
 
@@ -95,6 +140,9 @@ impl Canvas {
         sink: &mut P,
         frame: &Frame,
     ) -> Outcome
+        requires { FitsText self.old }
+        ensures needs { result ≡ endings.OutOfMemory → NeedsMemory frame.now }
+        ensures fits { FitsAfter result self.new }
         ensures stores { StoresAfter result (stores_seen self.old.stores) (frame_seen frame.now) (stores_seen self.new.stores) }
         ensures held { HeldAfter result (picture_text (stores_seen self.new.stores).back.color) (P.held sink.old) (P.held sink.new) }
         ensures tally { TallyAfter result (picture_text (stores_seen self.new.stores).back.color) (P.tally sink.old) (P.tally sink.new) }
@@ -113,7 +161,50 @@ impl Canvas {
     }
 }
 
+/// The pixel of a surface at a column and a row that it has.
+fn pixel_of(surface: &Surface, x: u16, y: u16) -> Pixel
+    requires column { x < surface.now.color.width }
+    requires row { y < surface.now.color.height }
+    ensures { pixel_seen result ≡ pixel_at (surface_seen surface.now) x y }
+{
+    let place = y as usize * surface.color.width as usize + x as usize;
+    Pixel {
+        color: surface.color.texels.as_slice()[place],
+        depth: match &surface.depth {
+            None => None,
+            Some(depth) => Some(u32::from_le_bytes(depth.texels.as_slice()[place])),
+        },
+    }
+}
+
+/// Draws a frame and puts its picture, unless an earlier one was not shown.
+fn show_unless<D: Rasterizer, P: Sink>(
+    has_ended: bool,
+    canvas: &mut Canvas,
+    rasterizer: &mut D,
+    sink: &mut P,
+    frame: &Frame,
+) -> Outcome
+    requires { has_ended ≡ false → FitsText canvas.old }
+    ensures skipped { is_skipped result ≡ has_ended }
+    ensures needs { result ≡ endings.OutOfMemory → NeedsMemory frame.now }
+    ensures fits { has_ended ≡ false → FitsAfter result canvas.new }
+    ensures stores { StoresAfter result (stores_seen canvas.old.stores) (frame_seen frame.now) (stores_seen canvas.new.stores) }
+    ensures held { HeldAfter result (picture_text (stores_seen canvas.new.stores).back.color) (P.held sink.old) (P.held sink.new) }
+    ensures tally { TallyAfter result (picture_text (stores_seen canvas.new.stores).back.color) (P.tally sink.old) (P.tally sink.new) }
+    ensures faults { FaultIf result (P.faults sink.old) (P.faults sink.new) }
+    ensures no_fewer { P.faults sink.old ≤ P.faults sink.new }
+    ensures sure { P.sure sink.new ≡ P.sure sink.old }
+{
+    if has_ended {
+        return Outcome::Skipped;
+    }
+    canvas.show(rasterizer, sink, frame)
+}
+
 impl<P: Sink> Renderer<P> {
+    ghost use Rattle.render_core.specs.Rendered.{IsRendered, seen_by};
+
     /// A renderer without things, with a back buffer of zeros. The sides are 1 to 2,048. For want of memory the sink comes back.
     pub fn new(alloc: Global, width: u16, height: u16, sink: P) -> Result<Renderer<P>, P>
         requires wide { 1 ≤ width }
@@ -142,29 +233,13 @@ impl<P: Sink> Renderer<P> {
         }
     }
 
-    /// Draws a frame and puts its picture, where every earlier one was shown.
-    fn outcome_of<D: Rasterizer>(&mut self, rasterizer: &mut D, frame: &Frame) -> Outcome
-        ensures skipped { is_skipped result ≡ has_ended self.old.outcomes }
-        ensures stores { StoresAfter result (stores_seen self.old.canvas.stores) (frame_seen frame.now) (stores_seen self.new.canvas.stores) }
-        ensures held { HeldAfter result (picture_text (stores_seen self.new.canvas.stores).back.color) (P.held self.old.sink) (P.held self.new.sink) }
-        ensures tally { TallyAfter result (picture_text (stores_seen self.new.canvas.stores).back.color) (P.tally self.old.sink) (P.tally self.new.sink) }
-        ensures faults { FaultIf result (P.faults self.old.sink) (P.faults self.new.sink) }
-        ensures no_fewer { P.faults self.old.sink ≤ P.faults self.new.sink }
-        ensures sure { P.sure self.new.sink ≡ P.sure self.old.sink }
-        ensures outcomes { self.new.outcomes ≡ self.old.outcomes }
-    {
-        if self.outcomes.has_ended() {
-            return Outcome::Skipped;
-        }
-        self.canvas.show(rasterizer, &mut self.sink, frame)
-    }
-
     /// Renders a frame: executes its first commands, draws its views by the rasterizer, executes its last commands, and puts its picture's
     /// text. The frame comes back as it was given, with the outcome.
     ///
     /// A frame is skipped exactly where an earlier one of this renderer was not shown; then nothing changes. After a fault of the picture, for
-    /// which the sink's count of faults rose in this call, a front of the text was put; for want of memory nothing was put. Commands and items
-    /// that name what is not there, or that a store or the views cannot take, are passed over.
+    /// which the sink's count of faults rose in this call, a front of the text was put; for want of memory nothing was put. Memory is taken
+    /// only by a frame that has an item or a command that takes some. Commands and items that name what is not there, or that a store or the
+    /// views cannot take, are passed over.
     pub fn render<D: Rasterizer>(&mut self, rasterizer: &mut D, frame: Frame) -> RenderedFrame
         ensures frame { result.frame ≡ frame }
         ensures rendered { IsRendered (seen_by P.held P.tally P.faults P.sure self.old) result (seen_by P.held P.tally P.faults P.sure self.new) }
@@ -177,9 +252,51 @@ impl<P: Sink> Renderer<P> {
             → IsShown result.outcome → P.held self.new.sink ≡ with_back (P.held self.old.sink) (picture_text (frame_step w content).back.color) }
     {
         frame_law();
-        let outcome = self.outcome_of(rasterizer, &frame);
+        let has_ended = self.outcomes.has_ended();
+        let outcome = show_unless(
+            has_ended,
+            &mut self.canvas,
+            rasterizer,
+            &mut self.sink,
+            &frame,
+        );
         self.outcomes.add(outcome);
         RenderedFrame { frame, outcome }
+    }
+
+    /// The pixel of the back buffer at a column and a row; none where it has no such column or row.
+    pub fn pixel(&self, x: u16, y: u16) -> Option<Pixel>
+        ensures { let back = (stores_seen self.now.canvas.stores).back in
+            MatchOption result ((back.color.width ≤ x) ⊎ (back.color.height ≤ y)) (λ p. pixel_seen p ≡ pixel_at back x y) }
+    {
+        let back = &self.canvas.stores.back;
+        if x >= back.color.width || y >= back.color.height {
+            return None;
+        }
+        Some(pixel_of(back, x, y))
+    }
+
+    /// Traces a frame: what each of its deeds does to a pixel of the back buffer, in their order. Its last commands are not executed and its
+    /// picture is not put, so the renderer has ended: it renders no frame after it. `Err` only for want of memory, or where a frame has 4,294,967,295
+    /// deeds or a draw so many triangles.
+    pub fn trace<D: Rasterizer>(
+        &mut self,
+        rasterizer: &mut D,
+        frame: &Frame,
+        x: u16,
+        y: u16,
+    ) -> Result<Vec<Made>, AllocError>
+        requires { x < 65535 }
+        ensures seen { let f = frame_seen frame.now in
+            IfOk result (λ made. map made_seen made.items ≡ history_in x y 0 (begun_in (stores_seen self.old.canvas.stores) f) (deeds_in f)) }
+        // From a world.
+        ensures history { (place : ℕ → ℕ) (w : World) (content : FrameContent) (gone : List ℕ)
+            → StandsFor place (stores_seen self.old.canvas.stores) (left content.gone w) → Says place w (frame_seen frame.now) content gone
+            → IfOk result (λ made. map made_seen made.items ≡ pixel_history w content x y) }
+    {
+        indexed_law();
+        self.outcomes.close();
+        self.canvas.trace(rasterizer, frame, x, y)
     }
 
     /// The sink.

@@ -1,9 +1,11 @@
 // Draws a frame's views in their order.
-ghost use Rattle.std.specs.Prelude.{◌≡◌, ◌<◌, ◌+◌, [], ◌∷◌, fold, filter, map, IfOk, OnOk};
+ghost use Rattle.std.specs.Prelude.{◌≡◌, ◌≢◌, ◌<◌, ◌+◌, [], ◌∷◌, ◌++◌, fold, filter, flat_map, map, IfOk, OnOk, OnErr};
 ghost use Rattle.std.specs.List.{list_any, AllByRecursion};
 ghost use Rattle.gfx_model.specs.Views.{view_count, position_of_view};
 ghost use Rattle.gfx_model.specs.World.{is_of_view};
 ghost use Rattle.store_laws.specs.ByIndex.{enter_by_index, entered_by_index};
+ghost use Rattle.trace_laws.specs.ByIndex.{deeds_in, deeds_in_view};
+ghost use Rattle.frame_tracing.specs.Tracing.{deeds_of_parts};
 ghost use Rattle.frame_record.specs.Ordered.{position_of};
 ghost use Rattle.render_stores.specs.Seen.{stores_seen};
 ghost use Rattle.view_drawing.specs.Passes.{part_seen, IsPlain};
@@ -32,6 +34,8 @@ fn put_where<'a>(
     ensures entered { let f = frame_seen frame.now in
         OnOk result (EntersMore f.views f.items f.ordered (map part_seen parts.old.items) (filter (λ v. list_any (is_of_view v) f.items) (view ∷ [])) (map part_seen parts.new.items)) }
     ensures plain { OnOk result (AllByRecursion IsPlain (map part_seen parts.old.items) → AllByRecursion IsPlain (map part_seen parts.new.items)) }
+    ensures deeds { let f = frame_seen frame.now in
+        OnOk result (deeds_of_parts (map part_seen parts.new.items) ≡ deeds_of_parts (map part_seen parts.old.items) ++ flat_map (deeds_in_view f.views f.items f.ordered) (filter (λ v. list_any (is_of_view v) f.items) (view ∷ []))) }
 {
     match frame.views.get(view) {
         Some(settings) => {
@@ -88,7 +92,7 @@ fn next_part<'a>(
 }
 
 /// The views that have an item, in the order of the views, with their parts of the frame's lists.
-fn parts_of<'a>(
+pub(crate) fn parts_of<'a>(
     alloc: Global,
     frame: &'a Frame,
     lists: &'a Lists,
@@ -96,6 +100,7 @@ fn parts_of<'a>(
     requires { AreListed frame.now lists.now }
     ensures entered { let f = frame_seen frame.now in IfOk result (λ parts. EntersMore f.views f.items f.ordered [] (entered_by_index f) (map part_seen parts.items)) }
     ensures plain { IfOk result (λ parts. AllByRecursion IsPlain (map part_seen parts.items)) }
+    ensures deeds { IfOk result (λ parts. deeds_of_parts (map part_seen parts.items) ≡ deeds_in (frame_seen frame.now)) }
 {
     frame.views.tell_facts();
     let mut parts = Vec::new(alloc);
@@ -118,7 +123,8 @@ fn parts_of<'a>(
     Ok(parts)
 }
 
-/// Draws each view that has an item, in the order of the views. It fills the lists with those of the frame.
+/// Draws each view that has an item, in the order of the views. It fills the lists with those of the frame, where it has an item, and
+/// takes memory only then.
 pub(crate) fn draw_views<D: Rasterizer>(
     alloc: Global,
     rasterizer: &mut D,
@@ -127,8 +133,12 @@ pub(crate) fn draw_views<D: Rasterizer>(
     lists: &mut Lists,
     room: &mut DrawingRoom,
 ) -> Result<(), AllocError>
-    ensures { let f = frame_seen frame.now in OnOk result (stores_seen stores.new ≡ fold (enter_by_index f.views f.items f.ordered) (stores_seen stores.old) (entered_by_index f)) }
+    ensures entered { let f = frame_seen frame.now in OnOk result (stores_seen stores.new ≡ fold (enter_by_index f.views f.items f.ordered) (stores_seen stores.old) (entered_by_index f)) }
+    ensures needs { OnErr result (frame.now.journal.items ≢ []) }
 {
+    if frame.journal.is_empty() {
+        return Ok(());
+    }
     lists.fill(frame)?;
     let parts = parts_of(alloc, frame, lists)?;
     enter_views(rasterizer, stores, &parts, room)

@@ -182,6 +182,7 @@ impl TextureStore {
         ensures taken { option_map target_seen result ≡ target_texels self.old index }
         ensures left { self.new ≡ target_out index self.old }
         ensures sides { IfSome result (λ p. IfSome p.1 (λ depth. (depth.width ≡ p.0.width) × (depth.height ≡ p.0.height))) }
+        ensures there { IsSome result → IsSome (at self.new.targets index) }
         ensures back { IfSome result (λ p. IsOutAt self.new index (sides_seen p.0) (option_map sides_seen p.1)) }
     {
         match self.attached(index) {
@@ -206,10 +207,11 @@ impl TextureStore {
         }
     }
 
-    /// Puts texels back into a frame buffer's textures, which are taken out. `depth` is given exactly where the frame
-    /// buffer has a depth texture, and the sizes are those of the texels that were taken.
+    /// Puts texels back into the textures of a frame buffer that is there, which are taken out. `depth` is given exactly
+    /// where the frame buffer has a depth texture, and the sizes are those of the texels that were taken.
     pub fn put_target(&mut self, index: u16, color: Texels, depth: Option<Texels>)
-        requires { IsOutAt self.old index (sides_seen color) (option_map sides_seen depth) }
+        requires there { IsSome (at self.old.targets index) }
+        requires out { IsOutAt self.old index (sides_seen color) (option_map sides_seen depth) }
         ensures { self.new ≡ target_back index (texels_seen color) (option_map texels_seen depth) self.old }
     {
         if let Some(target) = self.targets.get(index) {

@@ -15,3 +15,4 @@ pub mod Widened
 pub mod Walks
 pub mod Ends
 pub mod Rowed
+pub mod Stills

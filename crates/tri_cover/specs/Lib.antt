@@ -1,5 +1,6 @@
 pub mod Seen
 pub mod Columns
+pub mod Placed
 pub mod Shown
 pub mod Slope
 pub mod Stepped

@@ -17,7 +17,7 @@ mod triangles;
 mod wide;
 
 pub use corners::{Fragment, ScreenVertex};
-pub use placing::place;
+pub use placing::{place, place_still};
 pub use ramps::{Ramp, WideRamp};
 pub use sides::Sides;
 pub use stepping::{Quotient, advanced};

@@ -5,6 +5,7 @@ ghost use Rattle.gfx_model.specs.Raster as raster;
 ghost use Rattle.fix_math.specs.Seen.{affine_seen, point_seen, rect_seen};
 ghost use Rattle.vertex_layout.specs.Seen.{vertex_seen};
 ghost use Rattle.tri_cover.specs.Seen.{screen_seen, IsInGuardRange};
+ghost use Rattle.tri_cover.specs.Placed.{point_of, placed_at};
 
 use crate::corners::ScreenVertex;
 use fix_math::{Affine, Point, Rect};
@@ -78,15 +79,37 @@ fn on_screen(vertex: &Vertex, p: &Point, rect: Rect) -> ScreenVertex
     }
 }
 
+/// A vertex that transforms brought to a point, on a rectangle of the target.
+fn placed(vertex: &Vertex, p: &Point, rect: Rect) -> Option<ScreenVertex>
+    ensures { option_map screen_seen result ≡ placed_at (vertex_seen vertex.now) (point_seen p.now) (rect_seen rect) }
+{
+    if is_in_guard_range(p) {
+        Some(on_screen(vertex, p, rect))
+    } else {
+        None
+    }
+}
+
 /// A vertex on the rectangle of a view, by the model transform first and the view's next. `None` exactly where the
 /// transformed point leaves the guard range: x and y from -524288 to 524288, z from 0 to 65536.
 pub fn place(vertex: &Vertex, model: &Affine, view: &Affine, rect: Rect) -> Option<ScreenVertex>
     ensures { option_map screen_seen result ≡ raster.place (affine_seen model.now) (affine_seen view.now) (rect_seen rect) (vertex_seen vertex.now) }
 {
     let p = view.apply(model.apply(vertex.position));
-    if is_in_guard_range(&p) {
-        Some(on_screen(vertex, &p, rect))
-    } else {
-        None
-    }
+    placed(vertex, &p, rect)
+}
+
+/// Does nothing. It tells that the transform that moves no point leaves this one where it is.
+fn tell_still(x: i32, y: i32, z: i32)
+    ensures { raster.apply raster.identity (point_of x y z) ≡ point_of x y z }
+{}
+
+/// A vertex on the rectangle of a view, where neither the model transform nor the view's moves it. `None` exactly where it
+/// lies outside the guard range. It is `place` without the sums of the two transforms, which are most of its work.
+pub fn place_still(vertex: &Vertex, rect: Rect) -> Option<ScreenVertex>
+    ensures { option_map screen_seen result ≡ raster.place raster.identity raster.identity (rect_seen rect) (vertex_seen vertex.now) }
+{
+    let p = vertex.position;
+    tell_still(p.x, p.y, p.z);
+    placed(vertex, &p, rect)
 }

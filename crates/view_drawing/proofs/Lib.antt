@@ -1,6 +1,7 @@
 mod Blocks
 mod Clears
 mod CutLaws
+mod PreparedLaws
 mod DrawnLaws
 mod Entries
 mod Facings
@@ -10,6 +11,6 @@ mod Fronts
 mod Parts
 mod PassLaws
 mod Places
-mod Stills
 mod TargetLaws
 mod Needs
+mod Copies

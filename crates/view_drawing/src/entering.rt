@@ -22,7 +22,7 @@ use store_laws::list_law;
 use view_table::View;
 
 /// Does the draws and touches of a view in order; their target is taken out once.
-fn draw_items<D: Rasterizer>(
+pub(crate) fn draw_items<D: Rasterizer>(
     rasterizer: &mut D,
     stores: &mut RenderStores,
     part: &ViewPart<'_>,

@@ -4,6 +4,7 @@
 mod apart;
 mod blits;
 mod clearing;
+mod deeds;
 mod drawing;
 mod entering;
 mod items;
@@ -13,12 +14,12 @@ mod preparing;
 mod ranges;
 mod room;
 mod shapes;
-mod still;
 mod targets;
 mod turns;
 mod uniforms;
 mod view_parts;
 
+pub use deeds::{clear_view, copy_blits, do_draws, prepare_item};
 pub use entering::enter_view;
 pub use passes::enter_views;
 pub use room::DrawingRoom;

@@ -1,5 +1,5 @@
 // Makes draws ready for the rasteriser.
-ghost use Rattle.std.specs.Prelude.{◌≡◌, ◌≢◌, List, Some, None, map, option_map, OnOk, OnErr};
+ghost use Rattle.std.specs.Prelude.{◌≡◌, ◌≢◌, List, Some, None, map, option_map, IfOk, OnOk, OnErr};
 ghost use Rattle.gfx_model.specs.Vertex.{triangles_of as triangles_of_vertices};
 ghost use Rattle.gfx_model.specs.World.{draw_vertices};
 ghost use Rattle.gfx_model.specs.Words.{cull_of, primitive_of};
@@ -13,7 +13,7 @@ ghost use Rattle.store_laws.specs.Listed.{painted_in};
 ghost use Rattle.draw_encoder.specs.declared.items.UniformSet.{UniformSet};
 ghost use Rattle.draw_encoder.specs.Seen.{draw_seen, vertices_seen, indices_seen};
 ghost use Rattle.view_drawing.specs.Shapes.{placed_by, kept_of, IsFrontOf};
-ghost use Rattle.view_drawing.specs.Prepared.{AddsTo};
+ghost use Rattle.view_drawing.specs.Prepared.{AddsTo, IsPreparedDraw};
 
 use crate::paints::paint_of;
 use crate::ranges::{indices_of, vertices_of};
@@ -81,6 +81,34 @@ fn shape_draw(
     Ok(())
 }
 
+/// How the triangles of a draw with a paint are drawn. They stand in the room.
+pub(crate) fn prepare<'x>(
+    stage: &Stage<'x>,
+    buffers: &BufferStore,
+    recorded: &[u8],
+    draw: &DrawItem,
+    paint: Paint<'x>,
+    room: &mut DrawingRoom,
+) -> Result<Prepared<'x>, AllocError>
+    ensures { IfOk result (λ p. (sets : List UniformSet) → IsPreparedDraw stage.now.width stage.now.height (view_seen stage.now.view.now) (draw_seen recorded.now sets draw.now) buffers.now (paint_seen paint.entry) p room.new.triangles.items) }
+{
+    let rect = view_rect(stage.view.rect, stage.width, stage.height);
+    let placement = Placement {
+        model: draw.model,
+        view: stage.view.transform,
+        rect,
+    };
+    shape_draw(room, buffers, recorded, draw, &placement)?;
+    let cut = draw_cut(rect, stage.view.scissor, draw.scissor);
+    Ok(Prepared {
+        cut,
+        state: draw.state,
+        front: draw.front,
+        back: draw.back,
+        paint,
+    })
+}
+
 /// Puts a draw with a paint into the list.
 fn add_painted<'x>(
     stage: &Stage<'x>,
@@ -93,23 +121,13 @@ fn add_painted<'x>(
 ) -> Result<(), AllocError>
     ensures { OnOk result ((sets : List UniformSet) → AddsTo stage.now.width stage.now.height (painted_in (view_seen stage.now.view.now) (draw_seen recorded.now sets draw.now) buffers.now (Some (paint_seen paint.entry))) list.old list.new) }
 {
-    let rect = view_rect(stage.view.rect, stage.width, stage.height);
-    let placement = Placement {
-        model: draw.model,
-        view: stage.view.transform,
-        rect,
-    };
-    shape_draw(room, buffers, recorded, draw, &placement)?;
-    let cut = draw_cut(rect, stage.view.scissor, draw.scissor);
-    let prepared = Prepared {
-        cut,
-        state: draw.state,
-        front: draw.front,
-        back: draw.back,
-        paint,
-    };
-    list.push(prepared, &room.triangles)?;
-    Ok(())
+    match prepare(stage, buffers, recorded, draw, paint, room) {
+        Ok(prepared) => {
+            list.push(prepared, &room.triangles)?;
+            Ok(())
+        }
+        Err(fault) => Err(fault),
+    }
 }
 
 /// Puts a draw into the list, where its program is there, which alone takes memory.

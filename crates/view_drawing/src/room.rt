@@ -1,4 +1,6 @@
 // Room that is kept.
+ghost use Rattle.std.specs.Prelude.{◌≡◌};
+
 use int_raster::DrawRoom;
 use std::alloc::Global;
 use std::mem::replace;
@@ -23,6 +25,13 @@ impl DrawingRoom {
             triangles: Vec::new(alloc),
             list: DrawRoom::new(alloc),
         }
+    }
+
+    /// The triangles of the draw that was prepared last.
+    pub fn triangles(&self) -> &[Setup]
+        ensures { result.now ≡ self.now.triangles.items }
+    {
+        self.triangles.as_slice()
     }
 
     /// Takes out the room for a view's triangles.

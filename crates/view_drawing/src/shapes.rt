@@ -12,10 +12,9 @@ ghost use Rattle.view_drawing.specs.Shapes.{placed_by, kept, kept_of, turned, Is
 ghost use Rattle.view_drawing.specs.Still.{IsStill};
 
 use crate::ranges::{IndexRange, VertexRange, index_in, vertex_by, vertex_of};
-use crate::still::place_still;
 use fix_math::{Affine, Rect};
 use std::alloc::AllocError;
-use tri_cover::{ScreenVertex, Setup, place};
+use tri_cover::{ScreenVertex, Setup, place, place_still};
 use vertex_layout::Vertex;
 
 /// How the vertices of a draw come to the target: by its transform, its view's transform and the view's rectangle.

@@ -1,4 +1,7 @@
-use Rattle.std.proofs.Common.{[], map, take, filter}
+use Rattle.std.specs.Prelude.{flat_map}
+use Rattle.trace_laws.specs.ByIndex.{deeds_in_view}
+use Rattle.frame_tracing.specs.Tracing.{deeds_of_parts}
+use Rattle.std.proofs.Common.{◌≡◌, [], map, take, filter}
 use Rattle.std.specs.List.{list_any, AllByRecursion}
 use Rattle.gfx_model.specs.World.{is_of_view}
 use Rattle.frame_record.specs.Ordered.{position_of}
@@ -14,5 +17,6 @@ invariant-loop-position l =
       draws : RunsFrom position_of l.drawn l.position l.lists.ordered.items;
       blits : RunsFrom (λ p. p.position) l.copied l.position l.lists.blits.items;
       entered : EntersMore f.views f.items f.ordered [] (filter (λ v. list_any (is_of_view v) f.items) (take l.position f.sequence)) (map part_seen l.parts.items);
+      deeds : deeds_of_parts (map part_seen l.parts.items) ≡ flat_map (deeds_in_view f.views f.items f.ordered) (filter (λ v. list_any (is_of_view v) f.items) (take l.position f.sequence));
       plain : AllByRecursion IsPlain (map part_seen l.parts.items);
     }

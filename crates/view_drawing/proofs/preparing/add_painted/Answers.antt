@@ -1,40 +1,20 @@
-use Rattle.std.proofs.Common.{map, ap, ◌∙◌}
-use Rattle.std.specs.Prelude.{◌&&◌, fold, option_and_then}
-use Rattle.gfx_model.specs.Words.{cull_of, primitive_of}
-use Rattle.gfx_model.specs.Vertex.{triangles_of}
-use Rattle.gfx_model.specs.Raster.{contains, passes_scissor, view_rect, place}
-use Rattle.gfx_model.specs.World.{draw_vertices}
-use Rattle.fix_math.specs.Seen.{rect_seen}
+use Rattle.std.proofs.Common.{map, ◌∙◌}
+use Rattle.std.specs.Prelude.{fold}
 use Rattle.tri_cover.specs.Shown.{setup_seen}
-use Rattle.int_raster.specs.Drawing.{facing_shown, drawn_prepared}
-use Rattle.int_raster.specs.Seen.{paint_seen}
+use Rattle.int_raster.specs.Drawing.{drawn_prepared}
+use Rattle.int_raster.specs.Seen.{paint_seen, prepared_seen}
 use Rattle.view_table.specs.Seen.{view_seen}
 use Rattle.draw_encoder.specs.Seen.{draw_seen}
-use Rattle.store_laws.specs.ByIndex.{vertices_at, indices_at}
-use Rattle.view_drawing.specs.Shapes.{kept_of}
-use Rattle.view_drawing.proofs.Facings.{facings_kept}
-use Rattle.view_drawing.proofs.CutLaws.{prepared_drawn, list_width, list_height, draw_added}
+use Rattle.view_drawing.proofs.CutLaws.{list_width, list_height, draw_added}
+use Rattle.view_drawing.proofs.PreparedLaws.{prepared_does}
 use Rattle.view_drawing.proofs.preparing.add_painted.Goals as goal
 
-pub returns : goal.returns
-returns c sets s ew eh =
+pub returns-in_ok-push-in-Ok : goal.returns-in_ok-push-in-Ok
+returns-in_ok-push-in-Ok c sets s ew eh =
     let view = view_seen c.args.stage.now.view.now in
-    let width = c.args.stage.now.width in
-    let height = c.args.stage.now.height in
     let d = draw_seen c.args.recorded.now sets c.args.draw.now in
     let old = c.args.list.now in
-    let new = c.push.new.self in
-    let vertices = vertices_at c.args.buffers.now d.vertices in
-    let indices = indices_at c.args.buffers.now d.indices in
-    let vs = draw_vertices vertices indices in
-    let rect = view_rect view.rect width height in
-    let cut = rect_seen c.draw_cut-cut.result in
-    let triangles = map setup_seen c.shape_draw.new.room.triangles.items in
-    let facings = map (facing_shown d.front d.back) triangles in
-    let paint = paint_seen c.args.paint in
-    prepared_drawn view cut d vertices indices paint facings width height (fold drawn_prepared s old) (list_width s old ∙ ew) (list_height s old ∙ eh)
-    (λ x y. c.draw_cut-cut.ensures.pixels x y ∙ (λ i. contains (c.view_rect-rect.ensures i) x y && passes_scissor view.scissor x y && passes_scissor d.scissor x y))
-    (ap (map (facing_shown d.front d.back)) c.in_ok-shape_draw.ensures
-    ∙ (λ i. map (facing_shown d.front d.back) (kept_of (cull_of d.state) (triangles_of (primitive_of d.state) (map (option_and_then (place d.model view.transform (c.view_rect-rect.ensures i))) vs))))
-    ∙ facings_kept view rect d vs)
-    ∙ draw_added s old new (record { cut = cut; state = d.state; paint = paint; facings = facings }) (rw c.deref.ensures.value at c.in_ok-push.ensures.ok)
+    let triangles = c.prepare.new.room.triangles.items in
+    let p = c.in-Ok.prepared in
+    prepared_does c.args.stage.now.width c.args.stage.now.height view d c.args.buffers.now (paint_seen c.args.paint) p triangles (fold drawn_prepared s old) (list_width s old ∙ ew) (list_height s old ∙ eh) (c.in-Ok.ensures sets)
+    ∙ draw_added s old c.push.new.self (prepared_seen p (map setup_seen triangles)) (rw c.deref.ensures.value at c.in_ok-push-in-Ok.ensures.ok)

@@ -5,9 +5,9 @@ use Rattle.render_core.proofs.renderer.Renderer.render.Goals as goal
 
 pub returns-clause-stands : goal.returns-clause-stands
 returns-clause-stands g c =
-    stands_after c.frame_law.ensures c.outcome_of-outcome.result (stores_seen c.args.self.now.canvas.stores) (stores_seen c.outcome_of-outcome.new.self.canvas.stores) (frame_seen c.args.frame) c.outcome_of-outcome.ensures.stores
+    stands_after c.frame_law.ensures c.show_unless-outcome.result (stores_seen c.args.self.now.canvas.stores) (stores_seen c.show_unless-outcome.new.canvas.stores) (frame_seen c.args.frame) c.show_unless-outcome.ensures.stores
 
 pub returns-clause-picture : goal.returns-clause-picture
 returns-clause-picture g c =
-    picture_after c.frame_law.ensures c.outcome_of-outcome.result (stores_seen c.args.self.now.canvas.stores) (stores_seen c.outcome_of-outcome.new.self.canvas.stores) (frame_seen c.args.frame) _ _
-    c.outcome_of-outcome.ensures.stores c.outcome_of-outcome.ensures.held
+    picture_after c.frame_law.ensures c.show_unless-outcome.result (stores_seen c.args.self.now.canvas.stores) (stores_seen c.show_unless-outcome.new.canvas.stores) (frame_seen c.args.frame) _ _
+    c.show_unless-outcome.ensures.stores c.show_unless-outcome.ensures.held

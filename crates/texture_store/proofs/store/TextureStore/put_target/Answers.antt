@@ -13,7 +13,7 @@ invariant_of-self c =
     let t : TargetSlot = record { color = c.color.result; depth = c.depth.result } in
     let there : Some t ≡ at c.self.inside.targets c.args.index = (λ i. Some (record { color = c.color.ensures i; depth = c.depth.ensures i })) ∙ c.in-Some.ensures in
     let out : IsOut c.self.inside.textures t (sides_seen c.args.color) (option_map sides_seen c.args.depth) =
-    put_out c.args.self.now c.self.inside.textures c.self.inside.targets c.args.index t (sides_seen c.args.color) (option_map sides_seen c.args.depth) c.self.view_is there c.requires in
+    put_out c.args.self.now c.self.inside.textures c.self.inside.targets c.args.index t (sides_seen c.args.color) (option_map sides_seen c.args.depth) c.self.view_is there c.requires.out in
     let stays = stays_equal c.self.inside.textures _ c.put_attached.new.textures
     (stays_back t (texels_seen c.args.color) (option_map texels_seen c.args.depth) c.self.inside.textures (c.self.invariant.attached c.args.index t (sym there)) (sides_again c.self.inside.textures t (sides_seen c.args.color) c.args.depth out))
     c.put_attached.ensures in record {
