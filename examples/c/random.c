@@ -3,7 +3,7 @@
  * The program writes how often each status came. Among 100,000 calls or more each of the 40 is done at least once, or the program fails.
  *
  * usage: random [SEED [CALLS]] */
-#include "gfx.h"
+#include "vgfx.h"
 
 #include <inttypes.h>
 #include <stdio.h>
@@ -28,32 +28,32 @@ static uint32_t below(uint32_t n) {
     return (uint32_t)(next() % n);
 }
 
-static gfx_thing words[KINDS][WORDS];
+static vgfx_id words[KINDS][WORDS];
 
 /* A word that was made for a thing of this kind, mostly; or for one of any kind; or none; or any number. */
-static gfx_thing word(uint32_t kind) {
+static vgfx_id word(uint32_t kind) {
     uint32_t k = below(16);
     if (k == 0) return 0;
     if (k == 1) return next();
     if (k < 4) kind = below(KINDS);
-    gfx_thing made = words[kind][below(WORDS)];
+    vgfx_id made = words[kind][below(WORDS)];
     return k == 4 ? made ^ (UINT64_C(1) << below(64)) : made;
 }
 
 /* A handle whose use is no encoder's or no context's, too. A handle is one pointer, so one may be passed as the other. */
-static gfx_context context;
-static gfx_encoder encoders[ENCODERS];
+static vgfx_context context;
+static vgfx_encoder encoders[ENCODERS];
 
-static gfx_context *some_context(void) {
-    static gfx_context none;
+static vgfx_context *some_context(void) {
+    static vgfx_context none;
     uint32_t k = below(16);
     if (k == 0) return &none;
-    if (k == 1) return (gfx_context *)(void *)&encoders[below(ENCODERS)];
+    if (k == 1) return (vgfx_context *)(void *)&encoders[below(ENCODERS)];
     return &context;
 }
 
-static gfx_encoder *some_encoder(void) {
-    if (below(16) == 0) return (gfx_encoder *)(void *)&context;
+static vgfx_encoder *some_encoder(void) {
+    if (below(16) == 0) return (vgfx_encoder *)(void *)&context;
     return &encoders[below(ENCODERS)];
 }
 
@@ -65,115 +65,115 @@ static void fail(const char *what) {
 static uint8_t bytes[4096];
 static uint8_t picture[PICTURE];
 
-static gfx_status create(uint32_t call, gfx_context *c, gfx_thing *made) {
+static vgfx_status create(uint32_t call, vgfx_context *c, vgfx_id *made) {
     uint32_t n = below(65);
     switch (call) {
         case 0: {
-            gfx_part parts[3];
-            for (int i = 0; i < 3; i++) parts[i] = (gfx_part){(uint8_t)(below(6) ? below(8) : 255), (uint8_t)below(4), (uint8_t)below(5)};
-            return gfx_create_layout(c, parts, below(4), made);
+            vgfx_layout_part parts[3];
+            for (int i = 0; i < 3; i++) parts[i] = (vgfx_layout_part){(uint8_t)(below(6) ? below(8) : 255), (uint8_t)below(4), (uint8_t)below(5)};
+            return vgfx_create_layout(c, parts, below(4), made);
         }
-        case 1: return gfx_create_vertex_buffer(c, word(LAYOUT), bytes, n, made);
-        case 2: return gfx_create_index_buffer(c, bytes, n, made);
+        case 1: return vgfx_create_vertex_buffer(c, word(LAYOUT), bytes, n, made);
+        case 2: return vgfx_create_index_buffer(c, bytes, n, made);
         case 3: {
             uint16_t w = (uint16_t)below(6), h = (uint16_t)below(6);
-            return gfx_create_texture(c, w, h, (uint8_t)below(3), (uint8_t)below(2), bytes, below(8) ? 4u * w * h : n, made);
+            return vgfx_create_texture(c, w, h, (vgfx_format)below(3), (uint8_t)below(2), bytes, below(8) ? 4u * w * h : n, made);
         }
-        case 4: return gfx_create_filled_texture(c, (uint16_t)below(6), (uint16_t)below(6), (uint8_t)below(3), (uint8_t)below(2), 1, 2, 3, 4, made);
-        case 5: return gfx_create_frame_buffer(c, word(TEXTURE), word(TEXTURE), made);
-        case 6: return gfx_create_program(c, (uint8_t)below(5), made);
+        case 4: return vgfx_create_filled_texture(c, (uint16_t)below(6), (uint16_t)below(6), (vgfx_format)below(3), (uint8_t)below(2), 1, 2, 3, 4, made);
+        case 5: return vgfx_create_frame_buffer(c, word(TEXTURE), word(TEXTURE), made);
+        case 6: return vgfx_create_program(c, (vgfx_program)below(5), made);
         default: {
-            uint8_t name = (uint8_t)('a' + below(26));
-            return gfx_create_uniform(c, below(4) ? &name : (const uint8_t *)"u_color", below(4) ? 1 : 7, (uint8_t)below(3), made);
+            char name = (char)('a' + below(26));
+            return vgfx_create_uniform(c, below(4) ? &name : "u_color", below(4) ? 1 : 7, (vgfx_uniform)below(3), made);
         }
     }
 }
 
-static gfx_status any_call(uint32_t call) {
-    gfx_context *c = some_context();
-    gfx_encoder *e = some_encoder();
+static vgfx_status any_call(uint32_t call) {
+    vgfx_context *c = some_context();
+    vgfx_encoder *e = some_encoder();
     uint16_t view = (uint16_t)(below(16) ? below(6) : next());
     uint16_t x = (uint16_t)below(20), y = (uint16_t)below(20), w = (uint16_t)below(20), h = (uint16_t)below(20);
-    gfx_transform transform;
+    vgfx_transform transform;
     for (int i = 0; i < 12; i++) transform.m[i] = (int32_t)next();
     if (call < 8) {
-        gfx_thing old = next(), made = old;
-        gfx_status status = create(call, c, &made);
+        vgfx_id old = next(), made = old;
+        vgfx_status status = create(call, c, &made);
         static const uint8_t kinds[] = {LAYOUT, VERTEX_BUFFER, INDEX_BUFFER, TEXTURE, TEXTURE, FRAME_BUFFER, PROGRAM, UNIFORM};
-        if (status == GFX_DONE) words[kinds[call]][below(WORDS)] = made;
+        if (status == VGFX_OK) words[kinds[call]][below(WORDS)] = made;
         else if (made != old) fail("a refused create wrote a word");
         return status;
     }
     switch (call) {
-        case 8: return gfx_update_buffer(c, word(below(2) ? VERTEX_BUFFER : INDEX_BUFFER), below(70), bytes, below(65));
+        case 8: return vgfx_update_buffer(c, word(below(2) ? VERTEX_BUFFER : INDEX_BUFFER), below(70), bytes, below(65));
         case 9: {
             uint16_t wide = (uint16_t)below(4), high = (uint16_t)below(4);
-            return gfx_update_texture(c, word(TEXTURE), (uint16_t)below(4), (uint16_t)below(4), wide, high, bytes, below(8) ? 4u * wide * high : below(65));
+            return vgfx_update_texture(c, word(TEXTURE), (uint16_t)below(4), (uint16_t)below(4), wide, high, bytes, below(8) ? 4u * wide * high : below(65));
         }
-        case 10: case 11: return gfx_destroy(c, word(below(KINDS)));
-        case 12: return gfx_set_view_rect(c, view, x, y, w, h);
-        case 13: return gfx_set_view_scissor(c, view, x, y, w, h);
-        case 14: return gfx_set_view_clear(c, view, (uint8_t)below(9), 1, 2, 3, 4, (uint32_t)next() >> 7, (uint8_t)next());
-        case 15: return gfx_set_view_mode(c, view, (uint8_t)below(5));
-        case 16: return gfx_set_view_transform(c, view, &transform);
-        case 17: return gfx_set_view_target(c, view, word(FRAME_BUFFER));
-        case 18: { uint16_t ids[3] = {view, (uint16_t)below(6), (uint16_t)below(6)}; return gfx_set_view_order(c, ids, below(4)); }
-        case 19: return gfx_reset_view(c, view);
+        case 10: case 11: return vgfx_destroy(c, word(below(KINDS)));
+        case 12: return vgfx_set_view_rect(c, view, x, y, w, h);
+        case 13: return vgfx_set_view_scissor(c, view, x, y, w, h);
+        case 14: return vgfx_set_view_clear(c, view, (uint8_t)below(9), 1, 2, 3, 4, (uint32_t)next() >> 7, (uint8_t)next());
+        case 15: return vgfx_set_view_mode(c, view, (uint8_t)below(5));
+        case 16: return vgfx_set_view_transform(c, view, &transform);
+        case 17: return vgfx_set_view_target(c, view, word(FRAME_BUFFER));
+        case 18: { uint16_t ids[3] = {view, (uint16_t)below(6), (uint16_t)below(6)}; return vgfx_set_view_order(c, ids, below(4)); }
+        case 19: return vgfx_reset_view(c, view);
         case 20: case 21:
             /* two arguments of one call lie apart */
-            if ((void *)c == (void *)e) return GFX_NO_OBJECT;
-            return gfx_begin(c, e, below(40), below(400), below(20));
-        case 22: return gfx_set_state(e, below(2) ? 15 : next());
-        case 23: return gfx_set_stencil(e, below(2) ? 0 : (uint32_t)next(), 0);
-        case 24: return gfx_set_scissor(e, x, y, w, h);
-        case 25: return gfx_set_transform(e, &transform);
-        case 26: return gfx_set_vertices(e, word(VERTEX_BUFFER), below(4), below(8));
-        case 27: return gfx_set_indices(e, word(INDEX_BUFFER), below(4), below(8));
-        case 28: return gfx_set_transient_vertices(e, word(LAYOUT), bytes, below(65));
-        case 29: return gfx_set_transient_indices(e, bytes, below(65));
-        case 30: return gfx_set_texture(e, (uint8_t)below(3), word(TEXTURE));
-        case 31: return gfx_set_vec4(e, word(UNIFORM), 1, 2, 3, 4);
-        case 32: return gfx_set_int(e, word(UNIFORM), (int32_t)next());
-        case 33: return gfx_submit(e, view, word(PROGRAM), (uint32_t)next(), (uint8_t)next());
-        case 34: return gfx_touch(e, view);
-        case 35: return gfx_blit(e, view, word(TEXTURE), x, y, word(TEXTURE), y, x, w, h);
-        case 36: return gfx_end(e, below(3));
-        case 37: { uint32_t off; return gfx_collect(c, &off); }
-        case 38: { uint32_t number; return gfx_frame_number(c, &number); }
+            if ((void *)c == (void *)e) return VGFX_ERROR_NO_OBJECT;
+            return vgfx_encoder_begin(c, e, below(40), below(400), below(20));
+        case 22: return vgfx_encoder_set_state(e, below(2) ? 15 : next());
+        case 23: return vgfx_encoder_set_stencil(e, below(2) ? 0 : (uint32_t)next(), 0);
+        case 24: return vgfx_encoder_set_scissor(e, x, y, w, h);
+        case 25: return vgfx_encoder_set_transform(e, &transform);
+        case 26: return vgfx_encoder_set_vertices(e, word(VERTEX_BUFFER), below(4), below(8));
+        case 27: return vgfx_encoder_set_indices(e, word(INDEX_BUFFER), below(4), below(8));
+        case 28: return vgfx_encoder_set_transient_vertices(e, word(LAYOUT), bytes, below(65));
+        case 29: return vgfx_encoder_set_transient_indices(e, bytes, below(65));
+        case 30: return vgfx_encoder_set_texture(e, (uint8_t)below(3), word(TEXTURE));
+        case 31: return vgfx_encoder_set_vec4(e, word(UNIFORM), 1, 2, 3, 4);
+        case 32: return vgfx_encoder_set_int(e, word(UNIFORM), (int32_t)next());
+        case 33: return vgfx_encoder_submit(e, view, word(PROGRAM), (uint32_t)next(), (uint8_t)next());
+        case 34: return vgfx_encoder_touch(e, view);
+        case 35: return vgfx_encoder_blit(e, view, word(TEXTURE), x, y, word(TEXTURE), y, x, w, h);
+        case 36: return vgfx_encoder_end(e, below(3));
+        case 37: { uint32_t off; return vgfx_collect(c, &off); }
+        case 38: { uint32_t number; return vgfx_frame_number(c, &number); }
         default: {
             /* most frames end their encoders first */
-            if (below(4)) for (int i = 0; i < ENCODERS; i++) gfx_end(&encoders[i], 1);
-            gfx_framed framed;
-            gfx_status status = gfx_frame(c, picture, below(4) ? sizeof picture : below(sizeof picture), &framed);
-            if (status == GFX_DONE && (framed.picture != 3 * WIDTH * HEIGHT + 12 || memcmp(picture, "P6\n17 5\n255\n", 12) != 0)) fail("a picture is not whole");
+            if (below(4)) for (int i = 0; i < ENCODERS; i++) (void)!vgfx_encoder_end(&encoders[i], 1);
+            vgfx_frame_report framed;
+            vgfx_status status = vgfx_frame(c, picture, below(4) ? sizeof picture : below(sizeof picture), &framed);
+            if (status == VGFX_OK && (framed.picture != 3 * WIDTH * HEIGHT + 12 || memcmp(picture, "P6\n17 5\n255\n", 12) != 0)) fail("a picture is not whole");
             return status;
         }
     }
 }
 
 int main(int argc, char **argv) {
-    /* there is memory: GFX_OUT_OF_MEMORY, and GFX_ENDED behind it, would be wrong */
-    static const gfx_status known[] = {0, 1, 2, 3, 4, 5, 6, 7, 8, 9, 10, 11, 12, 13, 14, 16, 100, 101, 103, 104, 105};
-    static uint64_t counts[106], done[CALLS];
+    /* there is memory: VGFX_ERROR_OUT_OF_MEMORY, and VGFX_ERROR_ENDED behind it, would be wrong */
+    static const vgfx_status known[] = {0, 1, 2, 3, 4, 5, 6, 7, 8, 9, 10, 11, 12, 13, 14, 16, 100, 101, 103, 104, 105, 108};
+    static uint64_t counts[109], done[CALLS];
     state = argc > 1 ? strtoull(argv[1], 0, 10) : 1;
     uint64_t calls = argc > 2 ? strtoull(argv[2], 0, 10) : 100000;
     for (size_t i = 0; i < sizeof bytes; i++) bytes[i] = (uint8_t)next();
-    if (gfx_init(&context, WIDTH, HEIGHT) != GFX_DONE) fail("no context");
-    if (gfx_init(&context, WIDTH, HEIGHT) != GFX_TAKEN) fail("a context was made over another");
+    if (vgfx_init(&context, WIDTH, HEIGHT) != VGFX_OK) fail("no context");
+    if (vgfx_init(&context, WIDTH, HEIGHT) != VGFX_ERROR_TAKEN) fail("a context was made over another");
     for (uint64_t i = 0; i < calls; i++) {
         uint32_t call = below(CALLS);
-        gfx_status status = any_call(call);
+        vgfx_status status = any_call(call);
         size_t k = 0;
         while (k < sizeof known / sizeof known[0] && known[k] != status) k++;
         if (k == sizeof known / sizeof known[0]) fail("a status that stands for nothing, or for want of memory");
         counts[status]++;
-        done[call] += status == GFX_DONE;
+        done[call] += status == VGFX_OK;
     }
     if (calls >= 100000)
         for (int i = 0; i < CALLS; i++)
             if (done[i] == 0) fail("one of the calls was never done");
-    for (int i = 0; i < ENCODERS; i++) gfx_drop(&encoders[i]);
-    if (gfx_shutdown(&context) != GFX_DONE || gfx_shutdown(&context) != GFX_NO_OBJECT) fail("the context was not given up once");
+    for (int i = 0; i < ENCODERS; i++) (void)!vgfx_encoder_drop(&encoders[i]);
+    if (vgfx_shutdown(&context) != VGFX_OK || vgfx_shutdown(&context) != VGFX_ERROR_NO_OBJECT) fail("the context was not given up once");
     for (size_t s = 0; s < sizeof counts / sizeof counts[0]; s++)
         if (counts[s]) printf("status %zu: %" PRIu64 "\n", s, counts[s]);
     return 0;

@@ -4,7 +4,7 @@
  * and records that have left the caches cost more than the calls, and would be measured in their place.
  *
  * usage: cost [ROUNDS [CALLS]]    CALLS at most 8,191 */
-#include "gfx.h"
+#include "vgfx.h"
 
 #include <inttypes.h>
 #include <malloc.h>
@@ -14,13 +14,13 @@
 
 enum { KINDS = 4 };
 
-static gfx_context context;
-static gfx_encoder encoder;
-static gfx_thing layout, corners, color, program;
+static vgfx_context context;
+static vgfx_encoder encoder;
+static vgfx_id layout, corners, color, program;
 static uint32_t calls;
 
-static void must(gfx_status status, const char *call) {
-    if (status != GFX_DONE) {
+static void must(vgfx_status status, const char *call) {
+    if (status != VGFX_OK) {
         fprintf(stderr, "cost: %s: status %u\n", call, (unsigned)status);
         exit(1);
     }
@@ -36,22 +36,22 @@ static uint64_t now(void) {
 /* Each answers how many calls were refused. */
 static uint32_t touches(void) {
     uint32_t refused = 0;
-    for (uint32_t i = 0; i < calls; i++) refused += gfx_touch(&encoder, 0) != GFX_DONE;
+    for (uint32_t i = 0; i < calls; i++) refused += vgfx_encoder_touch(&encoder, 0) != VGFX_OK;
     return refused;
 }
 
 static uint32_t submits(uint8_t discard) {
     uint32_t refused = 0;
-    for (uint32_t depth = 0; depth < calls; depth++) refused += gfx_submit(&encoder, 0, program, depth, discard) != GFX_DONE;
+    for (uint32_t depth = 0; depth < calls; depth++) refused += vgfx_encoder_submit(&encoder, 0, program, depth, discard) != VGFX_OK;
     return refused;
 }
 
 static uint32_t draws(void) {
     uint32_t refused = 0;
     for (uint32_t depth = 0; depth < calls; depth++) {
-        refused += gfx_set_vec4(&encoder, color, (int32_t)depth, 0, 0, 65536) != GFX_DONE;
-        refused += gfx_set_vertices(&encoder, corners, 0, 3) != GFX_DONE;
-        refused += gfx_submit(&encoder, 0, program, depth, 255) != GFX_DONE;
+        refused += vgfx_encoder_set_vec4(&encoder, color, (int32_t)depth, 0, 0, 65536) != VGFX_OK;
+        refused += vgfx_encoder_set_vertices(&encoder, corners, 0, 3) != VGFX_OK;
+        refused += vgfx_encoder_submit(&encoder, 0, program, depth, 255) != VGFX_OK;
     }
     return refused;
 }
@@ -68,32 +68,32 @@ static uint32_t recorded(int kind) {
 int main(int argc, char **argv) {
     static const char *const NAMES[KINDS] = {"touch", "submit", "reset", "draw"};
     static const uint8_t bytes[24];
-    uint8_t picture[GFX_PICTURE_BYTES(1, 1)];
+    uint8_t picture[VGFX_PICTURE_BYTES(1, 1)];
     uint64_t least[KINDS] = {UINT64_MAX, UINT64_MAX, UINT64_MAX, UINT64_MAX};
     long rounds = argc > 1 ? strtol(argv[1], 0, 10) : 300;
     calls = argc > 2 ? (uint32_t)strtol(argv[2], 0, 10) : 500;
     mallopt(M_MMAP_THRESHOLD, 1 << 30);
     mallopt(M_TRIM_THRESHOLD, INT32_MAX);
-    gfx_part corner = {GFX_POSITION, GFX_FIXED, 2};
-    MUST(gfx_init(&context, 1, 1));
-    MUST(gfx_create_layout(&context, &corner, 1, &layout));
-    MUST(gfx_create_vertex_buffer(&context, layout, bytes, sizeof bytes, &corners));
-    MUST(gfx_create_uniform(&context, (const uint8_t *)"u_color", 7, GFX_VEC4, &color));
-    MUST(gfx_create_program(&context, GFX_SOLID, &program));
+    vgfx_layout_part corner = {VGFX_ATTRIBUTE_POSITION, VGFX_COMPONENT_FIXED, 2};
+    MUST(vgfx_init(&context, 1, 1));
+    MUST(vgfx_create_layout(&context, &corner, 1, &layout));
+    MUST(vgfx_create_vertex_buffer(&context, layout, bytes, sizeof bytes, &corners));
+    MUST(vgfx_create_uniform(&context, "u_color", 7, VGFX_UNIFORM_VEC4, &color));
+    MUST(vgfx_create_program(&context, VGFX_PROGRAM_SOLID, &program));
     for (long round = 0; round < rounds; round++) {
         for (int kind = 0; kind < KINDS; kind++) {
-            gfx_framed framed;
-            MUST(gfx_begin(&context, &encoder, 8191, 1048576, 8191));
+            vgfx_frame_report framed;
+            MUST(vgfx_encoder_begin(&context, &encoder, 8191, 1048576, 8191));
             uint64_t start = now();
             uint32_t refused = recorded(kind);
             uint64_t time = now() - start;
-            if (refused > 0) must(GFX_ROOM_FULL, NAMES[kind]);
+            if (refused > 0) must(VGFX_ERROR_ROOM_FULL, NAMES[kind]);
             if (time < least[kind]) least[kind] = time;
-            MUST(gfx_end(&encoder, 0));
-            MUST(gfx_frame(&context, picture, sizeof picture, &framed));
+            MUST(vgfx_encoder_end(&encoder, 0));
+            MUST(vgfx_frame(&context, picture, sizeof picture, &framed));
         }
     }
-    MUST(gfx_shutdown(&context));
+    MUST(vgfx_shutdown(&context));
     printf("calls %" PRIu32 "\n", calls);
     for (int kind = 0; kind < KINDS; kind++) printf("%s %" PRIu64 "\n", NAMES[kind], least[kind]);
     return 0;

@@ -8,7 +8,7 @@ use Rattle.c_words.specs.declared.faults.Fault.TheVariants as faults
 -- the number of a fault
 abbrev pub fault_number : Fault → ℕ
 fault_number (faults.Refused r) = refusal_number r
-fault_number faults.Unknown = 2
+fault_number faults.Unknown = 108
 fault_number faults.NoObject = 100
 fault_number faults.TryAgain = 101
 fault_number faults.Ended = 102

@@ -29,13 +29,13 @@ pub enum Fault {
 }
 
 impl Fault {
-    /// The number that C sees: that of the refusal, 2 as for what is gone where a word names nothing, or one from 100.
+    /// The number that C sees: that of the refusal, or one from 100.
     pub fn number(&self) -> u32
         ensures { result ≡ fault_number self.now }
     {
         match self {
             Fault::Refused(refusal) => refusal.number() as u32,
-            Fault::Unknown => 2,
+            Fault::Unknown => 108,
             Fault::NoObject => 100,
             Fault::TryAgain => 101,
             Fault::Ended => 102,

@@ -1,6 +1,8 @@
 // One example of each call.
-use crate::{Fault, Part, Things, layout_of, mode_of, status, told};
-use gfx_words::{Handle, Info, Kind, Refusal, ViewMode};
+use crate::{
+    Fault, Part, Things, format_of, layout_of, mode_of, program_of, status, told, uniform_kind_of,
+};
+use gfx_words::{Format, Handle, Info, Kind, ProgramKind, Refusal, UniformKind, ViewMode};
 use std::alloc::Global;
 use std::test::Fail;
 
@@ -8,7 +10,7 @@ use std::test::Fail;
 fn numbers_of_faults(rt: HostRuntime) -> Result<(), Fail> {
     assert_eq!(rt; status(Ok(())), 0);
     assert_eq!(rt; status(told(Err::<(), Refusal>(Refusal::OutOfMemory))), 17);
-    assert_eq!(rt; status(Err(Fault::Unknown)), 2);
+    assert_eq!(rt; status(Err(Fault::Unknown)), 108);
     assert_eq!(rt; status(Err(Fault::Taken)), 105);
     Ok(())
 }
@@ -63,8 +65,14 @@ fn layouts_of_parts(rt: HostRuntime) -> Result<(), Fail> {
 }
 
 #[test]
-fn modes_of_numbers(rt: HostRuntime) -> Result<(), Fail> {
+fn values_of_numbers(rt: HostRuntime) -> Result<(), Fail> {
     assert!(rt; matches!(mode_of(3), Some(ViewMode::DepthDescending)));
+    assert!(rt; matches!(format_of(1), Some(Format::D24S8)));
+    assert!(rt; matches!(program_of(2), Some(ProgramKind::Texture)));
+    assert!(rt; matches!(uniform_kind_of(1), Some(UniformKind::Int)));
     assert!(rt; mode_of(4).is_none());
+    assert!(rt; format_of(256).is_none());
+    assert!(rt; program_of(4).is_none());
+    assert!(rt; uniform_kind_of(256).is_none());
     Ok(())
 }

@@ -1,5 +1,5 @@
 -- The end of a frame, step by step.
-use Rattle.std.proofs.Common.{◌≡◌, ℕ, ◌+◌, ◌-◌, ◌<◌, ◌≤◌, ◌||◌, inl, inr, Bool, true, false, List, [], map, length, drop, ◌++◌, Option, Some, None, Result, Ok, Err, refl, sym, ap, ◌∙◌, subst, arith}
+use Rattle.std.proofs.Common.{◌≡◌, ℕ, ◌+◌, ◌-◌, ◌<◌, ◌≤◌, ◌||◌, inl, inr, Bool, true, false, if◌then◌else◌, List, [], map, length, drop, ◌++◌, Option, Some, None, Result, Ok, Err, refl, sym, ap, ◌∙◌, subst, arith}
 use Rattle.std.proofs.lemmas.List.{length-map}
 use Rattle.scene_model.specs.Output.{picture_text}
 use Rattle.gfx_model.specs.Frames.{collected}
@@ -14,8 +14,10 @@ use Rattle.frame_record.specs.declared.frame.Outcome.{Outcome}
 use Rattle.frame_record.specs.declared.frame.Outcome.TheVariants as outcomes
 use Rattle.frame_record.specs.declared.frame.RenderedFrame.{RenderedFrame}
 use Rattle.frame_record.specs.Seen.{entry_seen, recordings_seen}
-use Rattle.context_core.specs.Ended.{IsReady, Finishes, Gives}
-use Rattle.context_core.specs.States.{CoreView, state_of}
+use Rattle.context_core.specs.Ended.{IsReady, Finishes, Gives, StartsNext}
+use Rattle.context_core.specs.Ended as cores
+use Rattle.context_core.specs.States.{CoreView, state_of, frames_end}
+use Rattle.context_core.proofs.Ends.{gives_both}
 use Rattle.context_core.specs.declared.ending.Prepared.{Prepared}
 use Rattle.render_core.specs.Outcomes.{is_shown}
 use Rattle.render_core.specs.Rendered.{Rendering, IsRendered}
@@ -50,7 +52,7 @@ module _ (p : Prepared) (mid now : CoreView) (r : IsReady p mid now) where
 
 -- ---- the core makes a frame
 
-pub made_some : (work : Work) (o : Option Frame) (f : Frame) (a b : CoreView) → o ≡ Some f → Finishes true work o a b → Gives work f a b
+pub made_some : (work : Work) (o : Option Frame) (f : Frame) (a b : CoreView) → o ≡ Some f → Finishes true work o a b → cores.MakesFrame work f a b
 made_some work o f a b is m = (subst (λ (x : Option Frame). Finishes true work x a b) is m).1
 
 pub made_none : (work : Work) (o : Option Frame) (a b : CoreView) → o ≡ None → Finishes true work o a b → ⊥
@@ -64,12 +66,13 @@ module _ (work : Work) (f : Frame) (now made : CoreView) (none : now.state.out �
   some_out = let n = one_out in omega (arith, n)
 
   -- it is the oldest that is out, since no other is
-  pub is_oldest : f.number + made.state.out ≡ made.state.book.resources.frame
+  pub is_oldest : f.number + made.state.out ≡ frames_end made.state
   is_oldest =
       let n = one_out in
       let number = g.is_of.number in
       let next : made.state.book.resources.frame ≡ now.state.book.resources.frame + 1 = ap (λ (c : CoreView). c.state.book.resources.frame) g.same in
-      omega (arith, n, number, next, none)
+      let oldest : f.number + made.state.out ≡ made.state.book.resources.frame = omega (arith, n, number, next, none) in
+      oldest ∙ sym (ap (λ (b : Bool). if b then made.state.book.resources.frame + 1 else made.state.book.resources.frame) (ap (λ (c : CoreView). c.state.is_given) g.same))
 
   none_left : made.state.out - 1 ≡ 0
   none_left = let n = one_out in omega (arith, n, none)
@@ -85,6 +88,7 @@ module _ {t : TableId} {now : CoreView} (o : IsOn t now) (work : Work) (f : Fram
     views_are = ap (λ (c : CoreView). view_count c.state.book.resources.views) e ∙ ap (λ (c : CoreView). view_count c.state.book.resources.views) g.same
         ∙ length-map now.state.book.resources.views.settings (with_live_target now.state.book.resources) ∙ o.views_are;
     none_out = ap (λ (c : CoreView). c.state.out) e;
+    none_given = ap (λ (c : CoreView). c.state.is_given) e ∙ ap (λ (c : CoreView). c.state.is_given) g.same;
   }
 
 -- ---- a frame is rendered
@@ -119,7 +123,7 @@ pub first_false : (a b : Bool) → (a || b) ≡ false → a ≡ false
 first_false true b e = absurd (cc e)
 first_false false b e = refl
 
--- a frame that was made is delivered, or not
+-- a frame that was made and rendered is delivered, or not
 module _ (frame : Frame) (dropped : ℕ) (before after : List ℕ) (old mid new : ContextView) (runs : is_over old ≡ false) (enough : old.most ≤ length before) (made : IsMade frame dropped old mid) where
   pub delivered_told : (result : Result Framed Fault) → Delivers result frame dropped before after mid new → FramesHere result before after old new
   delivered_told (Ok framed) d = record {
@@ -133,5 +137,5 @@ module _ (frame : Frame) (dropped : ℕ) (before after : List ℕ) (old mid new 
   delivered_told (Err f) d = inr (runs, inr (enough, inr (record { mid = mid; frame = frame; dropped = dropped; made = made; not_shown = d })))
 
   -- its buffer is as long as a picture can be
-  pub enough_still : mid.most ≤ length before
-  enough_still = subst (λ (n : ℕ). n ≤ length before) (sym (ap (λ (c : ContextView). c.most) made.after)) enough
+  pub enough_still : Shows frame mid new → new.most ≤ length before
+  enough_still s = subst (λ (n : ℕ). n ≤ length before) (sym (ap (λ (c : ContextView). c.most) s.3 ∙ ap (λ (c : ContextView). c.most) made.after)) enough

@@ -28,6 +28,7 @@ module _ {t : TableId} {a : CoreView} (o : IsOn t a) (b : CoreView) where
     table_is = ap (λ (c : CoreView). c.table) m.after ∙ o.table_is;
     views_are = ap (λ (c : CoreView). view_count c.state.book.resources.views) m.after ∙ (same_law a.state.book.resources call).0 ∙ o.views_are;
     none_out = ap (λ (c : CoreView). c.state.out) m.after ∙ o.none_out;
+    none_given = ap (λ (c : CoreView). c.state.is_given) m.after ∙ o.none_given;
   }
   on_creates call (Err r) m = on_same m.1
 
@@ -36,6 +37,7 @@ module _ {t : TableId} {a : CoreView} (o : IsOn t a) (b : CoreView) where
     table_is = ap (λ (c : CoreView). c.table) m.1 ∙ o.table_is;
     views_are = ap (λ (c : CoreView). view_count c.state.book.resources.views) m.1 ∙ (same_law a.state.book.resources call).0 ∙ o.views_are;
     none_out = ap (λ (c : CoreView). c.state.out) m.1 ∙ o.none_out;
+    none_given = ap (λ (c : CoreView). c.state.is_given) m.1 ∙ o.none_given;
   }
   on_updates call (Err r) m = on_same m.1
 
@@ -44,6 +46,7 @@ module _ {t : TableId} {a : CoreView} (o : IsOn t a) (b : CoreView) where
     table_is = ap (λ (c : CoreView). c.table) m.1 ∙ o.table_is;
     views_are = ap (λ (c : CoreView). view_count c.state.book.resources.views) m.1 ∙ (same_law a.state.book.resources call).0 ∙ o.views_are;
     none_out = ap (λ (c : CoreView). c.state.out) m.1 ∙ o.none_out;
+    none_given = ap (λ (c : CoreView). c.state.is_given) m.1 ∙ o.none_given;
   }
   on_changes call (Err r) m = on_same m.1
 
@@ -52,6 +55,7 @@ module _ {t : TableId} {a : CoreView} (o : IsOn t a) (b : CoreView) where
     table_is = ap (λ (c : CoreView). c.table) m.1 ∙ o.table_is;
     views_are = ap (λ (c : CoreView). view_count c.state.book.resources.views) m.1 ∙ (same_law a.state.book.resources (destroy h)).0 ∙ o.views_are;
     none_out = ap (λ (c : CoreView). c.state.out) m.1 ∙ o.none_out;
+    none_given = ap (λ (c : CoreView). c.state.is_given) m.1 ∙ o.none_given;
   }
   on_destroys h (Err r) m = on_same m.1
 
@@ -60,6 +64,7 @@ module _ {t : TableId} {a : CoreView} (o : IsOn t a) (b : CoreView) where
     table_is = ap (λ (c : CoreView). c.table) m.after ∙ o.table_is;
     views_are = ap (λ (c : CoreView). view_count c.state.book.resources.views) m.after ∙ o.views_are;
     none_out = ap (λ (c : CoreView). c.state.out) m.after ∙ o.none_out;
+    none_given = ap (λ (c : CoreView). c.state.is_given) m.after ∙ o.none_given;
   }
 
   pub on_gathers : (r : Recording) (seat : SeatView) → cores.Gathers r seat a b → IsOn t b
@@ -67,6 +72,7 @@ module _ {t : TableId} {a : CoreView} (o : IsOn t a) (b : CoreView) where
     table_is = ap (λ (c : CoreView). c.table) m.after ∙ o.table_is;
     views_are = ap (λ (c : CoreView). view_count c.state.book.resources.views) m.after ∙ o.views_are;
     none_out = ap (λ (c : CoreView). c.state.out) m.after ∙ o.none_out;
+    none_given = ap (λ (c : CoreView). c.state.is_given) m.after ∙ o.none_given;
   }
 
   pub on_prepares : (result : Result Prepared NotReady) → cores.Prepares result a b → IsOn t b
@@ -74,6 +80,7 @@ module _ {t : TableId} {a : CoreView} (o : IsOn t a) (b : CoreView) where
     table_is = ap (λ (c : CoreView). c.table) m.after ∙ o.table_is;
     views_are = ap (λ (c : CoreView). view_count c.state.book.resources.views) m.after ∙ o.views_are;
     none_out = ap (λ (c : CoreView). c.state.out) m.after ∙ o.none_out;
+    none_given = ap (λ (c : CoreView). c.state.is_given) m.after ∙ o.none_given;
   }
   on_prepares (Err causes.EncodersOff) m = on_same m.1
   on_prepares (Err causes.FramesSpent) m = on_same m.2
@@ -81,6 +88,7 @@ module _ {t : TableId} {a : CoreView} (o : IsOn t a) (b : CoreView) where
     table_is = ap (λ (c : CoreView). c.table) m.2 ∙ o.table_is;
     views_are = ap (λ (c : CoreView). view_count c.state.book.resources.views) m.2 ∙ o.views_are;
     none_out = ap (λ (c : CoreView). c.state.out) m.2 ∙ o.none_out;
+    none_given = ap (λ (c : CoreView). c.state.is_given) m.2 ∙ o.none_given;
   }
 
   pub on_begun : (room : Room) (result : Result RecorderView Refusal) → IsBegin own (λ r. r.state) result room a b → IsOn t b

@@ -51,13 +51,6 @@ pub record IsStopped (f : Fault) (old new : ContextView) : Type 0 where
   pub cause : IsNotMade f mid new.core
   pub same : new ≡ record old { core = new.core }
 
--- a frame is made, or not
-abbrev pub MakesFrame : Result (Frame × ℕ) Fault → (old new : ContextView) → Type 0
-MakesFrame result old new =
-    MatchResult result
-    (λ p. IsMade p.0 p.1 old new)
-    (λ f. IsStopped f old new)
-
 -- a renderer whose sink is as new
 abbrev pub emptied : Rendering → Rendering
 emptied r = record r { held = Some []; faults = 0 }
@@ -65,6 +58,13 @@ emptied r = record r { held = Some []; faults = 0 }
 -- a frame is rendered into an empty sink
 abbrev pub Shows : Frame → (old new : ContextView) → Type 0
 Shows f old new = (r : RenderedFrame) × (r.frame ≡ f) × IsRendered (emptied old.renderer) r new.renderer × (new ≡ record old { renderer = new.renderer; is_shown = is_shown r.outcome })
+
+-- a frame is made of what has come and rendered, or not; what is told of it are its number and the sum of the numbers that its encoders ended with
+abbrev pub MakesFrame : Result (ℕ × ℕ) Fault → (old new : ContextView) → Type 0
+MakesFrame result old new =
+    MatchResult result
+    (λ p. (mid : ContextView) × (frame : Frame) × (p.0 ≡ frame.number) × IsMade frame p.1 old mid × Shows frame mid new)
+    (λ f. IsStopped f old new)
 
 -- the text that a sink holds is copied to the front of a buffer
 abbrev pub HandsOut : Option (List ℕ) → (n : ℕ) → (before after : List ℕ) → Type 0

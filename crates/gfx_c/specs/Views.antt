@@ -1,5 +1,5 @@
 -- A context and an encoder that C holds.
-use Rattle.std.specs.Prelude.{◌≡◌, ℕ, Bool, List, Option, None}
+use Rattle.std.specs.Prelude.{◌≡◌, ℕ, Bool, false, List, Option, None}
 use Rattle.gfx_model.specs.Words.{Handle}
 use Rattle.gfx_model.specs.Views.{view_count}
 use Rattle.atomic_table.specs.Seated.{TableId}
@@ -20,8 +20,9 @@ pub record EncoderView : Type 0 where
   pub recorder : RecorderView
   pub rows : List (Option Handle)
 
--- a core of this table, with 512 views, of which no frame is out
+-- a core of this table, with 512 views, of which no frame is out or given
 pub record IsOn (table : TableId) (c : CoreView) : Type 0 where
   pub table_is : c.table ≡ table
   pub views_are : view_count c.state.book.resources.views ≡ 512
   pub none_out : c.state.out ≡ 0
+  pub none_given : c.state.is_given ≡ false

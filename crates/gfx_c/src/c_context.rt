@@ -75,7 +75,7 @@ fn begin_for(
 
 /// Makes a context, whose pictures have these sides, for a handle that is null.
 #[unsafe(no_mangle)]
-pub extern "C" fn gfx_init(alloc: Global, context: &mut Slot, width: u16, height: u16) -> u32
+pub extern "C" fn vgfx_init(alloc: Global, context: &mut Slot, width: u16, height: u16) -> u32
     ensures { Opens context.old.value context.new.value result width height }
 {
     if !is_null(context, alloc) {
@@ -90,7 +90,7 @@ pub extern "C" fn gfx_init(alloc: Global, context: &mut Slot, width: u16, height
 
 /// Gives a context up. Its handle is null from then on.
 #[unsafe(no_mangle)]
-pub extern "C" fn gfx_shutdown(alloc: Global, context: &mut Slot) -> u32
+pub extern "C" fn vgfx_shutdown(alloc: Global, context: &mut Slot) -> u32
     ensures { ShutsDown context.old.value context.new.value result }
 {
     let Some(object) = take(context, alloc) else {
@@ -107,7 +107,7 @@ pub extern "C" fn gfx_shutdown(alloc: Global, context: &mut Slot) -> u32
 
 /// Begins this frame's next encoder, for a handle that is null.
 #[unsafe(no_mangle)]
-pub extern "C" fn gfx_begin(
+pub extern "C" fn vgfx_encoder_begin(
     alloc: Global,
     context: &mut Slot,
     encoder: &mut Slot,
@@ -133,7 +133,7 @@ pub extern "C" fn gfx_begin(
 
 /// Collects what encoders of this frame ended with and has come, and tells how many have not come.
 #[unsafe(no_mangle)]
-pub extern "C" fn gfx_collect(alloc: Global, context: &mut Slot, off: &mut u32) -> u32
+pub extern "C" fn vgfx_collect(alloc: Global, context: &mut Slot, off: &mut u32) -> u32
     ensures { OnContext context.old.value context.new.value result (λ r c d. (r ≡ Ok (tt {0})) × Collects off.new c d) (off.new ≡ off.old) }
 {
     let Some(mut object) = take(context, alloc) else {
@@ -154,7 +154,7 @@ pub extern "C" fn gfx_collect(alloc: Global, context: &mut Slot, off: &mut u32) 
 
 /// Tells the number of the frame that is recorded.
 #[unsafe(no_mangle)]
-pub extern "C" fn gfx_frame_number(alloc: Global, context: &mut Slot, number: &mut u32) -> u32
+pub extern "C" fn vgfx_frame_number(alloc: Global, context: &mut Slot, number: &mut u32) -> u32
     ensures { OnContext context.old.value context.new.value result (λ r c d. (r ≡ Ok (tt {0})) × (d ≡ c) × (number.new ≡ c.core.state.book.resources.frame)) (number.new ≡ number.old) }
 {
     let Some(mut object) = take(context, alloc) else {

@@ -30,7 +30,7 @@ fn word(answer: Result<Handle, Fault>, thing: &mut u64) -> u32
 
 /// Makes a layout of parts, one behind the other.
 #[unsafe(no_mangle)]
-pub extern "C" fn gfx_create_layout(
+pub extern "C" fn vgfx_create_layout(
     alloc: Global,
     context: &mut Slot,
     parts: &[Part],
@@ -56,7 +56,7 @@ pub extern "C" fn gfx_create_layout(
 
 /// Makes a vertex buffer of a layout.
 #[unsafe(no_mangle)]
-pub extern "C" fn gfx_create_vertex_buffer(
+pub extern "C" fn vgfx_create_vertex_buffer(
     alloc: Global,
     context: &mut Slot,
     layout: u64,
@@ -83,7 +83,7 @@ pub extern "C" fn gfx_create_vertex_buffer(
 
 /// Makes an index buffer, of indices of two bytes.
 #[unsafe(no_mangle)]
-pub extern "C" fn gfx_create_index_buffer(
+pub extern "C" fn vgfx_create_index_buffer(
     alloc: Global,
     context: &mut Slot,
     bytes: &[u8],
@@ -109,12 +109,12 @@ pub extern "C" fn gfx_create_index_buffer(
 
 /// Makes a texture of texels of four bytes. A `blit` of 0 makes one that no blit may write.
 #[unsafe(no_mangle)]
-pub extern "C" fn gfx_create_texture(
+pub extern "C" fn vgfx_create_texture(
     alloc: Global,
     context: &mut Slot,
     width: u16,
     height: u16,
-    format: u8,
+    format: u32,
     blit: u8,
     bytes: &[u8],
     thing: &mut u64,
@@ -139,12 +139,12 @@ pub extern "C" fn gfx_create_texture(
 
 /// Makes a texture all of whose texels are these four bytes.
 #[unsafe(no_mangle)]
-pub extern "C" fn gfx_create_filled_texture(
+pub extern "C" fn vgfx_create_filled_texture(
     alloc: Global,
     context: &mut Slot,
     width: u16,
     height: u16,
-    format: u8,
+    format: u32,
     blit: u8,
     red: u8,
     green: u8,
@@ -178,7 +178,7 @@ pub extern "C" fn gfx_create_filled_texture(
 
 /// Makes a frame buffer of a colour texture, and of a depth texture or none by 0.
 #[unsafe(no_mangle)]
-pub extern "C" fn gfx_create_frame_buffer(
+pub extern "C" fn vgfx_create_frame_buffer(
     alloc: Global,
     context: &mut Slot,
     color: u64,
@@ -205,10 +205,10 @@ pub extern "C" fn gfx_create_frame_buffer(
 
 /// Makes a program: 0 the colour uniform, 1 the vertex colour, 2 the sample, 3 the product of the last two.
 #[unsafe(no_mangle)]
-pub extern "C" fn gfx_create_program(
+pub extern "C" fn vgfx_create_program(
     alloc: Global,
     context: &mut Slot,
-    program: u8,
+    program: u32,
     thing: &mut u64,
 ) -> u32
     ensures { OnContext context.old.value context.new.value result (λ r c d. (thing.new ≡ word_after r thing.old) × MatchOption (program_of_number program) ((r ≡ Err faults.BadValue) × (d ≡ c)) (λ k. CreatesHere r (model.create_program k) c d)) (thing.new ≡ thing.old) }
@@ -231,11 +231,11 @@ pub extern "C" fn gfx_create_program(
 
 /// Makes a uniform, 0 of four numbers and 1 of one, or refers to the live one of that name once more.
 #[unsafe(no_mangle)]
-pub extern "C" fn gfx_create_uniform(
+pub extern "C" fn vgfx_create_uniform(
     alloc: Global,
     context: &mut Slot,
     name: &[u8],
-    kind: u8,
+    kind: u32,
     thing: &mut u64,
 ) -> u32
     ensures { OnContext context.old.value context.new.value result (λ r c d. (thing.new ≡ word_after r thing.old) × MatchOption (uniform_of_number kind) ((r ≡ Err faults.BadValue) × (d ≡ c)) (λ k. CreatesHere r (model.create_uniform name.now k) c d)) (thing.new ≡ thing.old) }

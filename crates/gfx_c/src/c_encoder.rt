@@ -8,7 +8,7 @@ use std::alloc::Global;
 
 /// Ends an encoder. Its handle is null from then on.
 #[unsafe(no_mangle)]
-pub extern "C" fn gfx_end(alloc: Global, encoder: &mut Slot, dropped: u32) -> u32
+pub extern "C" fn vgfx_encoder_end(alloc: Global, encoder: &mut Slot, dropped: u32) -> u32
     ensures { Ends encoder.old.value encoder.new.value result }
 {
     let Some((object, recording)) = take_encoder(encoder, alloc) else {
@@ -25,7 +25,7 @@ pub extern "C" fn gfx_end(alloc: Global, encoder: &mut Slot, dropped: u32) -> u3
 
 /// Gives an encoder up with what it recorded. Its handle is null from then on, and its frame cannot end.
 #[unsafe(no_mangle)]
-pub extern "C" fn gfx_drop(alloc: Global, encoder: &mut Slot) -> u32
+pub extern "C" fn vgfx_encoder_drop(alloc: Global, encoder: &mut Slot) -> u32
     ensures { Drops encoder.old.value encoder.new.value result }
 {
     match take_encoder(encoder, alloc) {

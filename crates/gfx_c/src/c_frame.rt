@@ -26,7 +26,7 @@ fn tell(answer: Result<Framed, Fault>, framed: &mut Framed) -> u32
 
 /// Ends the frame, renders it, and writes its picture.
 #[unsafe(no_mangle)]
-pub extern "C" fn gfx_frame(
+pub extern "C" fn vgfx_frame(
     alloc: Global,
     context: &mut Slot,
     picture: &mut [u8],

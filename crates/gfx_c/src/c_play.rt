@@ -56,7 +56,7 @@ fn sizes(pictures: usize, report: usize) -> Played
 /// Plays a scene's text on the calling thread, as a run of the program `gfx_play play` may, and writes its pictures and its report.
 /// Answers 0, 17, 103, 106 or 107; lengths are in bytes; wherever it is not 0 the buffers are as before.
 #[unsafe(no_mangle)]
-pub extern "C" fn gfx_play(
+pub extern "C" fn vgfx_play(
     alloc: Global,
     text: &[u8],
     pictures: &mut [u8],

@@ -16,7 +16,7 @@ use std::alloc::Global;
 
 /// Sets the state word of the next draws.
 #[unsafe(no_mangle)]
-pub extern "C" fn gfx_set_state(alloc: Global, encoder: &mut Slot, word: u64) -> u32
+pub extern "C" fn vgfx_encoder_set_state(alloc: Global, encoder: &mut Slot, word: u64) -> u32
     ensures { OnEncoder encoder.old.value encoder.new.value result (λ r c d. Records r (calls.set_state word) c d) }
 {
     let Some(mut object) = take(encoder, alloc) else {
@@ -37,7 +37,12 @@ pub extern "C" fn gfx_set_state(alloc: Global, encoder: &mut Slot, word: u64) ->
 
 /// Sets the stencil words for triangles that face to the front and to the back; 0 is no stencil.
 #[unsafe(no_mangle)]
-pub extern "C" fn gfx_set_stencil(alloc: Global, encoder: &mut Slot, front: u32, back: u32) -> u32
+pub extern "C" fn vgfx_encoder_set_stencil(
+    alloc: Global,
+    encoder: &mut Slot,
+    front: u32,
+    back: u32,
+) -> u32
     ensures { OnEncoder encoder.old.value encoder.new.value result (λ r c d. Records r (calls.set_stencil front back) c d) }
 {
     let Some(mut object) = take(encoder, alloc) else {
@@ -58,7 +63,7 @@ pub extern "C" fn gfx_set_stencil(alloc: Global, encoder: &mut Slot, front: u32,
 
 /// Sets the scissor in pixels; with both sides 0 there is none.
 #[unsafe(no_mangle)]
-pub extern "C" fn gfx_set_scissor(
+pub extern "C" fn vgfx_encoder_set_scissor(
     alloc: Global,
     encoder: &mut Slot,
     x: u16,
@@ -86,7 +91,11 @@ pub extern "C" fn gfx_set_scissor(
 
 /// Sets the transform from the vertices to the view.
 #[unsafe(no_mangle)]
-pub extern "C" fn gfx_set_transform(alloc: Global, encoder: &mut Slot, transform: &Transform) -> u32
+pub extern "C" fn vgfx_encoder_set_transform(
+    alloc: Global,
+    encoder: &mut Slot,
+    transform: &Transform,
+) -> u32
     ensures { OnEncoder encoder.old.value encoder.new.value result (λ r c d. Records r (calls.set_transform transform.now.m) c d) }
 {
     let Some(mut object) = take(encoder, alloc) else {
@@ -107,7 +116,7 @@ pub extern "C" fn gfx_set_transform(alloc: Global, encoder: &mut Slot, transform
 
 /// Takes vertices of a buffer.
 #[unsafe(no_mangle)]
-pub extern "C" fn gfx_set_vertices(
+pub extern "C" fn vgfx_encoder_set_vertices(
     alloc: Global,
     encoder: &mut Slot,
     buffer: u64,
@@ -134,7 +143,7 @@ pub extern "C" fn gfx_set_vertices(
 
 /// Takes indices of a buffer.
 #[unsafe(no_mangle)]
-pub extern "C" fn gfx_set_indices(
+pub extern "C" fn vgfx_encoder_set_indices(
     alloc: Global,
     encoder: &mut Slot,
     buffer: u64,
@@ -161,7 +170,7 @@ pub extern "C" fn gfx_set_indices(
 
 /// Takes a copy of bytes as vertices of a layout.
 #[unsafe(no_mangle)]
-pub extern "C" fn gfx_set_transient_vertices(
+pub extern "C" fn vgfx_encoder_set_transient_vertices(
     alloc: Global,
     encoder: &mut Slot,
     layout: u64,
@@ -187,7 +196,11 @@ pub extern "C" fn gfx_set_transient_vertices(
 
 /// Takes a copy of bytes as indices of two bytes each.
 #[unsafe(no_mangle)]
-pub extern "C" fn gfx_set_transient_indices(alloc: Global, encoder: &mut Slot, bytes: &[u8]) -> u32
+pub extern "C" fn vgfx_encoder_set_transient_indices(
+    alloc: Global,
+    encoder: &mut Slot,
+    bytes: &[u8],
+) -> u32
     ensures { OnEncoder encoder.old.value encoder.new.value result (λ r c d. Records r (calls.set_transient_indices bytes.now) c d) }
 {
     let Some(mut object) = take(encoder, alloc) else {
@@ -208,7 +221,12 @@ pub extern "C" fn gfx_set_transient_indices(alloc: Global, encoder: &mut Slot, b
 
 /// Puts a texture on stage 0 or 1, or takes it off by 0.
 #[unsafe(no_mangle)]
-pub extern "C" fn gfx_set_texture(alloc: Global, encoder: &mut Slot, stage: u8, texture: u64) -> u32
+pub extern "C" fn vgfx_encoder_set_texture(
+    alloc: Global,
+    encoder: &mut Slot,
+    stage: u8,
+    texture: u64,
+) -> u32
     ensures { OnEncoder encoder.old.value encoder.new.value result (λ r c d. OnMaybe c.rows texture r c d (λ o. Records r (calls.set_texture stage o) c d)) }
 {
     let Some(mut object) = take(encoder, alloc) else {
@@ -229,7 +247,7 @@ pub extern "C" fn gfx_set_texture(alloc: Global, encoder: &mut Slot, stage: u8, 
 
 /// Sets a value of a uniform of four numbers, in units of 1/65536.
 #[unsafe(no_mangle)]
-pub extern "C" fn gfx_set_vec4(
+pub extern "C" fn vgfx_encoder_set_vec4(
     alloc: Global,
     encoder: &mut Slot,
     uniform: u64,
@@ -258,7 +276,12 @@ pub extern "C" fn gfx_set_vec4(
 
 /// Sets a value of a uniform of one whole number.
 #[unsafe(no_mangle)]
-pub extern "C" fn gfx_set_int(alloc: Global, encoder: &mut Slot, uniform: u64, value: i32) -> u32
+pub extern "C" fn vgfx_encoder_set_int(
+    alloc: Global,
+    encoder: &mut Slot,
+    uniform: u64,
+    value: i32,
+) -> u32
     ensures { OnEncoder encoder.old.value encoder.new.value result (λ r c d. OnThing c.rows uniform r c d (λ h. Records r (calls.set_uniform h (int_value value)) c d)) }
 {
     let Some(mut object) = take(encoder, alloc) else {
@@ -279,7 +302,7 @@ pub extern "C" fn gfx_set_int(alloc: Global, encoder: &mut Slot, uniform: u64, v
 
 /// Puts down a draw by a program with the current state.
 #[unsafe(no_mangle)]
-pub extern "C" fn gfx_submit(
+pub extern "C" fn vgfx_encoder_submit(
     alloc: Global,
     encoder: &mut Slot,
     view: u16,
@@ -307,7 +330,7 @@ pub extern "C" fn gfx_submit(
 
 /// Puts down an empty primitive.
 #[unsafe(no_mangle)]
-pub extern "C" fn gfx_touch(alloc: Global, encoder: &mut Slot, view: u16) -> u32
+pub extern "C" fn vgfx_encoder_touch(alloc: Global, encoder: &mut Slot, view: u16) -> u32
     ensures { OnEncoder encoder.old.value encoder.new.value result (λ r c d. Records r (calls.touch view) c d) }
 {
     let Some(mut object) = take(encoder, alloc) else {
@@ -328,7 +351,7 @@ pub extern "C" fn gfx_touch(alloc: Global, encoder: &mut Slot, view: u16) -> u32
 
 /// Puts down a copy of a region between textures.
 #[unsafe(no_mangle)]
-pub extern "C" fn gfx_blit(
+pub extern "C" fn vgfx_encoder_blit(
     alloc: Global,
     encoder: &mut Slot,
     view: u16,

@@ -12,7 +12,7 @@ use std::alloc::Global;
 
 /// Changes bytes of a vertex or index buffer.
 #[unsafe(no_mangle)]
-pub extern "C" fn gfx_update_buffer(
+pub extern "C" fn vgfx_update_buffer(
     alloc: Global,
     context: &mut Slot,
     buffer: u64,
@@ -39,7 +39,7 @@ pub extern "C" fn gfx_update_buffer(
 
 /// Changes texels of a texture.
 #[unsafe(no_mangle)]
-pub extern "C" fn gfx_update_texture(
+pub extern "C" fn vgfx_update_texture(
     alloc: Global,
     context: &mut Slot,
     texture: u64,
@@ -69,7 +69,7 @@ pub extern "C" fn gfx_update_texture(
 
 /// Destroys a thing, or takes one reference of a uniform.
 #[unsafe(no_mangle)]
-pub extern "C" fn gfx_destroy(alloc: Global, context: &mut Slot, thing: u64) -> u32
+pub extern "C" fn vgfx_destroy(alloc: Global, context: &mut Slot, thing: u64) -> u32
     ensures { OnContext context.old.value context.new.value result (λ r c d. OnThing c.rows thing r c d (λ h. DestroysHere r h c d)) ⊤ }
 {
     let Some(mut object) = take(context, alloc) else {

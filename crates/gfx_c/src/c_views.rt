@@ -15,7 +15,7 @@ use std::alloc::Global;
 
 /// Sets the part of its target that a view draws on.
 #[unsafe(no_mangle)]
-pub extern "C" fn gfx_set_view_rect(
+pub extern "C" fn vgfx_set_view_rect(
     alloc: Global,
     context: &mut Slot,
     view: u16,
@@ -44,7 +44,7 @@ pub extern "C" fn gfx_set_view_rect(
 
 /// Sets the scissor of a view; with both sides 0 there is none.
 #[unsafe(no_mangle)]
-pub extern "C" fn gfx_set_view_scissor(
+pub extern "C" fn vgfx_set_view_scissor(
     alloc: Global,
     context: &mut Slot,
     view: u16,
@@ -73,7 +73,7 @@ pub extern "C" fn gfx_set_view_scissor(
 
 /// Sets what entering a view clears: 1 the colour, 2 the depth, 4 the stencil.
 #[unsafe(no_mangle)]
-pub extern "C" fn gfx_set_view_clear(
+pub extern "C" fn vgfx_set_view_clear(
     alloc: Global,
     context: &mut Slot,
     view: u16,
@@ -105,7 +105,7 @@ pub extern "C" fn gfx_set_view_clear(
 
 /// Sets how a view orders its draws and touches: 0 by program, 1 as they come, 2 by ascending depth, 3 by descending depth.
 #[unsafe(no_mangle)]
-pub extern "C" fn gfx_set_view_mode(alloc: Global, context: &mut Slot, view: u16, mode: u8) -> u32
+pub extern "C" fn vgfx_set_view_mode(alloc: Global, context: &mut Slot, view: u16, mode: u32) -> u32
     ensures { OnContext context.old.value context.new.value result (λ r c d. MatchOption (mode_of_number mode) ((r ≡ Err faults.BadValue) × (d ≡ c)) (λ m. ChangesHere r (model.set_view_mode view m) c d)) ⊤ }
 {
     let Some(mut object) = take(context, alloc) else {
@@ -126,7 +126,7 @@ pub extern "C" fn gfx_set_view_mode(alloc: Global, context: &mut Slot, view: u16
 
 /// Sets the transform of a view.
 #[unsafe(no_mangle)]
-pub extern "C" fn gfx_set_view_transform(
+pub extern "C" fn vgfx_set_view_transform(
     alloc: Global,
     context: &mut Slot,
     view: u16,
@@ -152,7 +152,7 @@ pub extern "C" fn gfx_set_view_transform(
 
 /// Sets the target of a view, a frame buffer, or the back buffer by 0.
 #[unsafe(no_mangle)]
-pub extern "C" fn gfx_set_view_target(
+pub extern "C" fn vgfx_set_view_target(
     alloc: Global,
     context: &mut Slot,
     view: u16,
@@ -178,7 +178,7 @@ pub extern "C" fn gfx_set_view_target(
 
 /// Sets the views that come first.
 #[unsafe(no_mangle)]
-pub extern "C" fn gfx_set_view_order(alloc: Global, context: &mut Slot, views: &[u16]) -> u32
+pub extern "C" fn vgfx_set_view_order(alloc: Global, context: &mut Slot, views: &[u16]) -> u32
     ensures { OnContext context.old.value context.new.value result (λ r c d. ChangesHere r (model.set_view_order views.now) c d) ⊤ }
 {
     let Some(mut object) = take(context, alloc) else {
@@ -199,7 +199,7 @@ pub extern "C" fn gfx_set_view_order(alloc: Global, context: &mut Slot, views: &
 
 /// Sets a view as it is at first.
 #[unsafe(no_mangle)]
-pub extern "C" fn gfx_reset_view(alloc: Global, context: &mut Slot, view: u16) -> u32
+pub extern "C" fn vgfx_reset_view(alloc: Global, context: &mut Slot, view: u16) -> u32
     ensures { OnContext context.old.value context.new.value result (λ r c d. ChangesHere r (model.reset_view view) c d) ⊤ }
 {
     let Some(mut object) = take(context, alloc) else {

@@ -11,7 +11,7 @@ ghost use Rattle.c_words.specs.Things.{row_of_word};
 ghost use Rattle.c_words.specs.Layouts.{parts_of};
 
 use crate::context::Context;
-use c_words::{Fault, Part, layout_of};
+use c_words::{Fault, Part, format_of, layout_of, program_of, uniform_kind_of};
 use gfx_words::{Format, Handle, ProgramKind, Refusal, TexSource, UniformKind};
 use std::alloc::{AllocError, Global};
 use vertex_layout::VertexLayout;
@@ -151,13 +151,13 @@ impl Context {
         &mut self,
         width: u16,
         height: u16,
-        format: u8,
+        format: u32,
         blit_dst: bool,
         bytes: &[u8],
     ) -> Result<Handle, Fault>
         ensures { MatchOption (format_of_number format) ((result ≡ Err faults.BadValue) × (self.new ≡ self.old)) (λ f. CreatesOrWants result (model.create_texture width height f blit_dst (model.bytes_source bytes.now)) self.old self.new) }
     {
-        let Some(format) = Format::of_number(format) else {
+        let Some(format) = format_of(format) else {
             return Err(Fault::BadValue);
         };
         let Ok(copy) = copied(self.alloc, bytes) else {
@@ -177,13 +177,13 @@ impl Context {
         &mut self,
         width: u16,
         height: u16,
-        format: u8,
+        format: u32,
         blit_dst: bool,
         texel: [u8; 4],
     ) -> Result<Handle, Fault>
         ensures { MatchOption (format_of_number format) ((result ≡ Err faults.BadValue) × (self.new ≡ self.old)) (λ f. CreatesHere result (model.create_texture width height f blit_dst (model.fill_source texel)) self.old self.new) }
     {
-        let Some(format) = Format::of_number(format) else {
+        let Some(format) = format_of(format) else {
             return Err(Fault::BadValue);
         };
         let of = TextureForm {
@@ -210,10 +210,10 @@ impl Context {
     }
 
     /// Makes a program of a number from 0 to 3; else `BadValue`. `Full`, `SerialsSpent`.
-    pub(crate) fn create_program(&mut self, program: u8) -> Result<Handle, Fault>
+    pub(crate) fn create_program(&mut self, program: u32) -> Result<Handle, Fault>
         ensures { MatchOption (program_of_number program) ((result ≡ Err faults.BadValue) × (self.new ≡ self.old)) (λ k. CreatesHere result (model.create_program k) self.old self.new) }
     {
-        match ProgramKind::of_number(program) {
+        match program_of(program) {
             None => Err(Fault::BadValue),
             Some(kind) => self.make_program(kind),
         }
@@ -221,10 +221,10 @@ impl Context {
 
     /// Makes a uniform of a kind 0 or 1, or refers to the live one of its name once more. `BadValue`; `BadSize`, `WrongKind`, `Full`,
     /// `SerialsSpent`.
-    pub(crate) fn create_uniform(&mut self, name: &[u8], kind: u8) -> Result<Handle, Fault>
+    pub(crate) fn create_uniform(&mut self, name: &[u8], kind: u32) -> Result<Handle, Fault>
         ensures { MatchOption (uniform_of_number kind) ((result ≡ Err faults.BadValue) × (self.new ≡ self.old)) (λ k. CreatesHere result (model.create_uniform name.now k) self.old self.new) }
     {
-        match UniformKind::of_number(kind) {
+        match uniform_kind_of(kind) {
             None => Err(Fault::BadValue),
             Some(kind) => self.make_uniform(name, kind),
         }

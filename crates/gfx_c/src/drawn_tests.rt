@@ -1,21 +1,24 @@
 // Pictures of what exports record, and what no clause says: that each call which takes memory is done where there is some, and that what an
 // encoder ended with is found as it was recorded.
-use crate::c_context::{gfx_begin, gfx_collect, gfx_init, gfx_shutdown};
+use crate::c_context::{vgfx_collect, vgfx_encoder_begin, vgfx_init, vgfx_shutdown};
 use crate::c_creates::{
-    gfx_create_filled_texture, gfx_create_frame_buffer, gfx_create_index_buffer, gfx_create_layout,
-    gfx_create_program, gfx_create_texture, gfx_create_uniform, gfx_create_vertex_buffer,
+    vgfx_create_filled_texture, vgfx_create_frame_buffer, vgfx_create_index_buffer,
+    vgfx_create_layout, vgfx_create_program, vgfx_create_texture, vgfx_create_uniform,
+    vgfx_create_vertex_buffer,
 };
-use crate::c_encoder::{gfx_drop, gfx_end};
-use crate::c_frame::gfx_frame;
+use crate::c_encoder::{vgfx_encoder_drop, vgfx_encoder_end};
+use crate::c_frame::vgfx_frame;
 use crate::c_recording::{
-    gfx_blit, gfx_set_indices, gfx_set_int, gfx_set_scissor, gfx_set_state, gfx_set_stencil,
-    gfx_set_texture, gfx_set_transform, gfx_set_transient_indices, gfx_set_transient_vertices,
-    gfx_set_vec4, gfx_set_vertices, gfx_submit, gfx_touch,
+    vgfx_encoder_blit, vgfx_encoder_set_indices, vgfx_encoder_set_int, vgfx_encoder_set_scissor,
+    vgfx_encoder_set_state, vgfx_encoder_set_stencil, vgfx_encoder_set_texture,
+    vgfx_encoder_set_transform, vgfx_encoder_set_transient_indices,
+    vgfx_encoder_set_transient_vertices, vgfx_encoder_set_vec4, vgfx_encoder_set_vertices,
+    vgfx_encoder_submit, vgfx_encoder_touch,
 };
-use crate::c_updates::{gfx_destroy, gfx_update_buffer, gfx_update_texture};
+use crate::c_updates::{vgfx_destroy, vgfx_update_buffer, vgfx_update_texture};
 use crate::c_views::{
-    gfx_reset_view, gfx_set_view_clear, gfx_set_view_mode, gfx_set_view_order, gfx_set_view_rect,
-    gfx_set_view_scissor, gfx_set_view_target, gfx_set_view_transform,
+    vgfx_reset_view, vgfx_set_view_clear, vgfx_set_view_mode, vgfx_set_view_order,
+    vgfx_set_view_rect, vgfx_set_view_scissor, vgfx_set_view_target, vgfx_set_view_transform,
 };
 use crate::frame::Framed;
 use crate::slot::Slot;
@@ -56,21 +59,21 @@ struct Solid {
 
 // Makes it, and answers 0 where all was done.
 fn make_solid(alloc: Global, context: &mut Slot, of: &mut Solid) -> u32 {
-    gfx_create_layout(alloc, context, &CORNER, &mut of.layout)
-        | gfx_create_uniform(alloc, context, b"u_color", 0, &mut of.color)
-        | gfx_create_program(alloc, context, 0, &mut of.program)
+    vgfx_create_layout(alloc, context, &CORNER, &mut of.layout)
+        | vgfx_create_uniform(alloc, context, b"u_color", 0, &mut of.color)
+        | vgfx_create_program(alloc, context, 0, &mut of.program)
 }
 
 // Begins an encoder that draws its pixel of a row in a red of its own, and ends it. Answers 0 where all was done.
 fn draw_pixel(alloc: Global, context: &mut Slot, of: Solid, number: u8) -> u32 {
     let mut encoder = Slot::none(alloc);
     let red = number as i32 * 8224;
-    gfx_begin(alloc, context, &mut encoder, 1, 24, 1)
-        | gfx_set_scissor(alloc, &mut encoder, number as u16, 0, 1, 1)
-        | gfx_set_vec4(alloc, &mut encoder, of.color, red, 0, 0, 65536)
-        | gfx_set_transient_vertices(alloc, &mut encoder, of.layout, &COVER)
-        | gfx_submit(alloc, &mut encoder, 0, of.program, 0, 255)
-        | gfx_end(alloc, &mut encoder, 5)
+    vgfx_encoder_begin(alloc, context, &mut encoder, 1, 24, 1)
+        | vgfx_encoder_set_scissor(alloc, &mut encoder, number as u16, 0, 1, 1)
+        | vgfx_encoder_set_vec4(alloc, &mut encoder, of.color, red, 0, 0, 65536)
+        | vgfx_encoder_set_transient_vertices(alloc, &mut encoder, of.layout, &COVER)
+        | vgfx_encoder_submit(alloc, &mut encoder, 0, of.program, 0, 255)
+        | vgfx_encoder_end(alloc, &mut encoder, 5)
 }
 
 // Eight encoders draw a pixel each. Answers 0 where all was done.
@@ -100,21 +103,24 @@ fn eight_encoders_of_two_frames(rt: HostRuntime) -> Result<(), Fail> {
     let mut picture = vec![in alloc; 7u8; 41]?;
     assert_eq!(rt;
         first_wrong(&[
-            (gfx_init(alloc, &mut context, 8, 1), 0),
-            (gfx_init(alloc, &mut other, 8, 1), 0),
-            (gfx_begin(alloc, &mut other, &mut encoder, 1, 0, 0), 0),
+            (vgfx_init(alloc, &mut context, 8, 1), 0),
+            (vgfx_init(alloc, &mut other, 8, 1), 0),
+            (
+                vgfx_encoder_begin(alloc, &mut other, &mut encoder, 1, 0, 0),
+                0
+            ),
             (make_solid(alloc, &mut context, &mut of), 0),
             (draw_row(alloc, &mut context, of), 0),
             (draw_pixel(alloc, &mut context, of, 8), 111),
-            (gfx_collect(alloc, &mut other, &mut off), 0),
+            (vgfx_collect(alloc, &mut other, &mut off), 0),
         ]),
         None
     );
     assert_eq!(rt; off, 1);
-    assert_eq!(rt; gfx_collect(alloc, &mut context, &mut off), 0);
+    assert_eq!(rt; vgfx_collect(alloc, &mut context, &mut off), 0);
     assert_eq!(rt; off, 0);
     assert_eq!(rt;
-        gfx_frame(alloc, &mut context, &mut picture, &mut framed),
+        vgfx_frame(alloc, &mut context, &mut picture, &mut framed),
         0
     );
     assert_eq!(rt;
@@ -128,7 +134,10 @@ fn eight_encoders_of_two_frames(rt: HostRuntime) -> Result<(), Fail> {
     assert_eq!(rt;
         first_wrong(&[
             (draw_row(alloc, &mut context, of), 0),
-            (gfx_frame(alloc, &mut context, &mut picture, &mut framed), 0),
+            (
+                vgfx_frame(alloc, &mut context, &mut picture, &mut framed),
+                0
+            ),
         ]),
         None
     );
@@ -142,9 +151,9 @@ fn eight_encoders_of_two_frames(rt: HostRuntime) -> Result<(), Fail> {
     );
     assert_eq!(rt;
         first_wrong(&[
-            (gfx_shutdown(alloc, &mut other), 0),
-            (gfx_end(alloc, &mut encoder, 0), 0),
-            (gfx_shutdown(alloc, &mut context), 0),
+            (vgfx_shutdown(alloc, &mut other), 0),
+            (vgfx_encoder_end(alloc, &mut encoder, 0), 0),
+            (vgfx_shutdown(alloc, &mut context), 0),
         ]),
         None
     );
@@ -164,69 +173,96 @@ fn a_sampled_picture(rt: HostRuntime) -> Result<(), Fail> {
     let mut picture = vec![in alloc; 0u8; 20]?;
     assert_eq!(rt;
         first_wrong(&[
-            (gfx_init(alloc, &mut context, 1, 1), 0),
+            (vgfx_init(alloc, &mut context, 1, 1), 0),
             (
-                gfx_create_layout(alloc, &mut context, &CORNER, &mut layout),
+                vgfx_create_layout(alloc, &mut context, &CORNER, &mut layout),
                 0
             ),
             (
-                gfx_create_vertex_buffer(alloc, &mut context, layout, &[0u8; 24], &mut corners),
+                vgfx_create_vertex_buffer(alloc, &mut context, layout, &[0u8; 24], &mut corners),
                 0
             ),
             (
-                gfx_update_buffer(alloc, &mut context, corners, 0, &COVER),
+                vgfx_update_buffer(alloc, &mut context, corners, 0, &COVER),
                 0
             ),
             (
-                gfx_create_index_buffer(alloc, &mut context, &[0u8, 0, 1, 0, 2, 0], &mut indices),
+                vgfx_create_index_buffer(alloc, &mut context, &[0u8, 0, 1, 0, 2, 0], &mut indices),
                 0
             ),
             (
-                gfx_create_uniform(alloc, &mut context, b"s_tex", 1, &mut stage),
+                vgfx_create_uniform(alloc, &mut context, b"s_tex", 1, &mut stage),
                 0
             ),
-            (gfx_create_program(alloc, &mut context, 2, &mut program), 0),
+            (vgfx_create_program(alloc, &mut context, 2, &mut program), 0),
             (
-                gfx_create_texture(alloc, &mut context, 1, 1, 0, 1, &[1u8, 2, 3, 4], &mut to),
-                0
-            ),
-            (
-                gfx_create_filled_texture(alloc, &mut context, 1, 1, 0, 0, 5, 6, 7, 8, &mut from),
+                vgfx_create_texture(alloc, &mut context, 1, 1, 0, 1, &[1u8, 2, 3, 4], &mut to),
                 0
             ),
             (
-                gfx_update_texture(alloc, &mut context, from, 0, 0, 1, 1, b"abcd"),
+                vgfx_create_filled_texture(alloc, &mut context, 1, 1, 0, 0, 5, 6, 7, 8, &mut from),
                 0
             ),
-            (gfx_begin(alloc, &mut context, &mut encoder, 3, 6, 1), 0),
             (
-                gfx_blit(alloc, &mut encoder, 0, from, 0, 0, to, 0, 0, 1, 1),
+                vgfx_update_texture(alloc, &mut context, from, 0, 0, 1, 1, b"abcd"),
+                0
+            ),
+            (
+                vgfx_encoder_begin(alloc, &mut context, &mut encoder, 3, 6, 1),
+                0
+            ),
+            (
+                vgfx_encoder_blit(alloc, &mut encoder, 0, from, 0, 0, to, 0, 0, 1, 1),
                 5
             ),
             (
-                gfx_blit(alloc, &mut encoder, 0, to, 0, 0, from, 0, 0, 1, 1),
+                vgfx_encoder_blit(alloc, &mut encoder, 0, to, 0, 0, from, 0, 0, 1, 1),
                 0
             ),
-            (gfx_set_state(alloc, &mut encoder, 256), 16),
-            (gfx_set_state(alloc, &mut encoder, 15), 0),
-            (gfx_set_stencil(alloc, &mut encoder, 0, 0), 0),
+            (vgfx_encoder_set_state(alloc, &mut encoder, 256), 16),
+            (vgfx_encoder_set_state(alloc, &mut encoder, 15), 0),
+            (vgfx_encoder_set_stencil(alloc, &mut encoder, 0, 0), 0),
         ]),
         None
     );
     assert_eq!(rt;
         first_wrong(&[
-            (gfx_set_transform(alloc, &mut encoder, &IDENTITY), 0),
-            (gfx_set_vertices(alloc, &mut encoder, corners, 0, 3), 0),
-            (gfx_set_indices(alloc, &mut encoder, corners, 0, 3), 6),
-            (gfx_set_transient_indices(alloc, &mut encoder, &[0u8; 6]), 0),
-            (gfx_set_transient_indices(alloc, &mut encoder, &[0u8]), 9),
-            (gfx_set_indices(alloc, &mut encoder, indices, 0, 3), 0),
-            (gfx_set_texture(alloc, &mut encoder, 2, to), 3),
-            (gfx_set_texture(alloc, &mut encoder, 1, to), 0),
-            (gfx_set_int(alloc, &mut encoder, stage, 1), 0),
-            (gfx_submit(alloc, &mut encoder, 0, program, 0, 255), 0),
-            (gfx_end(alloc, &mut encoder, 0), 0),
-            (gfx_frame(alloc, &mut context, &mut picture, &mut framed), 0),
+            (
+                vgfx_encoder_set_transform(alloc, &mut encoder, &IDENTITY),
+                0
+            ),
+            (
+                vgfx_encoder_set_vertices(alloc, &mut encoder, corners, 0, 3),
+                0
+            ),
+            (
+                vgfx_encoder_set_indices(alloc, &mut encoder, corners, 0, 3),
+                6
+            ),
+            (
+                vgfx_encoder_set_transient_indices(alloc, &mut encoder, &[0u8; 6]),
+                0
+            ),
+            (
+                vgfx_encoder_set_transient_indices(alloc, &mut encoder, &[0u8]),
+                9
+            ),
+            (
+                vgfx_encoder_set_indices(alloc, &mut encoder, indices, 0, 3),
+                0
+            ),
+            (vgfx_encoder_set_texture(alloc, &mut encoder, 2, to), 3),
+            (vgfx_encoder_set_texture(alloc, &mut encoder, 1, to), 0),
+            (vgfx_encoder_set_int(alloc, &mut encoder, stage, 1), 0),
+            (
+                vgfx_encoder_submit(alloc, &mut encoder, 0, program, 0, 255),
+                0
+            ),
+            (vgfx_encoder_end(alloc, &mut encoder, 0), 0),
+            (
+                vgfx_frame(alloc, &mut context, &mut picture, &mut framed),
+                0
+            ),
         ]),
         None
     );
@@ -246,58 +282,70 @@ fn a_view_before_another(rt: HostRuntime) -> Result<(), Fail> {
     let mut picture = vec![in alloc; 0u8; 20]?;
     assert_eq!(rt;
         first_wrong(&[
-            (gfx_init(alloc, &mut context, 1, 1), 0),
+            (vgfx_init(alloc, &mut context, 1, 1), 0),
             (
-                gfx_create_layout(alloc, &mut context, &CORNER, &mut layout),
+                vgfx_create_layout(alloc, &mut context, &CORNER, &mut layout),
                 0
             ),
-            (gfx_create_program(alloc, &mut context, 2, &mut program), 0),
+            (vgfx_create_program(alloc, &mut context, 2, &mut program), 0),
             (
-                gfx_create_filled_texture(alloc, &mut context, 1, 1, 0, 0, 0, 0, 0, 0, &mut color),
-                0
-            ),
-            (
-                gfx_create_filled_texture(alloc, &mut context, 1, 1, 1, 0, 0, 0, 0, 0, &mut depth),
+                vgfx_create_filled_texture(alloc, &mut context, 1, 1, 0, 0, 0, 0, 0, 0, &mut color),
                 0
             ),
             (
-                gfx_create_frame_buffer(alloc, &mut context, color, depth, &mut target),
-                0
-            ),
-            (gfx_destroy(alloc, &mut context, color), 7),
-            (gfx_set_view_target(alloc, &mut context, 1, color), 6),
-            (gfx_set_view_target(alloc, &mut context, 1, target), 0),
-            (
-                gfx_set_view_clear(alloc, &mut context, 1, 1, 97, 98, 99, 255, 0, 0),
+                vgfx_create_filled_texture(alloc, &mut context, 1, 1, 1, 0, 0, 0, 0, 0, &mut depth),
                 0
             ),
             (
-                gfx_set_view_clear(alloc, &mut context, 1, 8, 0, 0, 0, 0, 0, 0),
+                vgfx_create_frame_buffer(alloc, &mut context, color, depth, &mut target),
+                0
+            ),
+            (vgfx_destroy(alloc, &mut context, color), 7),
+            (vgfx_set_view_target(alloc, &mut context, 1, color), 6),
+            (vgfx_set_view_target(alloc, &mut context, 1, target), 0),
+            (
+                vgfx_set_view_clear(alloc, &mut context, 1, 1, 97, 98, 99, 255, 0, 0),
+                0
+            ),
+            (
+                vgfx_set_view_clear(alloc, &mut context, 1, 8, 0, 0, 0, 0, 0, 0),
                 16
             ),
-            (gfx_set_view_order(alloc, &mut context, &[1u16, 1]), 3),
-            (gfx_set_view_order(alloc, &mut context, &[1u16, 0]), 0),
-            (gfx_set_view_rect(alloc, &mut context, 0, 0, 0, 0, 0), 0),
-            (gfx_set_view_scissor(alloc, &mut context, 0, 0, 0, 0, 0), 0),
-            (gfx_set_view_mode(alloc, &mut context, 0, 4), 104),
+            (vgfx_set_view_order(alloc, &mut context, &[1u16, 1]), 3),
+            (vgfx_set_view_order(alloc, &mut context, &[1u16, 0]), 0),
+            (vgfx_set_view_rect(alloc, &mut context, 0, 0, 0, 0, 0), 0),
+            (vgfx_set_view_scissor(alloc, &mut context, 0, 0, 0, 0, 0), 0),
+            (vgfx_set_view_mode(alloc, &mut context, 0, 4), 104),
         ]),
         None
     );
     assert_eq!(rt;
         first_wrong(&[
-            (gfx_set_view_mode(alloc, &mut context, 0, 1), 0),
-            (gfx_set_view_transform(alloc, &mut context, 0, &IDENTITY), 0),
-            (gfx_reset_view(alloc, &mut context, 511), 0),
-            (gfx_begin(alloc, &mut context, &mut encoder, 2, 24, 0), 0),
-            (gfx_set_texture(alloc, &mut encoder, 0, color), 0),
+            (vgfx_set_view_mode(alloc, &mut context, 0, 1), 0),
             (
-                gfx_set_transient_vertices(alloc, &mut encoder, layout, &COVER),
+                vgfx_set_view_transform(alloc, &mut context, 0, &IDENTITY),
                 0
             ),
-            (gfx_submit(alloc, &mut encoder, 0, program, 0, 255), 0),
-            (gfx_touch(alloc, &mut encoder, 1), 0),
-            (gfx_end(alloc, &mut encoder, 0), 0),
-            (gfx_frame(alloc, &mut context, &mut picture, &mut framed), 0),
+            (vgfx_reset_view(alloc, &mut context, 511), 0),
+            (
+                vgfx_encoder_begin(alloc, &mut context, &mut encoder, 2, 24, 0),
+                0
+            ),
+            (vgfx_encoder_set_texture(alloc, &mut encoder, 0, color), 0),
+            (
+                vgfx_encoder_set_transient_vertices(alloc, &mut encoder, layout, &COVER),
+                0
+            ),
+            (
+                vgfx_encoder_submit(alloc, &mut encoder, 0, program, 0, 255),
+                0
+            ),
+            (vgfx_encoder_touch(alloc, &mut encoder, 1), 0),
+            (vgfx_encoder_end(alloc, &mut encoder, 0), 0),
+            (
+                vgfx_frame(alloc, &mut context, &mut picture, &mut framed),
+                0
+            ),
         ]),
         None
     );
@@ -316,20 +364,23 @@ fn an_encoder_given_up(rt: HostRuntime) -> Result<(), Fail> {
     let mut picture = vec![in alloc; 7u8; 20]?;
     assert_eq!(rt;
         first_wrong(&[
-            (gfx_init(alloc, &mut context, 1, 1), 0),
-            (gfx_begin(alloc, &mut context, &mut encoder, 1, 0, 0), 0),
-            (gfx_drop(alloc, &mut encoder), 0),
-            (gfx_drop(alloc, &mut encoder), 100),
-            (gfx_collect(alloc, &mut context, &mut off), 0),
+            (vgfx_init(alloc, &mut context, 1, 1), 0),
+            (
+                vgfx_encoder_begin(alloc, &mut context, &mut encoder, 1, 0, 0),
+                0
+            ),
+            (vgfx_encoder_drop(alloc, &mut encoder), 0),
+            (vgfx_encoder_drop(alloc, &mut encoder), 100),
+            (vgfx_collect(alloc, &mut context, &mut off), 0),
         ]),
         None
     );
     assert_eq!(rt; off, 1);
     assert_eq!(rt;
-        gfx_frame(alloc, &mut context, &mut picture, &mut framed),
+        vgfx_frame(alloc, &mut context, &mut picture, &mut framed),
         101
     );
     assert_eq!(rt; picture[..3], b"\x07\x07\x07"[..]);
-    assert_eq!(rt; gfx_shutdown(alloc, &mut context), 0);
+    assert_eq!(rt; vgfx_shutdown(alloc, &mut context), 0);
     Ok(())
 }

@@ -7,6 +7,7 @@ ghost use Rattle.context_core.specs.States.{CoreView};
 ghost use Rattle.render_core.specs.Outcomes.{is_shown};
 ghost use Rattle.render_core.specs.Rendered.{IsRendered};
 ghost use Rattle.gfx_c.specs.Frames.{MakesFrame, Shows, Delivers, FramesHere, HandsOut, emptied, fault_of, came_back};
+ghost use Rattle.gfx_c.specs.Views.{ContextView};
 ghost use Rattle.gfx_c.specs.Rendered.{rendering_of};
 
 use crate::context::Context;
@@ -38,25 +39,6 @@ fn not_made(cause: NotReady) -> Fault
     }
 }
 
-// Ends a frame that is ready, while none is out: it is made, and comes back at once.
-fn finish(core: &mut ContextCore, table: &HoldTable, prepared: Prepared) -> Frame
-    requires running { core.old.state.is_ended ≡ false }
-    requires table { core.old.table ≡ table_of table.now }
-    requires none_out { core.old.state.out ≡ 0 }
-    requires ready { (mid : CoreView) × IsReady prepared mid core.old }
-    ensures { (made : CoreView) × Gives prepared.work result core.old made × (core.new ≡ came_back made) }
-{
-    core.tell_facts();
-    let FrameEnd { frame, journal: _ } = core.finish(table, prepared, true);
-    match frame {
-        Some(frame) => {
-            core.came_back(&frame);
-            frame
-        }
-        None => unreachable!(),
-    }
-}
-
 // Renders a frame into the sink, which is emptied before.
 fn render(renderer: &mut Renderer<PictureSink>, frame: Frame) -> RenderedFrame
     ensures frame { result.frame ≡ frame }
@@ -65,6 +47,35 @@ fn render(renderer: &mut Renderer<PictureSink>, frame: Frame) -> RenderedFrame
 {
     renderer.sink_mut().clear();
     renderer.render(&mut SerialRasterizer, frame)
+}
+
+// Ends a frame that is ready, while none is out: it is made and rendered, then the next one starts, and it is out no longer.
+fn finish(
+    core: &mut ContextCore,
+    table: &HoldTable,
+    renderer: &mut Renderer<PictureSink>,
+    prepared: Prepared,
+) -> RenderedFrame
+    requires running { core.old.state.is_ended ≡ false }
+    requires not_given { core.old.state.is_given ≡ false }
+    requires table { core.old.table ≡ table_of table.now }
+    requires none_out { core.old.state.out ≡ 0 }
+    requires ready { (mid : CoreView) × IsReady prepared mid core.old }
+    ensures made { (made : CoreView) × Gives prepared.work result.frame core.old made × (core.new ≡ came_back made) }
+    ensures rendered { IsRendered (emptied (rendering_of renderer.old)) result (rendering_of renderer.new) }
+    ensures capacity { renderer.new.sink.capacity ≡ renderer.old.sink.capacity }
+{
+    core.tell_facts();
+    let FrameEnd { frame, journal: _ } = core.make(prepared, true);
+    match frame {
+        Some(frame) => {
+            let rendered = render(renderer, frame);
+            core.start_next(table);
+            core.came_back(&rendered.frame);
+            rendered
+        }
+        None => unreachable!(),
+    }
 }
 
 fn was_shown(outcome: &Outcome) -> bool
@@ -97,16 +108,25 @@ impl Context {
         self.core.prepare()
     }
 
-    fn finish(&mut self, prepared: Prepared) -> Frame
+    // Makes the frame of what was prepared, renders it, and starts the next one. The answer is its number.
+    fn finish(&mut self, prepared: Prepared) -> u32
         requires running { self.old.core.state.is_ended ≡ false }
         requires ready { (mid : CoreView) × IsReady prepared mid self.old.core }
-        ensures { (made : CoreView) × Gives prepared.work result self.old.core made × (self.new ≡ record self.old { core = came_back made }) }
+        ensures { (frame : Frame) × (made : CoreView) × (result ≡ frame.number) × Gives prepared.work frame self.old.core made × Shows frame (record self.old { core = came_back made }) self.new }
     {
-        finish(&mut self.core, &self.shared.table, prepared)
+        let rendered = finish(
+            &mut self.core,
+            &self.shared.table,
+            &mut self.renderer,
+            prepared,
+        );
+        self.is_shown = was_shown(&rendered.outcome);
+        rendered.frame.number
     }
 
-    // Makes a frame of what has come. The context is not ended.
-    fn make(&mut self) -> Result<(Frame, u64), Fault>
+    // Makes a frame of what has come, and renders it. The context is not ended. The answer is its number, and the sum of the numbers
+    // that its encoders ended with.
+    fn make(&mut self) -> Result<(u32, u64), Fault>
         requires { self.old.core.state.is_ended ≡ false }
         ensures { MakesFrame result self.old self.new }
     {
@@ -116,14 +136,6 @@ impl Context {
             Err(cause) => Err(not_made(cause)),
             Ok(prepared) => Ok((self.finish(prepared), dropped)),
         }
-    }
-
-    // Renders a frame.
-    fn show(&mut self, frame: Frame)
-        ensures { Shows frame self.old self.new }
-    {
-        let rendered = render(&mut self.renderer, frame);
-        self.is_shown = was_shown(&rendered.outcome);
     }
 
     fn is_shown(&self) -> bool
@@ -142,13 +154,11 @@ impl Context {
         text.len()
     }
 
-    // Renders a frame, and hands its picture out.
-    fn deliver(&mut self, frame: Frame, dropped: u64, buffer: &mut [u8]) -> Result<Framed, Fault>
-        requires { self.old.most ≤ length buffer.old }
-        ensures { Delivers result frame dropped buffer.old buffer.new self.old self.new }
+    // Hands out the picture of a frame that was rendered, where it was shown.
+    fn deliver(&self, number: u32, dropped: u64, buffer: &mut [u8]) -> Result<Framed, Fault>
+        requires { self.now.most ≤ length buffer.old }
+        ensures { (frame : Frame) (before : ContextView) → number ≡ frame.number → Shows frame before self.now → Delivers result frame dropped buffer.old buffer.new before self.now }
     {
-        let number = frame.number;
-        self.show(frame);
         if !self.is_shown() {
             return Err(Fault::Refused(Refusal::OutOfMemory));
         }
@@ -173,7 +183,7 @@ impl Context {
         }
         match self.make() {
             Err(fault) => Err(fault),
-            Ok((frame, dropped)) => self.deliver(frame, dropped, buffer),
+            Ok((number, dropped)) => self.deliver(number, dropped, buffer),
         }
     }
 }

@@ -2,7 +2,7 @@
 //! one library.
 //!
 //! A handle of C is a `Slot`: null, or an object. Each export's contract is that of the call that it stands for, on the values of
-//! its handles, and each answers 0 or the number of a `Fault`. What C owes is written in docs/from-c.md.
+//! its handles, and each answers 0 or the number of a `Fault`. What C owes is written in docs/use/from-c.md.
 #![tactic(auto)]
 
 mod begin;
@@ -13,6 +13,7 @@ mod c_frame;
 mod c_play;
 mod c_recording;
 mod c_updates;
+mod c_version;
 mod c_views;
 mod context;
 mod creates;

@@ -1,5 +1,5 @@
 // Scenes as text, as C plays them.
-use crate::c_play::gfx_play;
+use crate::c_play::vgfx_play;
 use crate::playing::Played;
 use std::test::Fail;
 
@@ -43,7 +43,7 @@ fn a_scene_is_played(rt: HostRuntime) -> Result<(), Fail> {
     let mut pictures = vec![in alloc; 9u8; 30]?;
     let mut report = vec![in alloc; 9u8; 53]?;
     let mut played = BEFORE;
-    let status = gfx_play(alloc, TWO_FRAMES, &mut pictures, &mut report, &mut played);
+    let status = vgfx_play(alloc, TWO_FRAMES, &mut pictures, &mut report, &mut played);
     assert_eq!(rt; status, 0);
     assert_eq!(rt; told(&played), (28, 52, 0, 0));
     assert!(rt; pictures.as_slice().starts_with(TWO_PICTURES));
@@ -60,7 +60,7 @@ fn a_buffer_is_too_small(rt: HostRuntime) -> Result<(), Fail> {
         let mut pictures = vec![in alloc; 9u8; pictures]?;
         let mut report = vec![in alloc; 9u8; report]?;
         let mut played = BEFORE;
-        let status = gfx_play(alloc, TWO_FRAMES, &mut pictures, &mut report, &mut played);
+        let status = vgfx_play(alloc, TWO_FRAMES, &mut pictures, &mut report, &mut played);
         assert_eq!(rt; status, 103);
         assert_eq!(rt; told(&played), (28, 52, 0, 0));
         assert!(rt; pictures.iter().all(|byte| *byte == 9));
@@ -76,11 +76,11 @@ fn no_scene(rt: HostRuntime) -> Result<(), Fail> {
     let mut report = vec![in alloc; 9u8; 60]?;
     let mut played = BEFORE;
     let text = b"scene 1\nsize 1 x\n";
-    let status = gfx_play(alloc, text, &mut pictures, &mut report, &mut played);
+    let status = vgfx_play(alloc, text, &mut pictures, &mut report, &mut played);
     assert_eq!(rt; status, 106);
     assert_eq!(rt; told(&played), (0, 0, 2, 6));
     let long = vec![in alloc; 0u8; 16_777_217]?;
-    let status = gfx_play(alloc, &long, &mut pictures, &mut report, &mut played);
+    let status = vgfx_play(alloc, &long, &mut pictures, &mut report, &mut played);
     assert_eq!(rt; status, 107);
     assert_eq!(rt; told(&played), (0, 0, 2, 6));
     assert!(rt; pictures.iter().all(|byte| *byte == 9));

@@ -48,7 +48,7 @@ impl Context {
     }
 
     /// Sets how a view orders its draws and touches, by a number from 0 to 3; else `BadValue`.
-    pub(crate) fn set_view_mode(&mut self, view: u16, mode: u8) -> Result<(), Fault>
+    pub(crate) fn set_view_mode(&mut self, view: u16, mode: u32) -> Result<(), Fault>
         ensures { MatchOption (mode_of_number mode) ((result ≡ Err faults.BadValue) × (self.new ≡ self.old)) (λ m. ChangesHere result (model.set_view_mode view m) self.old self.new) }
     {
         match mode_of(mode) {

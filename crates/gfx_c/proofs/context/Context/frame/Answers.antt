@@ -18,7 +18,8 @@ pub deliver-requires : goal.deliver-requires
 deliver-requires c =
     let enough = c.if-buffer-most.false in
     let most = c.most.ensures in
-    enough_still c.in-Ok.frame c.in-Ok.dropped c.args.buffer.now c.args.buffer.now c.args.self.now c.make.new.self c.make.new.self (sym c.is_ended.ensures ∙ c.if-is_ended.false) (omega (arith, enough, most)) c.in-Ok.ensures
+    let m = c.in-Ok.ensures in
+    enough_still m.1 c.in-Ok.dropped c.args.buffer.now c.args.buffer.now c.args.self.now m.0 c.make.new.self (sym c.is_ended.ensures ∙ c.if-is_ended.false) (omega (arith, enough, most)) m.3 m.4
 
 pub returns-in-Err : goal.returns-in-Err
 returns-in-Err c =
@@ -30,4 +31,5 @@ pub returns-in-Ok : goal.returns-in-Ok
 returns-in-Ok c =
     let enough = c.if-buffer-most.false in
     let most = c.most.ensures in
-    delivered_told c.in-Ok.frame c.in-Ok.dropped c.args.buffer.now c.deliver.new.buffer c.args.self.now c.make.new.self c.deliver.new.self (sym c.is_ended.ensures ∙ c.if-is_ended.false) (omega (arith, enough, most)) c.in-Ok.ensures c.deliver.result c.deliver.ensures
+    let m = c.in-Ok.ensures in
+    delivered_told m.1 c.in-Ok.dropped c.args.buffer.now c.deliver.new.buffer c.args.self.now m.0 c.make.new.self (sym c.is_ended.ensures ∙ c.if-is_ended.false) (omega (arith, enough, most)) m.3 c.deliver.result (c.deliver.ensures m.1 m.0 m.2 m.4)

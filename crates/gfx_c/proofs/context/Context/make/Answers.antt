@@ -1,5 +1,6 @@
-use Rattle.std.proofs.Common.{◌∙◌}
+use Rattle.std.proofs.Common.{◌∙◌, refl}
 use Rattle.gfx_c.specs.Frames.{came_back}
+use Rattle.gfx_c.specs.Views.{ContextView}
 use Rattle.gfx_c.proofs.Frames.{runs_still}
 use Rattle.gfx_c.proofs.On.{gathered_running}
 use Rattle.gfx_c.proofs.context.Context.make.Goals as goal
@@ -27,14 +28,20 @@ pub returns-in-Ok : goal.returns-in-Ok
 returns-in-Ok c =
     let e = c.collect.ensures in
     let f = c.finish.ensures in
-    record {
-      mid = c.collect.new.self.core;
-      gathers = e.0;
-      dropped_is = c.dropped-dropped.ensures;
-      prepared = c.in-Ok.prepared;
-      ready = c.prepare.new.self.core;
-      made = f.0;
-      is_ready = c.in-Ok.ensures.prepares;
-      gives = f.1;
-      after = f.2 ∙ (λ j. record (c.in-Ok.ensures.same j) { core = came_back f.0 }) ∙ (λ j. record (e.2 j) { core = came_back f.0 });
-    }
+    let mid : ContextView = record c.prepare.new.self { core = came_back f.1 } in (
+      mid,
+      f.0,
+      f.2,
+      record {
+        mid = c.collect.new.self.core;
+        gathers = e.0;
+        dropped_is = c.dropped-dropped.ensures;
+        prepared = c.in-Ok.prepared;
+        ready = c.prepare.new.self.core;
+        made = f.1;
+        is_ready = c.in-Ok.ensures.prepares;
+        gives = f.3;
+        after = (λ j. record (c.in-Ok.ensures.same j) { core = came_back f.1 }) ∙ (λ j. record (e.2 j) { core = came_back f.1 });
+      },
+      f.4,
+    )

@@ -1,7 +1,7 @@
 use Rattle.std.proofs.Common.{inl, Err, ◌∙◌}
 use Rattle.gfx_words.specs.declared.refusals.Refusal.TheVariants as refusals
 use Rattle.c_words.specs.declared.faults.Fault.TheVariants as faults
-use Rattle.gfx_c.proofs.c_context.gfx_init.Goals as goal
+use Rattle.gfx_c.proofs.c_context.vgfx_init.Goals as goal
 
 pub returns-in_default : goal.returns-in_default
 returns-in_default c =
