@@ -10,7 +10,7 @@ use Rattle.gfx_model.specs.World.{Content, World, Item, FrameContent, frame_step
 use Rattle.gfx_model.specs.Resources.{Resources, ResourceCall, start_frame, deaths_in, opening}
 use Rattle.store_laws.specs.ByIndex.{FrameData, first_stores}
 use Rattle.store_laws.specs.Says.{left, made_none, died_none}
-use Rattle.store_laws.specs.Run.{empty_world, pictures_by_index, pictures_of}
+use Rattle.store_laws.specs.Run.{Frames, empty_world, pictures_by_index, pictures_of}
 use Rattle.store_laws.proofs.RunLaws.{run_shows}
 use Rattle.store_laws.proofs.Start.{start_stands}
 use Rattle.call_laws.specs.Calls.{Written, after_call, IsWritten, nothing_written}
@@ -31,7 +31,7 @@ use Rattle.scene_laws.proofs.Starting.{known_started}
 -- ---- the definition's frames
 
 -- what the frames are drawn from, as far as the journal goes
-abbrev contents_from : List FramePlan → Journal → List FrameContent
+abbrev pub contents_from : List FramePlan → Journal → List FrameContent
 contents_from [] j = []
 contents_from (p ∷ ps) [] = []
 contents_from (p ∷ ps) (entries ∷ rest) = frame_content p entries ∷ contents_from ps rest
@@ -187,8 +187,9 @@ module _ (given : ℕ → Handle) (s : Scene) where
 
 -- ---- the whole scene
 
-pub scene_pictures : (s : Scene) (j : Journal) → HasColors s → pictures_by_index (first_stores (first_world s.width s.height).back) (scene_frames s j) ≡ pictures s j
-scene_pictures s j colors =
+-- the frames by index of a scene say what the definition's frames have
+pub scene_run : (s : Scene) (j : Journal) → HasColors s → (place : ℕ → ℕ) × Frames place (first_world s.width s.height) [] (scene_frames s j) (contents_from (plans s) j)
+scene_run s j colors =
     let p : Progress = first_progress s in
     let hs : List Handle = new_from s 0 p s.frames in
     let given : ℕ → Handle = given_in hs in
@@ -202,10 +203,15 @@ scene_pictures s j colors =
       dies = record { died = died_none; listed = λ n. refl; hold = tt; deep = tt };
     } in
     let frames = all_frames given s s.frames j w [] 0 p (record { known = known; written = written }) colors (run_given s 0 p s.frames refl) in
-    run_shows place (first_stores w.back) w [] (scene_frames s j) (contents_from (plans s) j) (start_stands place w.back)
-    (frames_of place w [] [] (start_frame 0 p.resources) (scene_frames s j) (contents_from (plans s) j) (λ n. refl) written frames)
-    ∙ pictures_same w (plans s) j
+    (place, frames_of place w [] [] (start_frame 0 p.resources) (scene_frames s j) (contents_from (plans s) j) (λ n. refl) written frames)
   where
     plain_targets : (n : ℕ) → Rattle.scene_laws.proofs.Lines.TargetsThere (first_progress s).resources (Rattle.std.specs.Prelude.replicate n Rattle.gfx_model.specs.Views.plain_view)
     plain_targets zero = tt
     plain_targets (suc n) = (tt, plain_targets n)
+
+pub scene_pictures : (s : Scene) (j : Journal) → HasColors s → pictures_by_index (first_stores (first_world s.width s.height).back) (scene_frames s j) ≡ pictures s j
+scene_pictures s j colors =
+    let run = scene_run s j colors in
+    let w : World = first_world s.width s.height in
+    run_shows run.0 (first_stores w.back) w [] (scene_frames s j) (contents_from (plans s) j) (start_stands run.0 w.back) run.1
+    ∙ pictures_same w (plans s) j
