@@ -1,0 +1,2 @@
+" files of the scene language
+autocmd BufNewFile,BufRead *.scene setfiletype scene
