@@ -12,6 +12,7 @@ frame to frame.
 gfx_play reads at most 16,777,216 bytes. That is enough for 85 frames; for more than that nothing is written, and the exit
 status is 1.
 """
+import signal
 import struct
 import sys
 
@@ -57,6 +58,7 @@ def frame_lines(frame, squares):
 
 
 def main():
+    signal.signal(signal.SIGPIPE, signal.SIG_DFL)  # a reader that has gone ends this without a word
     if sys.argv[1:2] in (["--help"], ["-h"]):
         print(__doc__)
         return
