@@ -12,6 +12,7 @@ frame to frame.
 gfx_play reads at most 16,777,216 bytes. That is enough for 85 frames; for more than that nothing is written, and the exit
 status is 1.
 """
+import os
 import signal
 import struct
 import sys
@@ -73,4 +74,9 @@ def main():
 
 
 if __name__ == "__main__":
-    main()
+    try:
+        main()
+        sys.stdout.flush()
+    except OSError as fault:
+        os.dup2(os.open(os.devnull, os.O_WRONLY), sys.stdout.fileno())
+        sys.exit(f"make_speed_scene.py: standard output: {fault.strerror}")
