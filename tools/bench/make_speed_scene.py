@@ -12,6 +12,8 @@ frame to frame.
 gfx_play reads at most 16,777,216 bytes. That is enough for 85 frames; for more than that nothing is written, and the exit
 status is 1.
 """
+import os
+import signal
 import struct
 import sys
 
@@ -57,6 +59,7 @@ def frame_lines(frame, squares):
 
 
 def main():
+    signal.signal(signal.SIGPIPE, signal.SIG_DFL)  # a reader that has gone ends this without a word
     if sys.argv[1:2] in (["--help"], ["-h"]):
         print(__doc__)
         return
@@ -71,4 +74,9 @@ def main():
 
 
 if __name__ == "__main__":
-    main()
+    try:
+        main()
+        sys.stdout.flush()
+    except OSError as fault:
+        os.dup2(os.open(os.devnull, os.O_WRONLY), sys.stdout.fileno())
+        sys.exit(f"make_speed_scene.py: standard output: {fault.strerror}")

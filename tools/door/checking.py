@@ -1,10 +1,12 @@
 """The word check: is a text a scene, and which of its lines does a play drop?"""
+import os
 import re
+import sys
 import tempfile
 
 from door.explain import REFUSALS, fault_text
 from door.faults import Stop, many
-from door.programs import debugger, judge, run_over
+from door.programs import TOP, debugger, judge, run_over
 from door.scenes import whole_scene
 
 LINE = re.compile(r"line (\d+) frame (\d+)(?: encoder (\d+))? refused (\w+)$")
@@ -17,11 +19,11 @@ class Dropped:
     def __init__(self, line, frame, encoder, word):
         self.line, self.frame, self.encoder, self.word = line, frame, encoder, word
 
-    def told(self, scene):
-        """It in words."""
+    def told(self, scene, why=None):
+        """It in words; WHY says why, where that is known."""
         by = "" if self.encoder is None else f", encoder {self.encoder}"
-        reason = REFUSALS.get(self.word)
-        return f"{scene.place(self.line)}: dropped in frame {self.frame}{by}" + (f": {reason} ({self.word})" if reason else "") + f"\n    {scene.shown(self.line)}"
+        reason, word = why or REFUSALS.get(self.word), f" ({self.word})" if self.word in REFUSALS else ""
+        return f"{scene.place(self.line)}: dropped in frame {self.frame}{by}" + (f": {reason}{word}" if reason else "") + f"\n    {scene.shown(self.line)}"
 
 
 class Fault(Stop):
@@ -49,6 +51,17 @@ def dropped_lines(scene):
     return [Dropped(int(it[1]), int(it[2]), None if it[3] is None else int(it[3]), it[4]) for it in found]
 
 
+def reasons(scene, dropped):
+    """Why each line is dropped, or None where the program's word says as much: in the words of the module's check, which name the thing."""
+    sys.path.append(os.path.join(TOP, "tools", "scene"))
+    from scene_parts.checking import NAMES_IT, by_second
+
+    whys = {(fault.line, fault.frame, fault.encoder): fault.why for fault in by_second(scene.text)}
+    for line in dropped:
+        why = whys.get((line.line, line.frame, line.encoder))
+        yield why if why and (line.word not in REFUSALS or NAMES_IT.get(line.word, "\n") in why) else None
+
+
 class Check:
     TEXT = """A text that is no scene is told with its first faulty line, a caret, and what helps; else each line that a play drops, with the
 reason. For a script that writes its scene by tools/scene/scene.py the script's own line is named. Nothing is played. Status 0 where the
@@ -69,8 +82,8 @@ text is a scene and no line is dropped, else 1.
         except Fault as fault:
             print(fault.message)
             return 1
-        for line in dropped:
-            print(line.told(scene))
+        for line, why in zip(dropped, reasons(scene, dropped) if dropped else ()):
+            print(line.told(scene, why))
         print(f"{scene.path}: {many(scene.frames, 'frame')}, {many(len(dropped), 'dropped line')}")
         return 1 if dropped else 0
 

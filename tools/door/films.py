@@ -116,7 +116,7 @@ one picture in this terminal, in half blocks of 24-bit colours, which needs no p
         if tool == "ffplay":
             with tempfile.TemporaryDirectory(prefix="gfx-") as room:
                 source = collected(taken.scene, room)
-                run_tool(["ffplay", "-v", "error", "-autoexit", "-loop", "0", "-f", "image2pipe", "-framerate", str(taken.rate), "-c:v", "ppm", source])
+                run_tool(["ffplay", "-v", "error", "-autoexit", "-loop", "0", "-f", "image2pipe", "-framerate", str(taken.rate), "-vcodec", "ppm", source])
             return
         show(tool, next(picture for _, picture in pictures_of(taken.scene, taken.frame or 0)), f"{taken.scene}, frame {taken.frame or 0}")
 

@@ -5,7 +5,7 @@ import sys
 
 from door.faults import Stop, many, read_bytes, write_bytes
 from door.programs import TOP
-from door.scenes import whole_scene
+from door.scenes import MODELS, whole_scene
 
 EXAMPLES, SCRIPTS = os.path.join(TOP, "examples"), os.path.join(TOP, "tools", "scene", "gallery")
 
@@ -87,6 +87,8 @@ scene's text then. Words behind -- go to the script, or to the script of the mod
 
     @staticmethod
     def run(taken):
+        if not taken.about and taken.source != "-" and os.path.splitext(taken.source)[1].lower() not in (".py", *MODELS):
+            raise Stop(f"{taken.source} is neither a script nor a model; --about says what is in a scene's text", 2)
         scene = whole_scene(taken.source, taken.passed or ())
         if taken.about:
             print(contents(scene))

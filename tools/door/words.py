@@ -91,24 +91,37 @@ def run(word, rest):
     return found.run(taken) or 0
 
 
-def main(words):
-    """Runs the words of a command line; answers the status. No fault of a file or a program gives a traceback."""
-    if not words:
-        print(overview())
-        return WRONG_WORDS
+def answer(words):
+    """Runs the words of a command line and writes out what is said; answers the status."""
     try:
+        if not words:
+            print(overview())
+            return WRONG_WORDS
         if words[0] in ("--help", "-h", "help"):
             return help_of(words[1:])
         return run(words[0], words[1:])
+    except SystemExit as ended:
+        # behind the help of a word
+        return ended.code
+    finally:
+        if sys.stdout:
+            sys.stdout.flush()
+
+
+def main(words):
+    """Runs the words of a command line; answers the status. No fault of a file or a program gives a traceback."""
+    name = f"gfx {words[0]}" if words and words[0] in WORDS else "gfx"
+    try:
+        return answer(words)
     except Stop as stop:
-        print(f"gfx {words[0]}: {stop.message}" if words[0] in WORDS else f"gfx: {stop.message}", file=sys.stderr)
+        print(f"{name}: {stop.message}", file=sys.stderr)
         return stop.status
-    except BrokenPipeError:
-        # whoever read our output has gone; nothing more is to be said, not even at the end of this process
-        os.dup2(os.open(os.devnull, os.O_WRONLY), sys.stdout.fileno())
-        return 1
     except KeyboardInterrupt:
         return 130
     except OSError as fault:
-        print(f"gfx {words[0]}: {fault.filename or 'a file'}: {fault.strerror}", file=sys.stderr)
+        # where whoever read our output has gone, nothing more is to be said, not even at the end of this process
+        if not isinstance(fault, BrokenPipeError):
+            print(f"{name}: {fault.filename or 'standard output'}: {fault.strerror}", file=sys.stderr)
+        if sys.stdout and not fault.filename:
+            os.dup2(os.open(os.devnull, os.O_WRONLY), sys.stdout.fileno())
         return 1

@@ -15,12 +15,13 @@
 set -eu
 
 case ${1:-} in
-    --help | -h | '') sed -n '6,/^set -/{/^set -/d;s/^# \{0,1\}//;p;}' "$0"; exit 0 ;;
+    --help | -h) sed -n '6,/^set -/{/^set -/d;s/^# \{0,1\}//;p;}' "$0"; exit 0 ;;
 esac
 fail() {
     echo "slurm_array.sh: $1" >&2
     exit "$2"
 }
+[ $# -ge 1 ] || fail "the folder is wanted; --help says more" 2
 [ $# -eq 1 ] || fail "$2 is a word too many; --help says more" 2
 case ${SLURM_ARRAY_TASK_ID:-} in
     '') fail "SLURM_ARRAY_TASK_ID is not set; sbatch sets it, and --help says more" 1 ;;

@@ -1,7 +1,7 @@
 #!/usr/bin/env python3
 """Plants wrong definitions, one at a time, and says which rows or laws refuse each.
 
-usage: tools/prove/wrong_definitions.py [NAME ..]     (from the repository's folder; by hand, not by the gate)
+usage: tools/prove/wrong_definitions.py [NAME ..]     (by hand, not by the gate)
 
 Each entry of WRONG is a wrong definition: its name, a file, a text of that file and the text in its place. The script copies the crates of
 definitions, plants the change, runs `rt check` on scene_model (which checks gfx_model below it), and on command_line_model above it where
@@ -18,9 +18,12 @@ planted. A check takes 5 to 40 seconds.
 import os
 import re
 import shutil
+import signal
 import subprocess
 import sys
 import tempfile
+
+TOP = os.path.dirname(os.path.dirname(os.path.dirname(os.path.abspath(__file__))))
 
 G = "crates/gfx_model/specs/"
 S = "crates/scene_model/specs/"
@@ -134,10 +137,16 @@ def refusals(folder, crate):
 
 
 def main():
+    signal.signal(signal.SIGPIPE, signal.SIG_DFL)  # a reader that has gone ends this without a word
     if sys.argv[1:2] in (["--help"], ["-h"]):
         print(__doc__)
         return
+    os.chdir(TOP)
     wanted = sys.argv[1:]
+    for word in wanted:
+        if not any(word in name for name, _, _, _ in WRONG):
+            print(f"wrong_definitions.py: no name has {word}", file=sys.stderr)
+            sys.exit(2)
     failed = False
     with tempfile.TemporaryDirectory() as folder:
         os.mkdir(os.path.join(folder, "crates"))

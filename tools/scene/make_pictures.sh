@@ -1,6 +1,8 @@
 #!/bin/sh
-# Plays the example scenes of docs/use/writing-scenes.md and the broken ones of debugging.md, and writes into docs/use/pictures: triangle.png,
-# depth-order.png, turning-triangle.png, a strip of five of the forty frames, and broken/. Each is the program's own picture, byte for byte.
+# Makes the pictures of docs/use that stand outside of the gallery, and writes them into docs/use/pictures: of writing-scenes.md triangle.png,
+# depth-order.png and turning-triangle.png, a strip of five of the forty frames; of writing-scenes-2.md lessons/; of debugging.md broken/; of
+# models.md crane.png, a strip of four of 24 frames. Each is the program's own picture, byte for byte. tools/scene/make_gallery makes the
+# gallery's. The page in watch.png is a screenshot of a browser, as tools/try/watch_page --keep FOLDER makes them.
 #
 # usage: tools/scene/make_pictures.sh
 #
@@ -13,11 +15,18 @@ case ${1:-} in
 esac
 cd "$(dirname "$0")/../.."
 pictures=docs/use/pictures
-mkdir -p $pictures
+mkdir -p $pictures/lessons $pictures/broken
 tools/gfx png examples/triangle.scene $pictures/triangle.png
 tools/gfx png examples/depth-order.scene $pictures/depth-order.png
 tools/gfx png --strip 0,8,16,24,32 examples/turning-triangle.scene $pictures/turning-triangle.png
-mkdir -p $pictures/broken
-for script in dropped behind stencil race; do
+for scene in examples/lessons/*.scene; do
+    tools/gfx png "$scene" "$pictures/lessons/$(basename "$scene" .scene).png"
+done
+for script in behind stencil race; do
     tools/gfx png examples/broken/$script.py $pictures/broken/$script.png
 done
+tools/gfx png --frame 1 examples/broken/dropped.py $pictures/broken/dropped.png
+crane=$(mktemp)
+trap 'rm -f "$crane"' EXIT
+tools/scene/gltf_to_scene.py --frames 24 --size 200 150 --zoom 1.5 --background 8ecae6 examples/models/crane.gltf > "$crane"
+tools/gfx png --strip 0,4,8,12 "$crane" $pictures/crane.png

@@ -9,7 +9,7 @@ with what is wrong, and the status is 1.
 """
 import sys
 
-from scene import SceneError, parser
+from scene import SceneError, parser, run
 from scene_parts.bits import state_names, stencil_names
 
 
@@ -23,13 +23,16 @@ def main():
     words.add_argument("word", choices=["state", "stencil"], metavar="state | stencil")
     words.add_argument("number", type=number, metavar="NUMBER")
     taken = words.parse_args()
-    try:
-        names = {"state": state_names, "stencil": stencil_names}[taken.word](taken.number)
-    except SceneError as error:
-        print(f"say_word.py: {error.what}", file=sys.stderr)
-        return 1
-    print(f"{taken.word}({', '.join(f'{name}={value!r}' for name, value in names.items())})")
-    return 0
+
+    def say():
+        try:
+            names = {"state": state_names, "stencil": stencil_names}[taken.word](taken.number)
+        except SceneError as error:
+            print(f"say_word.py: {error.what}", file=sys.stderr)
+            return 1
+        print(f"{taken.word}({', '.join(f'{name}={value!r}' for name, value in names.items())})")
+
+    return run("say_word.py", say)
 
 
 if __name__ == "__main__":

@@ -11,6 +11,7 @@ nothing else. Its parts stand in tools/scene/scene_parts/ by topic, and are hand
 What can't be written is a SceneError that begins with the script's own file and line.
 """
 import argparse
+import errno
 import inspect
 import os
 import re
@@ -474,9 +475,16 @@ def texels_of(texels, width, height):
 # ---------------------------------------------------------------- scripts
 
 
+class Parser(argparse.ArgumentParser):
+    """A parser of words that ends without a traceback where nobody reads its help."""
+
+    def exit(self, status=0, message=None):
+        sys.exit(run(self.prog, lambda: super(Parser, self).exit(status, message)))
+
+
 def parser(document):
     """A parser of words whose help is the script's own text."""
-    return argparse.ArgumentParser(description=document, formatter_class=argparse.RawDescriptionHelpFormatter)
+    return Parser(description=document, formatter_class=argparse.RawDescriptionHelpFormatter)
 
 
 def write_scene(text, output=None):
@@ -485,6 +493,8 @@ def write_scene(text, output=None):
         with open(output, "wb") as file:
             file.write(text.encode("utf-8"))
     else:
+        if sys.stdout is None:
+            raise OSError(errno.EBADF, "it is closed")
         if text.isascii():
             sys.stdout.write(text)
         else:
@@ -495,14 +505,21 @@ def write_scene(text, output=None):
 def run(name, work):
     """Does WORK; what it can't have is one line of the script NAME, and status 1. A reader that goes away is no fault."""
     try:
-        return work() or 0
+        try:
+            status = work() or 0
+        except SystemExit as ended:
+            status = ended.code
+        if sys.stdout:
+            sys.stdout.flush()
+        return status
     except SceneError as error:
         print(error, file=sys.stderr)
-    except BrokenPipeError:
-        sys.stdout = open(os.devnull, "w")
-        return 0
     except OSError as error:
-        print(f"{name}: {error.filename or 'the scene'}: {error.strerror}", file=sys.stderr)
+        if sys.stdout and not error.filename:
+            os.dup2(os.open(os.devnull, os.O_WRONLY), sys.stdout.fileno())
+        if isinstance(error, BrokenPipeError):
+            return 0
+        print(f"{name}: {error.filename or 'standard output'}: {error.strerror}", file=sys.stderr)
     return 1
 
 

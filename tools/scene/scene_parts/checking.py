@@ -49,6 +49,8 @@ REFUSALS = {
     "Unnamed": "a name stands for nothing, since the line that makes it was dropped",
     "NoLayout": "the parts are no layout: 1 to 255 bytes, no attribute twice",
 }
+NAMES_IT = {"Stale": "was destroyed", "Unnamed": "stands for nothing", "BadView": "there is no view", "WrongKind": "and wanted is"}
+"""What the second implementation's words have where they are of the same refusal: they name the thing at fault."""
 DROPPED = re.compile(r"line (\d+) frame (\d+)(?: encoder (\d+))? refused (\w+)")
 REFUSED = re.compile(r"scene refused at line (\d+) for cause (\d+)(?: in field (\d+))?")
 
@@ -74,7 +76,21 @@ def by_program(program, text):
             found.append(Fault(number, None, frame, encoder, REFUSALS.get(dropped[4], dropped[4])))
     if done.returncode and not found:
         raise OSError(0, f"it ended with status {done.returncode}", program)
-    return found
+    return in_better_words(found, text) if found else found
+
+
+def in_better_words(found, text):
+    """The program's faults, each in the second implementation's words where it has the same one: they name the thing and the field."""
+    same, better = {fault[:1] + fault[2:4]: fault for fault in by_second(text)}, []
+    names_it = {REFUSALS[word]: said for word, said in NAMES_IT.items()}
+    for fault in found:
+        other = same.get(fault[:1] + fault[2:4])
+        if other and fault.frame is None and fault.field is None and fault.why == other.why:
+            fault = fault._replace(field=other.field)
+        elif other and fault.why in names_it and names_it[fault.why] in other.why:
+            fault = fault._replace(why=other.why)
+        better.append(fault)
+    return better
 
 
 def second_player():
