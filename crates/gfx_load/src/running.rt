@@ -91,7 +91,7 @@ where
     requires seat { (seats.api_table seat ≡ C.table) × (seats.api_view seat ≡ seat_views.first_view 0) }
     requires views { C.views ≡ fewest_views }
     requires link { (L.given link ≡ []) × (L.back link ≡ []) × (L.latency link ≡ 1) }
-    requires start { (H.start ≡ load_start) × (H.book ≡ load_book) }
+    requires start { (H.start ≡ load_start) × (H.book ≡ load_book) × (H.given ≡ []) }
     requires table { (table_of table ≡ H.table) × (pass_table first ≡ H.table) }
     requires first { IsFirstOf 1 first }
     ensures { IfOk result (λ entries. IsHistoryOf (map block_seen blocks.now) (entries_seen entries.items)) }
@@ -130,7 +130,7 @@ where
     requires hold { seats.table_of hold ≡ C.table }
     requires seat { (seats.api_table seat ≡ C.table) × (seats.api_view seat ≡ seat_views.first_view 0) }
     requires views { C.views ≡ fewest_views }
-    requires start { (H.start ≡ load_start) × (H.book ≡ load_book) }
+    requires start { (H.start ≡ load_start) × (H.book ≡ load_book) × (H.given ≡ []) }
     requires table { (table_of table ≡ H.table) × (pass_table first ≡ H.table) }
     requires first { IsFirstOf 1 first }
     ensures { IfOk result (λ entries. IsHistoryOf (map block_seen blocks.now) (entries_seen entries.items)) }
