@@ -264,6 +264,13 @@ impl<P: Sink> Renderer<P> {
         RenderedFrame { frame, outcome }
     }
 
+    /// The back buffer and what was made, as the frames so far left them: for reading, between frames.
+    pub fn stores(&self) -> &RenderStores
+        ensures { result.now ≡ self.now.canvas.stores }
+    {
+        &self.canvas.stores
+    }
+
     /// The pixel of the back buffer at a column and a row; none where it has no such column or row.
     pub fn pixel(&self, x: u16, y: u16) -> Option<Pixel>
         ensures { let back = (stores_seen self.now.canvas.stores).back in
