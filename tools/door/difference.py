@@ -9,6 +9,10 @@ from door.programs import found, program, run_over
 from door.show import pictures_of
 
 
+MOST_SIDE = 65535
+"""The longest side of a picture that gfx_diff takes."""
+
+
 class Difference:
     """Where two pictures of one size differ by more than NEAR in a channel."""
 
@@ -32,10 +36,10 @@ class Difference:
         return bool(self.places)
 
     def line(self, frame):
-        """The frame's line: how many pixels differ, by how much at most, the first one, and the least rectangle that has them all."""
+        """The frame's line: how many pixels differ, by how much at most, the first one, and the first and last column and row of the rectangle that has them all."""
         columns, rows = [x for x, _ in self.places], [y for _, y in self.places]
         first = next(iter(self.places))
-        within = f"{min(columns)} {min(rows)} {max(columns) - min(columns) + 1} {max(rows) - min(rows) + 1}"
+        within = f"{min(columns)} {min(rows)} {max(columns)} {max(rows)}"
         head = f"frame {frame} pixels {self.pixels} differ {len(self.places)}"
         return f"{head} most {max(self.places.values())} first {first[0]} {first[1]} within {within}"
 
@@ -57,23 +61,31 @@ def sides_line(frame, one, other):
 
 def line_of(frame, one, other, near):
     """The line of two pictures that differ, or None."""
-    if (one.width, one.height) != (other.width, other.height):
+    if one.sides() != other.sides():
         return sides_line(frame, one, other)
     found = Difference(one, other, near)
     return found.line(frame) if found else None
 
 
 def by_program(path, pairs, near):
-    """The same of pairs (frame, picture, picture) by gfx_diff: the line of each frame that differs."""
+    """The same of pairs (frame, picture, picture) of the same sides by gfx_diff: the line of each frame that differs."""
     text = b"".join(one.p6() for _, one, _ in pairs) + b"".join(other.p6() for _, _, other in pairs)
     with tempfile.TemporaryFile() as out:
-        status, said = run_over(path, ["--near", str(near), str(len(pairs))], text, out)
+        status, said = run_over(path, ["--near", str(near), "--frames", str(len(pairs))], text, out)
         out.seek(0)
         lines = out.read().decode("ascii", "replace").splitlines()
-    found = [re.match(r"frame (\d+) (.*)$", line) for line in lines]
-    if status not in (0, 1) or (status == 1) != bool(lines) or not all(found) or any(int(it[1]) >= len(pairs) for it in found):
+    found = [re.match(r"frame (\d+) (pixels \d+ differ (\d+) most .*)$", line) for line in lines]
+    if not all(found) or [int(it[1]) for it in found] != list(range(len(pairs))) or status != any(it[3] != "0" for it in found):
         raise Stop(f"{path} ended with status {status}: {said.strip() or 'its lines are not understood; is it older than tools/gfx?'}")
-    return {pairs[int(it[1])][0]: f"frame {pairs[int(it[1])][0]} {it[2]}" for it in found}
+    return {pair[0]: f"frame {pair[0]} {it[2]}" for pair, it in zip(pairs, found) if it[3] != "0"}
+
+
+def lines_by(path, pairs, near):
+    """The lines of the frames that differ: by gfx_diff where its path is given and it takes the sides, else by this script."""
+    fit = [pair for pair in pairs if path and pair[1].sides() == pair[2].sides() and max(pair[1].sides()) <= MOST_SIDE]
+    lines = by_program(path, fit, near) if fit else {}
+    taken = {pair[0] for pair in fit}
+    return lines | {frame: line_of(frame, one, other, near) for frame, one, other in pairs if frame not in taken}
 
 
 def batches(pairs, most):
@@ -92,10 +104,10 @@ def batches(pairs, most):
 class Diff:
     TEXT = """A and B are files of pictures (.ppm with one or more behind each other, .png) or scenes, which are played. A line for each frame that differs:
 
-  frame 7 pixels 120000 differ 412 most 37 first 118 96 within 118 96 44 45
+  frame 7 pixels 120000 differ 412 most 37 first 118 96 within 118 96 161 140
 
 so many pixels, so many of them differ, by so much at most in a channel; the first one, and the least rectangle that has them all: its
-left and upper side, its width and height. By gfx_diff where it is built, else by this script. Status 0: no pixel differs by more than N.
+first column and row, and its last. By gfx_diff where it is built, else by this script. Status 0: no pixel differs by more than N.
 1: some do, or sides or numbers of frames do. 2: these are no pictures.
 
 A scene is played on threads. Where its encoders share a key, two plays of it may differ; `play --by` draws it in one order.
@@ -125,7 +137,7 @@ def compare(taken):
     short = []
     path = program("gfx_diff") if found("gfx_diff") else None
     for batch in batches(pairs_of(taken, short), 1 << 25 if path else 1):
-        lines = by_program(path, batch, taken.near) if path else {frame: line_of(frame, one, other, taken.near) for frame, one, other in batch}
+        lines = lines_by(path, batch, taken.near)
         for frame, one, other in batch:
             frames += 1
             if lines.get(frame):

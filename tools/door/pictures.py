@@ -15,6 +15,10 @@ class Picture:
     def __init__(self, width, height, pixels):
         self.width, self.height, self.pixels = width, height, pixels
 
+    def sides(self):
+        """Width and height."""
+        return self.width, self.height
+
     def row(self, y):
         """The bytes of one row."""
         return self.pixels[3 * self.width * y : 3 * self.width * (y + 1)]

@@ -1,0 +1,6 @@
+pub mod Numbers
+pub mod Words
+pub mod Notes
+pub mod Io
+pub mod Putting
+pub mod Ended
