@@ -195,34 +195,35 @@ class Reader:
 
     def line(self, text):
         """Reads one line; raises its cause."""
-        if any(not 32 <= byte <= 126 for byte in text):
-            raise Cause(1)
         fields = [Field(piece, place) for place, piece in enumerate(text.split(b" "))]
+        for field in fields:
+            if any(not 32 <= byte <= 126 for byte in field):
+                raise Cause(1, field)
         first = fields[0]
         if first not in ALL_WORDS and first != b"j":
-            raise Cause(3)
+            raise Cause(3, first)
         if first == b"scene" and len(fields) == 2 and NUMBER.match(fields[1]) and len(fields[1]) < 4 and 3 <= int(fields[1]) <= 255:
-            raise Cause(12)
+            raise Cause(12, fields[1])
         self.stand(first, fields)
         if first == b"view":
             return self.view(fields)
         if b"" in fields:
-            raise Cause(5)
+            raise Cause(5, fields[fields.index(b"")])
         if first in HEAD_WORDS:
             return self.head(first, fields)
         if first == b"layout":
             return self.layout(fields)
         if first == b"order":
             if len(fields) > 1 + self.scene.views:
-                raise Cause(5)
+                raise Cause(5, fields[0])
             return self.add(("order", [number(field, 0, U16) for field in fields[1:]]))
         if first == b"set":
             if len(fields) not in (3, 6):
-                raise Cause(5)
+                raise Cause(5, fields[0])
             return self.add(("set", self.field("use", fields[1]), [signed(field) for field in fields[2:]]))
         forms = ENCODER_FORMS if self.at == "block" else RESOURCE_FORMS
         if len(fields) != 1 + len(forms[first]):
-            raise Cause(5)
+            raise Cause(5, fields[0])
         is_uniform = first == b"uniform"
         read = [self.field(form, field, is_uniform) for form, field in zip(forms[first], fields[1:])]
         if forms[first][0] == "new":
@@ -232,11 +233,11 @@ class Reader:
     def stand(self, first, fields):
         """Whether the word can stand here."""
         if first not in self.MAY_FOLLOW[self.at] or (first == b"latency" and self.scene.version == 1):
-            raise Cause(4)
+            raise Cause(4, first)
         if first == b"encoder" and len(fields) > 1 and NUMBER.match(fields[1]):
             value = int(fields[1]) if len(fields[1]) < 10 else 10**10
             if value <= self.last_encoder or value >= self.scene.encoders:
-                raise Cause(4)
+                raise Cause(4, fields[1])
 
     def field(self, form, field, is_uniform=False):
         if form == "s":
@@ -266,7 +267,7 @@ class Reader:
         ranges.update({b"room": [(1, 8191), (0, 1_048_576), (0, 8191)], b"latency": [(1, 3)], b"encoder": [(0, 7)]})
         wanted = ranges.get(first, [])
         if len(fields) != 1 + len(wanted):
-            raise Cause(5)
+            raise Cause(5, fields[0])
         read = [number(field, *bounds) for field, bounds in zip(fields[1:], wanted)]
         if first == b"scene":
             scene.version = read[0]
@@ -280,7 +281,7 @@ class Reader:
             scene.latency = read[0]
         elif first == b"frame":
             if len(scene.frames) == MOST_FRAMES:
-                raise Cause(7)
+                raise Cause(7, fields[0])
             scene.frames.append({"before": [], "blocks": {}, "beside": []})
             self.last_encoder = -1
         elif first == b"encoder":
@@ -296,7 +297,7 @@ class Reader:
 
     def layout(self, fields):
         if not 3 <= len(fields) <= 17:
-            raise Cause(5)
+            raise Cause(5, fields[0])
         name = self.field("new", fields[1])
         parts = [layout_part(field) for field in fields[2:]]
         self.bound[fields[1]] = False
@@ -304,16 +305,17 @@ class Reader:
 
     def view(self, fields):
         """A view line's second and third field are read before its number of fields is known."""
+        short = Cause(5, fields[fields.index(b"") if b"" in fields else 0])
         if len(fields) < 2 or fields[1] == b"":
-            raise Cause(5)
+            raise short
         view = number(fields[1], 0, U16)
         if len(fields) < 3 or fields[2] == b"":
-            raise Cause(5)
+            raise short
         if fields[2] not in VIEW_FORMS:
             raise Cause(11, fields[2])
         forms = VIEW_FORMS[fields[2]]
         if len(fields) != 3 + len(forms) or b"" in fields:
-            raise Cause(5)
+            raise short
         read = [self.field(form, field) for form, field in zip(forms, fields[3:])]
         self.add(("view_" + fields[2].decode(), view, *read))
 
@@ -328,8 +330,10 @@ def read_scene(text, is_front=False):
             rest = text[at:]
             if rest == b"" and reader.at == "done":
                 break
-            bad = any(not 32 <= byte <= 126 for byte in rest) and not rest.startswith(b"#")
-            raise SceneFault(count, 1 if bad else 2)
+            bad = [any(not 32 <= byte <= 126 for byte in field) for field in rest.split(b" ")]
+            if True not in bad or rest.startswith(b"#"):
+                raise SceneFault(count, 2)
+            raise SceneFault(count, 1, bad.index(True))
         line, at, reader.count = text[at:end], end + 1, count
         if line and not line.startswith(b"#"):
             try:

@@ -8,11 +8,12 @@ use Rattle.io_edge.specs.Edge.{with_front, with_back, IsSpent}
 use Rattle.scene_model.specs.Scene.{Scene}
 use Rattle.scene_model.specs.Grammar.{Fault, whole_language, scene_of}
 use Rattle.scene_model.specs.Fold.{plans}
-use Rattle.scene_model.specs.Output.{frame_dropped, scene_line, length_line}
+use Rattle.scene_model.specs.Output.{frame_dropped, length_line}
 use Rattle.dropped_lines.specs.Dropped.{Dropped, dropped_line, dropped_lines, dropped_text}
 use Rattle.dropped_lines.specs.Laws.{CountLaw, SilentLaw}
 use Rattle.io_whole.specs.Whole.{HasMoreThan, HasFront}
 use Rattle.gfx_check.specs.Io.{longest, IsRead}
+use Rattle.gfx_check.specs.Refusals.{told_fault}
 use Rattle.gfx_check.specs.Putting.{IsPut, IsTold, whole, cut, none}
 use Rattle.gfx_check.specs.Ended.{IsScene, IsNoScene, IsNote, Ended, EndsAs, HasCounted}
 use Rattle.gfx_check.specs.declared.status.CheckStatus.{CheckStatus}
@@ -30,11 +31,11 @@ put_ended status.TooLong bytes s before after old new told rf pf nf r h = absurd
 put_ended status.OutOfMemory bytes s before after old new told rf pf nf r h = (inr (bytes, s, r, h), refl)
 
 pub refused_ended : (st : CheckStatus) (bytes : List ℕ) (line cause : ℕ) (before after old told said : Option (List ℕ)) (rf pf nf : Type 0) → IsNoScene bytes (record { line = line; cause = cause }) before after
-    → IsTold st (status.Scene line cause) (scene_line line cause) told said nf → Ended st before after old old told said rf pf nf
+    → IsTold st (status.Scene line cause) (told_fault bytes (record { line = line; cause = cause })) told said nf → Ended st before after old old told said rf pf nf
 refused_ended st bytes line cause before after old told said rf pf nf r (whole e p) = subst (λ (x : CheckStatus). Ended x before after old old told said rf pf nf) (sym e) (bytes, r, refl, p)
 refused_ended st bytes line cause before after old told said rf pf nf r (cut e p f) =
     let d : Fault = record { line = line; cause = cause } in
-    subst (λ (x : CheckStatus). Ended x before after old old told said rf pf nf) (sym e) (scene_line line cause, inl (bytes, d, r, refl), p, f, refl)
+    subst (λ (x : CheckStatus). Ended x before after old old told said rf pf nf) (sym e) (told_fault bytes d, inl (bytes, d, r, refl), p, f, refl)
 refused_ended st bytes line cause before after old told said rf pf nf r (none e p) = subst (λ (x : CheckStatus). Ended x before after old old told said rf pf nf) (sym e) (inl refl, p)
 
 pub long_ended : (st : CheckStatus) (before after old told said : Option (List ℕ)) (rf pf nf : Type 0) → HasMoreThan longest before → IsTold st status.TooLong length_line told said nf → Ended st before after old old told said rf pf nf

@@ -4,10 +4,11 @@ use Rattle.io_edge.specs.Edge.{with_back}
 use Rattle.scene_model.specs.Scene.{Scene}
 use Rattle.scene_model.specs.Grammar.{Fault, whole_language, scene_of}
 use Rattle.scene_model.specs.Fold.{FramePlan, plans}
-use Rattle.scene_model.specs.Output.{frame_dropped, scene_line, length_line}
+use Rattle.scene_model.specs.Output.{frame_dropped, length_line}
 use Rattle.dropped_lines.specs.Dropped.{Dropped, dropped_line, dropped_text}
 use Rattle.io_whole.specs.Whole.{HasMoreThan, HasFront}
 use Rattle.gfx_check.specs.Io.{longest, IsRead}
+use Rattle.gfx_check.specs.Refusals.{told_fault}
 use Rattle.gfx_check.specs.declared.status.CheckStatus.{CheckStatus}
 use Rattle.gfx_check.specs.declared.status.CheckStatus.TheVariants as status
 
@@ -24,7 +25,7 @@ pub record IsNoScene (bytes : List ℕ) (fault : Fault) (before after : Option (
 -- the note of a text that is no scene, or too long
 abbrev pub IsNote : List ℕ → (before after : Option (List ℕ)) → Type 0
 IsNote note before after =
-    ((bytes : List ℕ) × (fault : Fault) × IsNoScene bytes fault before after × (note ≡ scene_line fault.line fault.cause)) ⊎ (HasMoreThan longest before × (note ≡ length_line))
+    ((bytes : List ℕ) × (fault : Fault) × IsNoScene bytes fault before after × (note ≡ told_fault bytes fault)) ⊎ (HasMoreThan longest before × (note ≡ length_line))
 
 -- nothing was put, or a front of the lines of the scene that was read
 abbrev pub IsCut : (before after old new : Option (List ℕ)) → Type 0
@@ -35,7 +36,7 @@ abbrev pub Ended : CheckStatus → (before after old new told said : Option (Lis
 Ended status.Done before after old new told said read_failed put_failed tell_failed =
     (bytes : List ℕ) × (s : Scene) × IsScene bytes s before after × (new ≡ with_back old (dropped_text bytes s)) × (said ≡ told)
 Ended (status.Scene line cause) before after old new told said read_failed put_failed tell_failed =
-    (bytes : List ℕ) × IsNoScene bytes (record { line = line; cause = cause }) before after × (new ≡ old) × (said ≡ with_back told (scene_line line cause))
+    (bytes : List ℕ) × IsNoScene bytes (record { line = line; cause = cause }) before after × (new ≡ old) × (said ≡ with_back told (told_fault bytes (record { line = line; cause = cause })))
 Ended status.ReadFault before after old new told said read_failed put_failed tell_failed = read_failed × (new ≡ old) × (said ≡ told)
 Ended status.LineFault before after old new told said read_failed put_failed tell_failed =
     (bytes : List ℕ) × (s : Scene) × IsScene bytes s before after × HasFront old (dropped_text bytes s) new × put_failed × (said ≡ told)

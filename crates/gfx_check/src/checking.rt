@@ -5,19 +5,21 @@ ghost use Rattle.io_edge.specs.Edge.{Rose};
 ghost use Rattle.scene_model.specs.Scene as model;
 ghost use Rattle.scene_model.specs.Grammar.{Fault, whole_language, scene_of};
 ghost use Rattle.scene_model.specs.Fold.{plans};
-ghost use Rattle.scene_model.specs.Output.{frame_dropped, scene_line, length_line};
+ghost use Rattle.scene_model.specs.Output.{frame_dropped, length_line};
 ghost use Rattle.spelling_model.specs.Readable.{IsReadable};
 ghost use Rattle.scene_text.specs.Bounds.{IsBounded};
 ghost use Rattle.scene_text.specs.Seen.{scene_seen};
 ghost use Rattle.dropped_lines.specs.Dropped.{dropped_text};
 ghost use Rattle.gfx_check.specs.Io.{longest};
 ghost use Rattle.gfx_check.specs.Ended.{Ended, EndsAs, HasCounted};
+ghost use Rattle.gfx_check.specs.Refusals.{refusal_line};
 ghost use Rattle.gfx_check.specs.Putting.{IsPut, IsTold};
 
 use crate::lines::refusal_of;
 use crate::putting::{PutError, put_frames};
 use crate::status::CheckStatus;
 use dropped_lines::{count_law, silent_law};
+use fault_fields::fault_field;
 use io_edge::{Sink, Source};
 use io_whole::{InputError, put_all, read_all};
 use scene_text::{Scene, SceneFault, read};
@@ -42,12 +44,18 @@ fn put_scene<N: Sink>(alloc: Global, bytes: &[u8], scene: &Scene, lines: &mut N)
 }
 
 /// Tells of a text that is no scene.
-fn tell_scene<E: Sink>(alloc: Global, line: u32, cause: u8, notes: &mut E) -> CheckStatus
-    ensures told { IsTold result (CheckStatus.Scene line cause) (scene_line line cause) (E.held notes.old) (E.held notes.new) (Rose (E.faults notes.old) (E.faults notes.new)) }
+fn tell_scene<E: Sink>(
+    alloc: Global,
+    line: u32,
+    cause: u8,
+    field: Option<u32>,
+    notes: &mut E,
+) -> CheckStatus
+    ensures told { IsTold result (CheckStatus.Scene line cause) (refusal_line line cause field) (E.held notes.old) (E.held notes.new) (Rose (E.faults notes.old) (E.faults notes.new)) }
     ensures sure { E.sure notes.new ≡ E.sure notes.old }
     ensures no_fewer { E.faults notes.old ≤ E.faults notes.new }
 {
-    match refusal_of(alloc, line, cause) {
+    match refusal_of(alloc, line, cause, field) {
         Ok(text) => match put_all(notes, text.as_slice()) {
             Ok(()) => CheckStatus::Scene { line, cause },
             Err(_) => CheckStatus::NoteFault,
@@ -87,7 +95,10 @@ fn run<S: Source, N: Sink, E: Sink>(
     };
     match read(alloc, &bytes) {
         Ok(scene) => put_scene(alloc, &bytes, &scene, lines),
-        Err(SceneFault::At { line, cause }) => tell_scene(alloc, line, cause, notes),
+        Err(SceneFault::At { line, cause }) => {
+            let field = fault_field(&bytes, line, cause);
+            tell_scene(alloc, line, cause, field, notes)
+        }
         Err(SceneFault::OutOfMemory) => CheckStatus::OutOfMemory,
     }
 }
@@ -97,7 +108,8 @@ fn run<S: Source, N: Sink, E: Sink>(
 /// call, `Unnamed` where a name of the line stands for nothing, or `NoLayout` where its parts are no layout. Nothing is played, and no
 /// thread is started: which lines are dropped depends on no schedule.
 ///
-/// Of a text that is no scene, or too long, one line is put to the notes.
+/// Of a text that is no scene, or too long, one line is put to the notes: of one that is no scene the line, the cause and the field at which
+/// it fails, `scene refused at line L for cause C in field F`, without the field where the text ends early.
 ///
 /// The status says how it ended. `Scene` and `TooLong` come exactly by the bytes; `ReadFault`, `LineFault` and `NoteFault` only where
 /// that object's count of faults rose in this call; `OutOfMemory` is free. The lines of a frame are put when it is judged: after `LineFault` a

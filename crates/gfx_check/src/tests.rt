@@ -65,7 +65,7 @@ fn a_text_that_is_no_scene(rt: HostRuntime) -> Result<(), Fail> {
     assert_eq!(rt; left.lines.len(), 0);
     assert_eq!(rt;
         left.notes.as_slice(),
-        b"scene refused at line 3 for cause 7\n".as_slice()
+        b"scene refused at line 3 for cause 7 in field 2\n".as_slice()
     );
     Ok(())
 }

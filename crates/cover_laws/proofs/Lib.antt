@@ -1,0 +1,7 @@
+mod Swaps
+mod Arranged
+mod Drawing
+mod Worlds
+mod Passing
+mod PlansFit
+mod Frames
