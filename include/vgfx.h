@@ -122,13 +122,14 @@ enum {
     VGFX_ERROR_OUT_OF_MEMORY = 17,
     VGFX_ERROR_NO_OBJECT = 100,     /* the handle is null, or of the other kind */
     VGFX_ERROR_TRY_AGAIN = 101,     /* an encoder has not come back yet */
-    VGFX_ERROR_ENDED = 102,         /* memory was wanting in an earlier frame; vgfx_shutdown alone is of use */
+    VGFX_ERROR_ENDED = 102,         /* memory was wanting in an earlier frame, or an encoder was dropped: no encoder begins and no frame ends */
     VGFX_ERROR_TOO_SMALL = 103,     /* a buffer that is to be written is too small */
     VGFX_ERROR_BAD_VALUE = 104,     /* a number is none of its enumeration */
     VGFX_ERROR_TAKEN = 105,         /* the handle that is to be set is not null */
     VGFX_ERROR_NO_SCENE = 106,      /* the text is no scene */
     VGFX_ERROR_TOO_LONG = 107,      /* the text has more than VGFX_MAX_SCENE_BYTES bytes */
-    VGFX_ERROR_UNKNOWN = 108        /* the id names no resource of this context; of an encoder: none that was made before it began */
+    VGFX_ERROR_UNKNOWN = 108,       /* the id names no resource of this context; of an encoder: none that was made before it began */
+    VGFX_ERROR_NOT_THERE = 109      /* the last frame left no such texture: no frame has ended since it was made, or it was destroyed */
 };
 
 /* What a part of a vertex holds. VGFX_ATTRIBUTE_SKIP passes bytes over. */
@@ -142,6 +143,10 @@ typedef enum vgfx_component { VGFX_COMPONENT_U8 = 0, VGFX_COMPONENT_I16 = 1, VGF
 
 /* What a texel holds: a colour, or a depth of 24 bits with a stencil of 8. */
 typedef enum vgfx_format { VGFX_FORMAT_RGBA8 = 0, VGFX_FORMAT_D24S8 = 1 } vgfx_format;
+
+/* What pixels are read as, four bytes each: red, green, blue, alpha; the depth in three bytes, lowest first, and the stencil; blue, green,
+ * red, alpha. */
+typedef enum vgfx_pixels { VGFX_PIXELS_RGBA8 = 0, VGFX_PIXELS_D24S8 = 1, VGFX_PIXELS_BGRA8 = 2 } vgfx_pixels;
 
 /* What a program paints: the uniform "u_color", the vertex colour, the sample, or the product of the last two. */
 typedef enum vgfx_program {
@@ -324,15 +329,29 @@ VGFX_CALL vgfx_encoder_begin(vgfx_context *context, vgfx_encoder *encoder, uint3
 VGFX_CALL vgfx_collect(vgfx_context *context, uint32_t *out);
 
 /* Ends the frame, renders it on the calling thread, and writes its picture as a P6 text: "P6\nWIDTH HEIGHT\n255\n" and three bytes a pixel.
- * The buffer has at least VGFX_PICTURE_BYTES(width, height) bytes.
+ * The buffer has at least VGFX_PICTURE_BYTES(width, height) bytes; or it has none, and no text is written: vgfx_read_pixels reads the pixels.
  * Returns:
  *   VGFX_OK
- *   VGFX_ERROR_ENDED
+ *   VGFX_ERROR_ENDED          also where an encoder was dropped, and from then on
  *   VGFX_ERROR_TOO_SMALL
  *   VGFX_ERROR_TRY_AGAIN      an encoder is still out. What has come is kept and nothing is lost: call again when it has ended
  *   VGFX_ERROR_FRAMES_SPENT   what has come is kept
- *   VGFX_ERROR_OUT_OF_MEMORY  the context is ended */
+ *   VGFX_ERROR_OUT_OF_MEMORY  the context is ended. Where memory was wanting before the frame was rendered, the pixels are those of the last
+ *                             frame; else they are drawn in part */
 VGFX_CALL vgfx_frame(vgfx_context *context, void *picture, size_t picture_length, vgfx_frame_report *report);
+
+/* Reads the back buffer by 0, or a texture, as the last frame left it: row by row from the top, four bytes a pixel, with `stride` bytes from
+ * the start of a row to that of the next. What lies behind a row and before the next is left as it is, and what lies behind the last row too.
+ * Resources that were made, updated or destroyed since the last frame are as that frame left them.
+ * Returns:
+ *   VGFX_OK
+ *   VGFX_ERROR_BAD_VALUE      `pixels_format` is none
+ *   VGFX_ERROR_UNKNOWN
+ *   VGFX_ERROR_WRONG_KIND     the resource is no texture of this format; VGFX_PIXELS_BGRA8 reads one of VGFX_FORMAT_RGBA8
+ *   VGFX_ERROR_NOT_THERE      no frame has ended since the texture was made, or one has since it was destroyed
+ *   VGFX_ERROR_BAD_SIZE       the stride is shorter than a row
+ *   VGFX_ERROR_TOO_SMALL      the last row passes the end of the buffer */
+VGFX_CALL vgfx_read_pixels(vgfx_context *context, vgfx_id texture, vgfx_pixels pixels_format, void *pixels, size_t pixels_length, size_t stride);
 
 /* ---- resources; each call writes the id of what it made */
 
@@ -350,7 +369,7 @@ VGFX_CALL vgfx_create_vertex_buffer(vgfx_context *context, vgfx_id layout, const
  * Returns: VGFX_OK, VGFX_ERROR_BAD_SIZE, VGFX_ERROR_FULL, VGFX_ERROR_SERIALS_SPENT, VGFX_ERROR_OUT_OF_MEMORY. */
 VGFX_CALL vgfx_create_index_buffer(vgfx_context *context, const void *bytes, size_t bytes_length, vgfx_id *made);
 
-/* Makes a texture with sides of 1 to VGFX_MAX_SIDE, of four bytes a texel, which are copied. A `blit_destination` of 0 makes one that no
+/* Makes a texture with sides of 1 to VGFX_MAX_SIDE, of four bytes a texel, which are copied once the sizes are found right. A `blit_destination` of 0 makes one that no
  * blit may write.
  * Returns: VGFX_OK, VGFX_ERROR_BAD_VALUE, VGFX_ERROR_BAD_SIZE where a side is not admitted or the bytes are not four a texel,
  * VGFX_ERROR_FULL, VGFX_ERROR_TEXELS_FULL, VGFX_ERROR_SERIALS_SPENT, VGFX_ERROR_OUT_OF_MEMORY. */
@@ -492,7 +511,7 @@ VGFX_CALL vgfx_encoder_blit(vgfx_encoder *encoder, uint16_t view, vgfx_id destin
 VGFX_CALL vgfx_encoder_end(vgfx_encoder *encoder, uint32_t dropped);
 
 /* Gives up an encoder whose context is, or will be, shut down. Its handle is null from then on, and it stays out for ever: each later
- * vgfx_frame of its context answers VGFX_ERROR_TRY_AGAIN. To be rid of an encoder and go on, end it.
+ * vgfx_frame of its context answers VGFX_ERROR_ENDED. To be rid of an encoder and go on, end it.
  * Returns: VGFX_OK. */
 VGFX_CALL vgfx_encoder_drop(vgfx_encoder *encoder);
 
@@ -531,6 +550,7 @@ VGFX_INLINE const char *vgfx_status_name(vgfx_status status) {
     case VGFX_ERROR_NO_SCENE: return "VGFX_ERROR_NO_SCENE";
     case VGFX_ERROR_TOO_LONG: return "VGFX_ERROR_TOO_LONG";
     case VGFX_ERROR_UNKNOWN: return "VGFX_ERROR_UNKNOWN";
+    case VGFX_ERROR_NOT_THERE: return "VGFX_ERROR_NOT_THERE";
     default: return "unknown status";
     }
 }
@@ -556,6 +576,8 @@ VGFX_INLINE const uint16_t *vgfx_or_view(const uint16_t *views) {
 #define vgfx_play(text, text_length, pictures, pictures_length, report, report_length, played) \
     vgfx_play(vgfx_or_byte(text), text_length, vgfx_or_room(pictures), pictures_length, vgfx_or_room(report), report_length, played)
 #define vgfx_frame(context, picture, picture_length, report) vgfx_frame(context, vgfx_or_room(picture), picture_length, report)
+#define vgfx_read_pixels(context, texture, pixels_format, pixels, pixels_length, stride) \
+    vgfx_read_pixels(context, texture, pixels_format, vgfx_or_room(pixels), pixels_length, stride)
 #define vgfx_create_layout(context, parts, parts_length, made) vgfx_create_layout(context, vgfx_or_part(parts), parts_length, made)
 #define vgfx_create_vertex_buffer(context, layout, bytes, bytes_length, made) vgfx_create_vertex_buffer(context, layout, vgfx_or_byte(bytes), bytes_length, made)
 #define vgfx_create_index_buffer(context, bytes, bytes_length, made) vgfx_create_index_buffer(context, vgfx_or_byte(bytes), bytes_length, made)

@@ -26,6 +26,7 @@ using Id = vgfx_id;
 using Transform = vgfx_transform;
 
 enum class Format : std::uint32_t { Rgba8 = VGFX_FORMAT_RGBA8, D24S8 = VGFX_FORMAT_D24S8 };
+enum class Pixels : std::uint32_t { Rgba8 = VGFX_PIXELS_RGBA8, D24S8 = VGFX_PIXELS_D24S8, Bgra8 = VGFX_PIXELS_BGRA8 };
 enum class Program : std::uint32_t {
     Solid = VGFX_PROGRAM_SOLID, Color = VGFX_PROGRAM_COLOR, Texture = VGFX_PROGRAM_TEXTURE, TextureColor = VGFX_PROGRAM_TEXTURE_COLOR
 };
@@ -144,6 +145,12 @@ class Context {
     }
     Status collect(std::uint32_t &out) noexcept { return vgfx_collect(&handle_, &out); }
     Status frame(Span<std::uint8_t> picture, vgfx_frame_report &report) noexcept { return vgfx_frame(&handle_, picture.data(), picture.size(), &report); }
+
+    /* Without a picture's text; read_pixels reads the pixels. */
+    Status frame(vgfx_frame_report &report) noexcept { return vgfx_frame(&handle_, nullptr, 0, &report); }
+    Status read_pixels(Id texture, Pixels format, Span<std::uint8_t> pixels, std::size_t stride) noexcept {
+        return vgfx_read_pixels(&handle_, texture, static_cast<vgfx_pixels>(format), pixels.data(), pixels.size(), stride);
+    }
 
     Status create_layout(Span<const vgfx_layout_part> parts, Id &made) noexcept { return vgfx_create_layout(&handle_, parts.data(), parts.size(), &made); }
     Status create_vertex_buffer(Id layout, Bytes bytes, Id &made) noexcept {

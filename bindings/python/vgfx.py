@@ -58,10 +58,12 @@ ERRORS = {
     106: "NO_SCENE",
     107: "TOO_LONG",
     108: "UNKNOWN",
+    109: "NOT_THERE",
 }
 ATTRIBUTES = {"position": 0, "normal": 1, "tangent": 2, "color0": 3, "color1": 4, "texcoord0": 5, "texcoord1": 6, "skip": 255}
 COMPONENTS = {"u8": 0, "i16": 1, "fixed": 2}
 FORMATS = {"rgba8": 0, "d24s8": 1}
+PIXELS = {"rgba8": 0, "d24s8": 1, "bgra8": 2}
 PROGRAMS = {"solid": 0, "color": 1, "texture": 2, "texcolor": 3}
 UNIFORMS = {"vec4": 0, "int": 1}
 MODES = {"default": 0, "sequential": 1, "ascending": 2, "descending": 3}
@@ -101,6 +103,7 @@ CALLS = {
     "vgfx_encoder_begin": [HANDLE, HANDLE, c_uint32, c_uint32, c_uint32],
     "vgfx_collect": [HANDLE, POINTER(c_uint32)],
     "vgfx_frame": [HANDLE, c_void_p, c_size_t, POINTER(FrameReport)],
+    "vgfx_read_pixels": [HANDLE, ID, c_uint32, c_void_p, c_size_t, c_size_t],
     "vgfx_create_layout": [HANDLE, POINTER(Part), c_size_t, POINTER(ID)],
     "vgfx_create_vertex_buffer": [HANDLE, ID, c_void_p, c_size_t, POINTER(ID)],
     "vgfx_create_index_buffer": [HANDLE, c_void_p, c_size_t, POINTER(ID)],
@@ -325,8 +328,8 @@ class Context(Owner):
         self._call("vgfx_collect", byref(out))
         return out.value
 
-    def frame(self, picture):
-        """Ends the frame and writes its picture, a P6 text, into PICTURE, a buffer of at least `picture_bytes` bytes."""
+    def frame(self, picture=b""):
+        """Ends the frame and writes its picture, a P6 text, into PICTURE, a buffer of at least `picture_bytes` bytes, or nowhere."""
         report = FrameReport()
         self._call("vgfx_frame", *room_of(picture), byref(report))
         return report
@@ -334,6 +337,11 @@ class Context(Owner):
     def pixels(self, picture, report):
         """The pixels in the picture's buffer, as a view of it: red, green and blue, row by row from the top."""
         return memoryview(picture)[report.picture - 3 * self.width * self.height : report.picture]
+
+    def read_pixels(self, buffer, texture=0, kind="rgba8", stride=None):
+        """Reads a texture, or the back buffer by 0, as the last frame left it, into BUFFER, with STRIDE bytes from row to row (4 * width of the
+        back buffer where none is given)."""
+        self._call("vgfx_read_pixels", texture, PIXELS[kind], *room_of(buffer), 4 * self.width if stride is None else stride)
 
     def create_layout(self, *parts):
         """A layout of parts as `position:fixed:2`, `color0:u8:4` and `skip:3`."""
@@ -482,6 +490,19 @@ def draws():
         assert (report.number, report.dropped, context.frame_number()) == (0, 3, 1)
         assert bytes(context.pixels(picture, report)) == bytes([1, 2, 3, 40, 50, 60])
         refused("TOO_SMALL", context.frame, bytearray(5))
+        pixels = bytearray(8)
+        context.read_pixels(pixels)
+        assert bytes(pixels) == bytes([1, 2, 3, 255, 40, 50, 60, 255])
+        context.read_pixels(pixels, texture, "bgra8", 8)
+        assert bytes(pixels) == bytes([30, 20, 10, 255, 60, 50, 40, 255])
+        refused("WRONG_KIND", context.read_pixels, pixels, texture, "d24s8")
+        refused("BAD_SIZE", context.read_pixels, pixels, 0, "rgba8", 7)
+        refused("TOO_SMALL", context.read_pixels, bytearray(7))
+        with context.begin(items=1) as encoder:
+            encoder.touch(0)
+        assert context.frame().picture == 0
+        context.read_pixels(pixels)
+        assert bytes(pixels) == bytes([1, 2, 3, 255] * 2)
         left = context.begin()
         refused("TRY_AGAIN", context.frame, picture)
         assert context.collect() == 1

@@ -83,7 +83,7 @@ static void draw(vgfx_encoder *encoder, uint16_t view, vgfx_id program, vgfx_id 
 int main(void) {
     static corner corners[24];
     static uint16_t indices[36];
-    static uint8_t texels[4 * SIDE * SIDE], picture[VGFX_PICTURE_BYTES(WIDTH, HEIGHT)];
+    static uint8_t texels[4 * SIDE * SIDE], pixels[4 * WIDTH * HEIGHT], picture[3 * WIDTH * HEIGHT];
     make_cube(corners, indices);
     make_board(texels);
 
@@ -111,8 +111,9 @@ int main(void) {
     MUST(vgfx_encoder_end(&encoder, 0));
 
     vgfx_frame_report report;
-    MUST(vgfx_frame(&context, picture, sizeof picture, &report));
+    MUST(vgfx_frame(&context, NULL, 0, &report)); /* the pixels are read, so no text is wanted */
+    MUST(vgfx_read_pixels(&context, 0, VGFX_PIXELS_RGBA8, pixels, sizeof pixels, 4 * WIDTH));
     MUST(vgfx_shutdown(&context));
-    /* the pixels are the last bytes of the picture's text */
-    return png_write(stdout, picture + report.picture - 3 * WIDTH * HEIGHT, WIDTH, HEIGHT);
+    for (size_t i = 0; i < (size_t)WIDTH * HEIGHT; i++) memcpy(picture + 3 * i, pixels + 4 * i, 3);
+    return png_write(stdout, picture, WIDTH, HEIGHT);
 }

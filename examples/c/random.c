@@ -1,6 +1,6 @@
 /* Random calls, by a seed: handles that are null, of the other kind or ended, words that name nothing, numbers that stand for nothing, buffers
  * too small. Each is answered by a status of the header, none by want of memory, and a call that is not done changes no word that it is given.
- * The program writes how often each status came. Among 100,000 calls or more each of the 40 is done at least once, or the program fails.
+ * The program writes how often each status came. Among 100,000 calls or more each of the 41 is done at least once, or the program fails.
  *
  * usage: random [SEED [CALLS]] */
 #include "vgfx.h"
@@ -10,7 +10,7 @@
 #include <stdlib.h>
 #include <string.h>
 
-enum { WIDTH = 17, HEIGHT = 5, PICTURE = 3 * WIDTH * HEIGHT + 17, WORDS = 32, ENCODERS = 10, CALLS = 40 };
+enum { WIDTH = 17, HEIGHT = 5, PICTURE = 3 * WIDTH * HEIGHT + 17, WORDS = 32, ENCODERS = 10, CALLS = 41 };
 
 enum kind { LAYOUT, VERTEX_BUFFER, INDEX_BUFFER, TEXTURE, FRAME_BUFFER, PROGRAM, UNIFORM, KINDS };
 
@@ -63,7 +63,7 @@ static void fail(const char *what) {
 }
 
 static uint8_t bytes[4096];
-static uint8_t picture[PICTURE];
+static uint8_t picture[PICTURE], pixels[4 * 6 * WIDTH];
 
 static vgfx_status create(uint32_t call, vgfx_context *c, vgfx_id *made) {
     uint32_t n = below(65);
@@ -140,12 +140,18 @@ static vgfx_status any_call(uint32_t call) {
         case 36: return vgfx_encoder_end(e, below(3));
         case 37: { uint32_t off; return vgfx_collect(c, &off); }
         case 38: { uint32_t number; return vgfx_frame_number(c, &number); }
+        case 39: {
+            size_t stride = below(8) ? 4 * WIDTH + below(8) : below(80), length = below(8) ? sizeof pixels : below(sizeof pixels);
+            return vgfx_read_pixels(c, below(2) ? word(TEXTURE) : 0, (vgfx_pixels)below(4), pixels, length, stride);
+        }
         default: {
             /* most frames end their encoders first */
             if (below(4)) for (int i = 0; i < ENCODERS; i++) (void)!vgfx_encoder_end(&encoders[i], 1);
             vgfx_frame_report framed;
-            vgfx_status status = vgfx_frame(c, picture, below(4) ? sizeof picture : below(sizeof picture), &framed);
-            if (status == VGFX_OK && (framed.picture != 3 * WIDTH * HEIGHT + 12 || memcmp(picture, "P6\n17 5\n255\n", 12) != 0)) fail("a picture is not whole");
+            size_t length = below(4) ? sizeof picture : below(2) ? below(sizeof picture) : 0;
+            vgfx_status status = vgfx_frame(c, picture, length, &framed);
+            if (status == VGFX_OK && length == 0 && framed.picture != 0) fail("a picture where no buffer was given");
+            if (status == VGFX_OK && length > 0 && (framed.picture != 3 * WIDTH * HEIGHT + 12 || memcmp(picture, "P6\n17 5\n255\n", 12) != 0)) fail("a picture is not whole");
             return status;
         }
     }
@@ -153,8 +159,8 @@ static vgfx_status any_call(uint32_t call) {
 
 int main(int argc, char **argv) {
     /* there is memory: VGFX_ERROR_OUT_OF_MEMORY, and VGFX_ERROR_ENDED behind it, would be wrong */
-    static const vgfx_status known[] = {0, 1, 2, 3, 4, 5, 6, 7, 8, 9, 10, 11, 12, 13, 14, 16, 100, 101, 103, 104, 105, 108};
-    static uint64_t counts[109], done[CALLS];
+    static const vgfx_status known[] = {0, 1, 2, 3, 4, 5, 6, 7, 8, 9, 10, 11, 12, 13, 14, 16, 100, 101, 103, 104, 105, 108, 109};
+    static uint64_t counts[110], done[CALLS];
     state = argc > 1 ? strtoull(argv[1], 0, 10) : 1;
     uint64_t calls = argc > 2 ? strtoull(argv[2], 0, 10) : 100000;
     for (size_t i = 0; i < sizeof bytes; i++) bytes[i] = (uint8_t)next();

@@ -1,5 +1,5 @@
-/* A window of SDL2 whose pictures are the library's: a cube of colours that turns. Each frame's picture is copied to the window's surface by
- * the processor. Where the window gets other sides, the context is made anew with them, since a context keeps its sides.
+/* A window of SDL2 whose pictures are the library's: a cube of colours that turns. The pixels of each frame are read into the window's surface,
+ * which most often has them as blue, green, red and a byte more. Where the window gets other sides, the context is made anew with them, since a context keeps its sides.
  *
  *   cc window.c $(pkg-config --cflags --libs vgfx sdl2) -lm -o window && ./window
  *
@@ -32,8 +32,6 @@ typedef struct scene {
     vgfx_context context;
     vgfx_id vertices, indices, program;
     uint16_t width, height;
-    uint8_t *picture;
-    size_t picture_length;
 } scene;
 
 typedef struct corner {
@@ -57,9 +55,6 @@ static void open_scene(scene *s, int width, int height) {
         corners[i] = c;
     }
     s->width = side(width), s->height = side(height);
-    s->picture_length = VGFX_PICTURE_BYTES(s->width, s->height);
-    s->picture = malloc(s->picture_length);
-    if (!s->picture) exit(1);
     vgfx_id layout;
     MUST(vgfx_init(&s->context, s->width, s->height));
     MUST(vgfx_create_layout(&s->context, parts, 2, &layout));
@@ -71,7 +66,6 @@ static void open_scene(scene *s, int width, int height) {
 
 static void close_scene(scene *s) {
     MUST(vgfx_shutdown(&s->context)); /* all that was made goes with it */
-    free(s->picture);
 }
 
 /* Turned about two axes, as large as fits, with its depth between 0 and 1. */
@@ -88,8 +82,8 @@ static vgfx_transform turned(double yaw, double pitch, const scene *s) {
     return t;
 }
 
-/* Draws a frame. Returns its pixels, three bytes each. */
-static uint8_t *draw(scene *s, double seconds) {
+/* Draws a frame, without the text of a picture. */
+static void draw(scene *s, double seconds) {
     vgfx_encoder encoder = VGFX_HANDLE_NULL;
     vgfx_frame_report report;
     vgfx_transform at = turned(0.9 * seconds, 0.6, s);
@@ -100,24 +94,30 @@ static uint8_t *draw(scene *s, double seconds) {
     MUST(vgfx_encoder_set_indices(&encoder, s->indices, 0, 36));
     MUST(vgfx_encoder_submit(&encoder, 0, s->program, 0, VGFX_DISCARD_ALL));
     MUST(vgfx_encoder_end(&encoder, 0));
-    MUST(vgfx_frame(&s->context, s->picture, s->picture_length, &report));
-    return s->picture + report.picture - 3 * (size_t)s->width * s->height;
+    MUST(vgfx_frame(&s->context, NULL, 0, &report));
 }
 
-/* Copies the pixels to the window, whatever order of bytes its surface has. */
-static void show(SDL_Window *window, const scene *s, uint8_t *pixels) {
+/* Reads the pixels into the window's surface, or, where that has another order of bytes or other sides, into one beside it. */
+static void show(SDL_Window *window, scene *s) {
     SDL_Surface *surface = SDL_GetWindowSurface(window);
-    SDL_Surface *ours = SDL_CreateRGBSurfaceWithFormatFrom(pixels, s->width, s->height, 24, 3 * s->width, SDL_PIXELFORMAT_RGB24);
-    must_sdl(surface && ours);
-    must_sdl(SDL_BlitSurface(ours, NULL, surface, NULL) == 0);
-    SDL_FreeSurface(ours);
+    must_sdl(surface != NULL);
+    Uint32 format = surface->format->format;
+    int direct = (format == SDL_PIXELFORMAT_RGB888 || format == SDL_PIXELFORMAT_ARGB8888) && surface->w >= s->width && surface->h >= s->height;
+    SDL_Surface *to = direct ? surface : SDL_CreateRGBSurfaceWithFormat(0, s->width, s->height, 32, SDL_PIXELFORMAT_RGB888);
+    must_sdl(to != NULL && SDL_LockSurface(to) == 0);
+    MUST(vgfx_read_pixels(&s->context, 0, VGFX_PIXELS_BGRA8, to->pixels, (size_t)to->pitch * (size_t)to->h, (size_t)to->pitch));
+    SDL_UnlockSurface(to);
+    if (!direct) {
+        must_sdl(SDL_BlitSurface(to, NULL, surface, NULL) == 0);
+        SDL_FreeSurface(to);
+    }
     must_sdl(SDL_UpdateWindowSurface(window) == 0);
 }
 
 int main(int argc, char **argv) {
     long frames = argc > 1 ? strtol(argv[1], NULL, 10) : -1;
     int open = 1, width = 480, height = 360;
-    scene s = {VGFX_HANDLE_NULL, 0, 0, 0, 0, 0, NULL, 0};
+    scene s = {VGFX_HANDLE_NULL, 0, 0, 0, 0, 0};
     must_sdl(SDL_Init(SDL_INIT_VIDEO) == 0);
     SDL_Window *window = SDL_CreateWindow("vgfx", SDL_WINDOWPOS_CENTERED, SDL_WINDOWPOS_CENTERED, width, height, SDL_WINDOW_RESIZABLE);
     must_sdl(window != NULL);
@@ -133,7 +133,8 @@ int main(int argc, char **argv) {
             printf("the window has %d by %d pixels now\n", width, height);
             fflush(stdout);
         }
-        show(window, &s, draw(&s, (double)frame / 60));
+        draw(&s, (double)frame / 60);
+        show(window, &s);
         SDL_Delay(16);
     }
     close_scene(&s);

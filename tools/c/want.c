@@ -101,6 +101,15 @@ static void is_ended(vgfx_context *context, int frame) {
     if (framed.number != 7 || framed.picture != 7 || framed.dropped != 7) wrong("a frame was told that did not end");
 }
 
+/* The pixels that are read are those of the picture. Nothing is taken for it. */
+static void is_read(vgfx_context *context, const uint8_t *colors) {
+    uint8_t pixels[4 * WIDTH * HEIGHT];
+    failed = false;
+    if (vgfx_read_pixels(context, 0, VGFX_PIXELS_RGBA8, pixels, sizeof pixels, 4 * WIDTH) != VGFX_OK || failed) wrong("vgfx_read_pixels");
+    for (int i = 0; i < WIDTH * HEIGHT; i++)
+        if (memcmp(pixels + 4 * i, colors + 3 * i, 3) != 0) wrong("the pixels that were read");
+}
+
 /* A draw by both kinds of vertices, with a texture that is copied first. */
 static void record(vgfx_encoder *encoder, const vgfx_id *of) {
     static const uint8_t corners[24] = {0, 0, 255, 255, 0, 0, 1, 0, 0, 0, 1, 0, 0, 0, 1, 0, 0, 0, 255, 255, 0, 0, 255, 255};
@@ -185,6 +194,7 @@ static int play(void) {
             break;
         }
         if (status != VGFX_OK || framed.dropped != 2) wrong("vgfx_frame");
+        is_read(&context, picture[frame] + framed.picture - 3 * WIDTH * HEIGHT);
     }
     MUST(vgfx_shutdown(&context));
     if (blocks != 0) wrong("blocks were not given back");

@@ -15,6 +15,7 @@ fault_number faults.Ended = 102
 fault_number faults.TooSmall = 103
 fault_number faults.BadValue = 104
 fault_number faults.Taken = 105
+fault_number faults.NotThere = 109
 
 -- the status of an answer
 abbrev pub status_of : {X : Type 0} → Result X Fault → ℕ

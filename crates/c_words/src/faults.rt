@@ -26,6 +26,8 @@ pub enum Fault {
     BadValue,
     /// A handle that is to be set is not null.
     Taken,
+    /// The last frame left no such texture.
+    NotThere,
 }
 
 impl Fault {
@@ -42,6 +44,7 @@ impl Fault {
             Fault::TooSmall => 103,
             Fault::BadValue => 104,
             Fault::Taken => 105,
+            Fault::NotThere => 109,
         }
     }
 }

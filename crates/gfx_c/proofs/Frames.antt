@@ -1,5 +1,6 @@
 -- The end of a frame, step by step.
-use Rattle.std.proofs.Common.{◌≡◌, ℕ, ◌+◌, ◌-◌, ◌<◌, ◌≤◌, ◌||◌, inl, inr, Bool, true, false, if◌then◌else◌, List, [], map, length, drop, ◌++◌, Option, Some, None, Result, Ok, Err, refl, sym, ap, ◌∙◌, subst, arith}
+use Rattle.std.proofs.Common.{◌≡◌, ℕ, ◌+◌, ◌-◌, ◌<◌, ◌≤◌, ◌||◌, ◌==◌, inl, inr, Bool, true, false, if◌then◌else◌, List, [], ◌∷◌, map, length, drop, ◌++◌, Option, Some, None, Result, Ok, Err, refl, sym, ap, ◌∙◌, subst, arith}
+use Rattle.std.proofs.lemmas.Bool.{eqb-true}
 use Rattle.std.proofs.lemmas.List.{length-map}
 use Rattle.scene_model.specs.Output.{picture_text}
 use Rattle.gfx_model.specs.Frames.{collected}
@@ -25,7 +26,7 @@ use Rattle.render_core.specs.Shown.{HeldAfter}
 use Rattle.c_words.specs.declared.faults.Fault.{Fault}
 use Rattle.gfx_c.specs.declared.frame.Framed.{Framed}
 use Rattle.gfx_c.specs.Calls.{is_over}
-use Rattle.gfx_c.specs.Frames.{Shows, HandsOut, Delivers, IsDelivered, IsMade, FramesHere, came_back, emptied, picture_of}
+use Rattle.gfx_c.specs.Frames.{Shows, HandsOut, Delivers, IsDelivered, IsMade, IsTold, Tells, FramesSeen, FramesUnseen, FramesInto, came_back, emptied, picture_of}
 use Rattle.gfx_c.specs.Views.{ContextView, IsOn}
 use Rattle.gfx_c.proofs.Told.{context_with}
 
@@ -125,7 +126,7 @@ first_false false b e = refl
 
 -- a frame that was made and rendered is delivered, or not
 module _ (frame : Frame) (dropped : ℕ) (before after : List ℕ) (old mid new : ContextView) (runs : is_over old ≡ false) (enough : old.most ≤ length before) (made : IsMade frame dropped old mid) where
-  pub delivered_told : (result : Result Framed Fault) → Delivers result frame dropped before after mid new → FramesHere result before after old new
+  pub delivered_told : (result : Result Framed Fault) → Delivers result frame dropped before after mid new → FramesSeen result before after old new
   delivered_told (Ok framed) d = record {
     runs = runs;
     room = enough;
@@ -134,8 +135,29 @@ module _ (frame : Frame) (dropped : ℕ) (before after : List ℕ) (old mid new 
     made = subst (λ (n : ℕ). IsMade frame n old mid) (sym d.dropped_is) made;
     delivered = subst (λ (n : ℕ). IsDelivered framed frame n before after mid new) (sym d.dropped_is) d;
   }
-  delivered_told (Err f) d = inr (runs, inr (enough, inr (record { mid = mid; frame = frame; dropped = dropped; made = made; not_shown = d })))
+  delivered_told (Err f) d = inr (enough, inr (record { mid = mid; frame = frame; dropped = dropped; made = made; not_shown = d }))
 
   -- its buffer is as long as a picture can be
   pub enough_still : Shows frame mid new → new.most ≤ length before
   enough_still s = subst (λ (n : ℕ). n ≤ length before) (sym (ap (λ (c : ContextView). c.most) s.3 ∙ ap (λ (c : ContextView). c.most) made.after)) enough
+
+-- and without a buffer
+module _ (frame : Frame) (dropped : ℕ) (old mid new : ContextView) (runs : is_over old ≡ false) (made : IsMade frame dropped old mid) where
+  pub told_unseen : (result : Result Framed Fault) → Tells result frame dropped mid new → FramesUnseen result old new
+  told_unseen (Ok framed) t = record {
+    runs = runs;
+    mid = mid;
+    frame = frame;
+    made = subst (λ (n : ℕ). IsMade frame n old mid) (sym t.dropped_is) made;
+    told = subst (λ (n : ℕ). IsTold framed frame n mid new) (sym t.dropped_is) t;
+  }
+  told_unseen (Err f) t = inr (record { mid = mid; frame = frame; dropped = dropped; made = made; not_shown = t })
+
+-- a buffer without a byte, and one with some
+pub into_none : (result : Result Framed Fault) (before : List ℕ) (old new : ContextView) → (length before == 0) ≡ true → FramesUnseen result old new → FramesInto result before before old new
+into_none result [] old new e u = (u, refl)
+into_none result (b ∷ bs) old new e u = let none = eqb-true (length (b ∷ bs)) 0 e in absurd (omega (arith, none))
+
+pub into_some : (result : Result Framed Fault) (before after : List ℕ) (old new : ContextView) → (length before == 0) ≡ false → FramesSeen result before after old new → FramesInto result before after old new
+into_some result [] after old new e s = absurd (cc e)
+into_some result (b ∷ bs) after old new e s = s

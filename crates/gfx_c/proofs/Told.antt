@@ -1,16 +1,18 @@
 -- What its core answers, a context answers.
-use Rattle.std.proofs.Common.{◌≡◌, ℕ, Bool, List, Option, Some, None, Result, Ok, Err, refl, ap, sym, ◌∙◌, subst}
-use Rattle.std.specs.Prelude.{slice_set, MatchOption}
-use Rattle.gfx_model.specs.Words.{Handle}
+use Rattle.std.proofs.Common.{◌≡◌, ℕ, Bool, true, false, not, ◌+◌, ◌*◌, List, [], ◌∷◌, Option, Some, None, Result, Ok, Err, inl, refl, ap, sym, ◌∙◌, subst}
+use Rattle.std.specs.Prelude.{slice_set, sum_by, nat_lt, MatchOption}
+use Rattle.gfx_model.specs.Words.{Handle, Format, texture_kind}
+use Rattle.gfx_model.specs.Resources as model
 use Rattle.gfx_model.specs.Resources.{ResourceCall}
 use Rattle.gfx_words.specs.Names.{handle_word}
 use Rattle.gfx_words.specs.declared.refusals.Refusal.{Refusal}
+use Rattle.gfx_words.specs.declared.refusals.Refusal.TheVariants as refusals
 use Rattle.context_core.specs.Calls.{Creates, Updates, Changes, Destroys}
 use Rattle.context_core.specs.States.{CoreView, own}
 use Rattle.render_core.specs.Rendered.{Rendering}
 use Rattle.c_words.specs.declared.faults.Fault.{Fault}
 use Rattle.c_words.specs.declared.faults.Fault.TheVariants as faults
-use Rattle.gfx_c.specs.Calls.{CreatesHere, UpdatesHere, ChangesHere, DestroysHere, OnThing, OnMaybe, given}
+use Rattle.gfx_c.specs.Calls.{CreatesHere, CreatesTexture, fits_texture, UpdatesHere, ChangesHere, DestroysHere, OnThing, OnMaybe, given}
 use Rattle.c_words.specs.Statuses.{told_of}
 use Rattle.c_words.specs.Things.{named, named_or_none, row_of_word}
 use Rattle.gfx_c.specs.Views.{ContextView}
@@ -62,3 +64,15 @@ module _ (rows : List (Option Handle)) (renderer : Rendering) (is_shown : Bool) 
       (Ok h, is, subst (λ (k : ContextView). Creates own (Ok h) call a k.core) (sym e) m, e ∙ (λ j. record { core = sym (ap (λ (k : ContextView). k.core) e) j; rows = slice_set rows (row_of_word (handle_word h)) (Some h); renderer = renderer; is_shown = is_shown; most = most }))
   creates_told call result (Err f) kept is m e old same = subst (λ (o : ContextView). CreatesHere result call o kept) same
       (Err f, is, subst (λ (k : ContextView). Creates own (Err f) call a k.core) (sym e) m, e ∙ (λ j. record { core = sym (ap (λ (k : ContextView). k.core) e) j; rows = rows; renderer = renderer; is_shown = is_shown; most = most }))
+
+-- ---- a texture whose sides or bytes do not fit
+
+first_is : (b : Bool) (r : model.Refusal) (rest : List (Bool × model.Refusal)) → b ≡ false → model.first_refusal ((not b, r) ∷ rest) ≡ Some r
+first_is false r rest e = refl
+first_is true r rest e = absurd (cc e)
+
+pub wrong_texture : (width height : ℕ) (f : Format) (d : Bool) (bytes : List ℕ) (c : ContextView) → fits_texture width height bytes ≡ false → CreatesTexture (Err (faults.Refused refusals.BadSize)) width height f d bytes c c
+wrong_texture width height f d bytes c e =
+    let r = c.core.state.book.resources in
+    let rest : List (Bool × model.Refusal) = model.lacks_index r texture_kind ∷ (nat_lt model.greatest_texels (sum_by (λ t. model.texel_count t.content) r.things + width * height), model.texels_full) ∷ model.lacks_serial r ∷ [] in
+    inl (Err refusals.BadSize, refl, (first_is (fits_texture width height bytes) model.bad_size rest e, refl), refl)

@@ -1,10 +1,10 @@
 -- How the calls of a context and of an encoder are answered.
 use Rattle.std.specs.Prelude.{◌≡◌, ℕ, ◌+◌, ◌*◌, ◌⊎◌, ◌||◌, ◌&&◌, nat_le, not, Bool, true, false, List, [], replicate, length, slice_set, Option, Some, None, Result, Ok, Err, MatchResult, MatchOption, ⊤}
-use Rattle.gfx_model.specs.Words.{Handle}
+use Rattle.gfx_model.specs.Words.{Handle, Format}
 use Rattle.gfx_model.specs.World.{first_world}
 use Rattle.gfx_model.specs.Recorder.{EncoderCall, Room}
 use Rattle.gfx_model.specs.Resources as model
-use Rattle.gfx_model.specs.Resources.{ResourceCall, create_layout}
+use Rattle.gfx_model.specs.Resources.{ResourceCall, create_layout, create_texture, bytes_source, is_size, source_fits}
 use Rattle.gfx_model.specs.Vertex.{LayoutPart, layout_of_parts}
 use Rattle.gfx_model.specs.FrameCalls.{begin_encoder, frame_refusal}
 use Rattle.gfx_words.specs.declared.refusals.Refusal.{Refusal}
@@ -97,9 +97,15 @@ OnThing rows word result old new says = MatchOption (named rows word) ((result �
 abbrev pub OnMaybe : {X V : Type 0} → List (Option Handle) → ℕ → Result X Fault → (old new : V) → (Option Handle → Type 0) → Type 0
 OnMaybe rows word result old new says = MatchOption (named_or_none rows word) ((result ≡ Err faults.Unknown) × (new ≡ old)) says
 
--- a create before which memory may be wanting
-abbrev pub CreatesOrWants : Result Handle Fault → ResourceCall → (old new : ContextView) → Type 0
-CreatesOrWants result call old new = CreatesHere result call old new ⊎ ((result ≡ Err (faults.Refused refusals.OutOfMemory)) × (new ≡ old))
+-- whether a texture can have these sides and these bytes
+abbrev pub fits_texture : (width height : ℕ) → List ℕ → Bool
+fits_texture width height bytes = is_size width && is_size height && source_fits width height (bytes_source bytes)
+
+-- a create of a texture of bytes, which are copied: where its sides and its bytes fit, memory may be wanting for the copy
+abbrev pub CreatesTexture : Result Handle Fault → (width height : ℕ) → Format → Bool → List ℕ → (old new : ContextView) → Type 0
+CreatesTexture result width height format blit_destination bytes old new =
+    CreatesHere result (create_texture width height format blit_destination (bytes_source bytes)) old new
+    ⊎ ((fits_texture width height bytes ≡ true) × (result ≡ Err (faults.Refused refusals.OutOfMemory)) × (new ≡ old))
 
 -- a create of the layout that parts make, or why they make none
 abbrev pub MakesLayout : Option (List LayoutPart) → Result Handle Fault → (old new : ContextView) → Type 0

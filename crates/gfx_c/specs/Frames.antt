@@ -1,5 +1,5 @@
 -- How a frame ends.
-use Rattle.std.specs.Prelude.{◌≡◌, ℕ, ◌<◌, ◌≤◌, ◌⊎◌, true, false, List, [], ◌++◌, drop, length, Option, Some, None, Result, Ok, Err, MatchResult}
+use Rattle.std.specs.Prelude.{◌≡◌, ℕ, ◌<◌, ◌≤◌, ◌⊎◌, true, false, List, [], ◌∷◌, ◌++◌, drop, length, Option, Some, None, Result, Ok, Err, MatchResult}
 use Rattle.scene_model.specs.Output.{picture_text}
 use Rattle.gfx_words.specs.declared.refusals.Refusal.TheVariants as refusals
 use Rattle.context_core.specs.Ended.{IsReady, IsNotReady, Gives}
@@ -99,6 +99,18 @@ Delivers result f dropped before after old new =
     (λ framed. IsDelivered framed f dropped before after old new)
     (λ fault. IsNotShown fault f before after old new)
 
+-- what is told of a frame that was shown, and whose picture no buffer is given for
+pub record IsTold (framed : Framed) (f : Frame) (dropped : ℕ) (old new : ContextView) : Type 0 where
+  pub number : framed.number ≡ f.number
+  pub dropped_is : framed.dropped ≡ dropped
+  pub shows : Shows f old new
+  pub shown : new.is_shown ≡ true
+  pub none : framed.picture ≡ 0
+
+-- a frame is rendered and told, or not
+abbrev pub Tells : Result Framed Fault → Frame → (dropped : ℕ) → (old new : ContextView) → Type 0
+Tells result f dropped old new = MatchResult result (λ framed. IsTold framed f dropped old new) (λ fault. IsNotShown fault f [] [] old new)
+
 -- the frame was made and delivered
 pub record IsFramed (framed : Framed) (before after : List ℕ) (old new : ContextView) : Type 0 where
   pub runs : is_over old ≡ false
@@ -116,20 +128,52 @@ pub record IsLost (f : Fault) (before after : List ℕ) (old new : ContextView) 
   pub made : IsMade frame dropped old mid
   pub not_shown : IsNotShown f frame before after mid new
 
--- why none is delivered: the context is over; or the buffer too small; or no frame was made; or it was not shown
+-- why none is delivered: the buffer is too small; or no frame was made; or it was not shown
 abbrev pub IsNotFramed : Fault → (before after : List ℕ) → (old new : ContextView) → Type 0
 IsNotFramed f before after old new =
-    ((f ≡ faults.Ended) × (is_over old ≡ true) × (new ≡ old) × (after ≡ before))
-    ⊎ ((is_over old ≡ false)
-    × (((f ≡ faults.TooSmall) × (length before < old.most) × (new ≡ old) × (after ≡ before))
-    ⊎ ((old.most ≤ length before) × ((IsStopped f old new × (after ≡ before)) ⊎ IsLost f before after old new))))
+    ((f ≡ faults.TooSmall) × (length before < old.most) × (new ≡ old) × (after ≡ before))
+    ⊎ ((old.most ≤ length before) × ((IsStopped f old new × (after ≡ before)) ⊎ IsLost f before after old new))
+
+-- the end of a frame of a context that is not over, with the buffer for its picture before and after
+abbrev pub FramesSeen : Result Framed Fault → (before after : List ℕ) → (old new : ContextView) → Type 0
+FramesSeen result before after old new =
+    MatchResult result
+    (λ framed. IsFramed framed before after old new)
+    (λ f. IsNotFramed f before after old new)
+
+-- the frame was made and shown without a buffer
+pub record IsUnseen (framed : Framed) (old new : ContextView) : Type 0 where
+  pub runs : is_over old ≡ false
+  pub mid : ContextView
+  pub frame : Frame
+  pub made : IsMade frame framed.dropped old mid
+  pub told : IsTold framed frame framed.dropped mid new
+
+-- the end of a frame of a context that is not over, without a buffer for its picture
+abbrev pub FramesUnseen : Result Framed Fault → (old new : ContextView) → Type 0
+FramesUnseen result old new =
+    MatchResult result
+    (λ framed. IsUnseen framed old new)
+    (λ f. IsStopped f old new ⊎ IsLost f [] [] old new)
+
+-- a buffer of no bytes is none
+abbrev pub FramesInto : Result Framed Fault → (before after : List ℕ) → (old new : ContextView) → Type 0
+FramesInto result [] after old new = FramesUnseen result old new × (after ≡ [])
+FramesInto result (b ∷ bs) after old new = FramesSeen result (b ∷ bs) after old new
+
+-- a context of which no encoder begins and no frame ends from then on
+abbrev pub closed : ContextView → ContextView
+closed c = record c { is_shown = false }
+
+-- no frame ends: the context is over; or an encoder that has not come back was given up, and from then on the context is over
+abbrev pub IsClosed : (old new : ContextView) → Type 0
+IsClosed old new = ((is_over old ≡ true) × (new ≡ old)) ⊎ ((is_over old ≡ false) × (0 < length old.core.state.seat.off) × (new ≡ closed old))
 
 -- the end of a frame, with the buffer for its picture before and after
 abbrev pub FramesHere : Result Framed Fault → (before after : List ℕ) → (old new : ContextView) → Type 0
 FramesHere result before after old new =
-    MatchResult result
-    (λ framed. IsFramed framed before after old new)
-    (λ f. IsNotFramed f before after old new)
+    ((result ≡ Err faults.Ended) × (after ≡ before) × IsClosed old new)
+    ⊎ ((is_over old ≡ false) × FramesInto result before after old new)
 
 -- what C is told of a frame, or what it was told before
 abbrev pub framed_after : Result Framed Fault → Framed → Framed

@@ -4,6 +4,7 @@ pub mod Views
 pub mod Rendered
 pub mod Calls
 pub mod Frames
+pub mod Pixels
 pub mod Exports
 pub mod Opening
 pub mod Plays

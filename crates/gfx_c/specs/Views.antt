@@ -7,7 +7,8 @@ use Rattle.context_core.specs.States.{CoreView}
 use Rattle.draw_encoder.specs.Calls.{RecorderView}
 use Rattle.render_core.specs.Rendered.{Rendering}
 
--- the state of the calls, the handles that were given by their places, the renderer, whether all frames were shown, and how many bytes a picture has at most
+-- the state of the calls, the handles that were given by their places, the renderer, whether frames are shown still (none was lost, and no encoder is known to be
+-- given up), and how many bytes a picture has at most
 pub record ContextView : Type 0 where
   pub core : CoreView
   pub rows : List (Option Handle)

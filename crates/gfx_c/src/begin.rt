@@ -141,7 +141,7 @@ impl Context {
     }
 
     // How many encoders of this frame have not come back.
-    fn off(&self) -> u32
+    pub(crate) fn off(&self) -> u32
         ensures { result ≡ length self.now.core.state.seat.off }
     {
         self.core.off()

@@ -3,7 +3,7 @@ ghost use Rattle.std.specs.Prelude.{◌≡◌, ◌∷◌, [], nat_lt, Err, Match
 ghost use Rattle.gfx_model.specs.Resources as model;
 ghost use Rattle.gfx_model.specs.Words.{program_of_number, format_of_number, uniform_of_number};
 ghost use Rattle.c_words.specs.declared.faults.Fault.TheVariants as faults;
-ghost use Rattle.gfx_c.specs.Calls.{CreatesHere, CreatesOrWants, MakesLayout, OnThing, OnMaybe};
+ghost use Rattle.gfx_c.specs.Calls.{CreatesHere, CreatesTexture, MakesLayout, OnThing, OnMaybe};
 ghost use Rattle.gfx_c.specs.Exports.{OnContext, word_after};
 ghost use Rattle.c_words.specs.Layouts.{parts_of};
 ghost use Rattle.c_words.specs.Statuses.{status_of};
@@ -119,7 +119,7 @@ pub extern "C" fn vgfx_create_texture(
     bytes: &[u8],
     thing: &mut u64,
 ) -> u32
-    ensures { OnContext context.old.value context.new.value result (λ r c d. (thing.new ≡ word_after r thing.old) × MatchOption (format_of_number format) ((r ≡ Err faults.BadValue) × (d ≡ c)) (λ f. CreatesOrWants r (model.create_texture width height f (nat_lt 0 blit) (model.bytes_source bytes.now)) c d)) (thing.new ≡ thing.old) }
+    ensures { OnContext context.old.value context.new.value result (λ r c d. (thing.new ≡ word_after r thing.old) × MatchOption (format_of_number format) ((r ≡ Err faults.BadValue) × (d ≡ c)) (λ f. CreatesTexture r width height f (nat_lt 0 blit) bytes.now c d)) (thing.new ≡ thing.old) }
 {
     let Some(mut object) = take(context, alloc) else {
         return NO_OBJECT;

@@ -23,13 +23,16 @@ pub extern "C" fn vgfx_encoder_end(alloc: Global, encoder: &mut Slot, dropped: u
     }
 }
 
-/// Gives an encoder up with what it recorded. Its handle is null from then on, and its frame cannot end.
+/// Gives an encoder up with what it recorded. Its handle is null from then on, and no frame of its context ends any more.
 #[unsafe(no_mangle)]
 pub extern "C" fn vgfx_encoder_drop(alloc: Global, encoder: &mut Slot) -> u32
     ensures { Drops encoder.old.value encoder.new.value result }
 {
     match take_encoder(encoder, alloc) {
-        Some(_given_up) => 0,
+        Some((_blank, recording)) => {
+            recording.give_up();
+            0
+        }
         None => NO_OBJECT,
     }
 }

@@ -53,8 +53,8 @@ impl Model for Context {
     ghost invariant = { λ c. IsOn (table_of c.shared.value.table) c.core × IfSome c.lent (λ a. a.value.rows.items ≡ c.things.rows.items) };
 }
 
-// Whether a picture can have a side of so many pixels.
-fn is_length(side: u16) -> bool
+// Whether a picture or a texture can have a side of so many pixels.
+pub(crate) fn is_length(side: u16) -> bool
     ensures same { result ≡ is_side side }
     ensures bounds { result ≡ true → (1 ≤ side) × (side ≤ 2048) }
 {

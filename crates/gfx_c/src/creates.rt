@@ -5,12 +5,12 @@ ghost use Rattle.gfx_model.specs.Words.{program_of_number, format_of_number, uni
 ghost use Rattle.gfx_words.specs.Names.{handle_word};
 ghost use Rattle.gfx_words.specs.Seen.{format_seen, program_seen, uniform_seen, own_source_seen};
 ghost use Rattle.c_words.specs.declared.faults.Fault.TheVariants as faults;
-ghost use Rattle.gfx_c.specs.Calls.{CreatesHere, CreatesOrWants, MakesLayout, OnThing, OnMaybe, given};
+ghost use Rattle.gfx_c.specs.Calls.{CreatesHere, CreatesTexture, MakesLayout, fits_texture, OnThing, OnMaybe, given};
 ghost use Rattle.c_words.specs.Statuses.{told_of};
 ghost use Rattle.c_words.specs.Things.{row_of_word};
 ghost use Rattle.c_words.specs.Layouts.{parts_of};
 
-use crate::context::Context;
+use crate::context::{Context, is_length};
 use c_words::{Fault, Part, format_of, layout_of, program_of, uniform_kind_of};
 use gfx_words::{Format, Handle, ProgramKind, Refusal, TexSource, UniformKind};
 use std::alloc::{AllocError, Global};
@@ -23,6 +23,15 @@ fn copied(alloc: Global, bytes: &[u8]) -> Result<Vec<u8>, AllocError>
     let mut all = Vec::with_capacity(alloc, bytes.len())?;
     all.extend_from_slice(bytes)?;
     Ok(all)
+}
+
+// Whether a texture can have these sides and these bytes.
+fn fits(width: u16, height: u16, bytes: &[u8]) -> bool
+    ensures { result ≡ fits_texture width height bytes.now }
+{
+    is_length(width)
+        && is_length(height)
+        && bytes.len() as u64 == 4 * (width as u64 * height as u64)
 }
 
 /// The sides, the format and the use of a texture.
@@ -145,8 +154,21 @@ impl Context {
         self.keep(answer)
     }
 
-    /// Makes a texture of texels of four bytes. `BadValue` where no format has the number; then want of memory may come; `BadSize`,
-    /// `Full`, `TexelsFull`, `SerialsSpent`.
+    // Makes a texture of bytes, which are copied where the sides and they fit.
+    fn make_texture_of(&mut self, of: TextureForm, bytes: &[u8]) -> Result<Handle, Fault>
+        ensures { CreatesTexture result of.width of.height (format_seen of.format) of.blit_dst bytes.now self.old self.new }
+    {
+        if !fits(of.width, of.height, bytes) {
+            return Err(Fault::Refused(Refusal::BadSize));
+        }
+        let Ok(copy) = copied(self.alloc, bytes) else {
+            return Err(Fault::Refused(Refusal::OutOfMemory));
+        };
+        self.make_texture(of, TexSource::Bytes(copy))
+    }
+
+    /// Makes a texture of texels of four bytes. `BadValue` where no format has the number; `BadSize`, before a byte is copied; then want of
+    /// memory may come; `Full`, `TexelsFull`, `SerialsSpent`.
     pub(crate) fn create_texture(
         &mut self,
         width: u16,
@@ -155,13 +177,10 @@ impl Context {
         blit_dst: bool,
         bytes: &[u8],
     ) -> Result<Handle, Fault>
-        ensures { MatchOption (format_of_number format) ((result ≡ Err faults.BadValue) × (self.new ≡ self.old)) (λ f. CreatesOrWants result (model.create_texture width height f blit_dst (model.bytes_source bytes.now)) self.old self.new) }
+        ensures { MatchOption (format_of_number format) ((result ≡ Err faults.BadValue) × (self.new ≡ self.old)) (λ f. CreatesTexture result width height f blit_dst bytes.now self.old self.new) }
     {
         let Some(format) = format_of(format) else {
             return Err(Fault::BadValue);
-        };
-        let Ok(copy) = copied(self.alloc, bytes) else {
-            return Err(Fault::Refused(Refusal::OutOfMemory));
         };
         let of = TextureForm {
             width,
@@ -169,7 +188,7 @@ impl Context {
             format,
             blit_dst,
         };
-        self.make_texture(of, TexSource::Bytes(copy))
+        self.make_texture_of(of, bytes)
     }
 
     /// Makes a texture of one colour, or of one depth and stencil. `BadValue`; `BadSize`, `Full`, `TexelsFull`, `SerialsSpent`.

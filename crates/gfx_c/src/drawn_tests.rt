@@ -353,7 +353,7 @@ fn a_view_before_another(rt: HostRuntime) -> Result<(), Fail> {
     Ok(())
 }
 
-// An encoder that is given up: its frame cannot end, and its number stays off.
+// An encoder that is given up: no frame of its context ends from then on, with a buffer or without one, and its number stays off.
 #[test]
 fn an_encoder_given_up(rt: HostRuntime) -> Result<(), Fail> {
     let alloc = rt.alloc();
@@ -377,8 +377,18 @@ fn an_encoder_given_up(rt: HostRuntime) -> Result<(), Fail> {
     );
     assert_eq!(rt; off, 1);
     assert_eq!(rt;
-        vgfx_frame(alloc, &mut context, &mut picture, &mut framed),
-        101
+        first_wrong(&[
+            (
+                vgfx_frame(alloc, &mut context, &mut picture, &mut framed),
+                102
+            ),
+            (vgfx_frame(alloc, &mut context, &mut [], &mut framed), 102),
+            (
+                vgfx_encoder_begin(alloc, &mut context, &mut encoder, 1, 0, 0),
+                102
+            ),
+        ]),
+        None
     );
     assert_eq!(rt; picture[..3], b"\x07\x07\x07"[..]);
     assert_eq!(rt; vgfx_shutdown(alloc, &mut context), 0);

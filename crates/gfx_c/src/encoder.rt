@@ -62,4 +62,9 @@ impl Encoder {
             }),
         }
     }
+
+    /// Gives the encoder up, of which its context is told.
+    pub(crate) fn give_up(self) {
+        self.shared.give_up();
+    }
 }

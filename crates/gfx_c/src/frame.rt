@@ -1,12 +1,13 @@
 // The end of a frame, and its picture.
-ghost use Rattle.std.specs.Prelude.{◌≡◌, ◌≤◌, ◌++◌, false, drop, length};
+ghost use Rattle.std.specs.Prelude.{◌≡◌, ◌≤◌, ◌<◌, ◌++◌, true, false, drop, length};
 ghost use Rattle.hold_table.specs.Seats.{table_of};
 ghost use Rattle.context_core.specs.Ended.{IsReady, Prepares, Gives};
 ghost use Rattle.context_core.specs.Gathered.{dropped_in};
 ghost use Rattle.context_core.specs.States.{CoreView};
 ghost use Rattle.render_core.specs.Outcomes.{is_shown};
 ghost use Rattle.render_core.specs.Rendered.{IsRendered};
-ghost use Rattle.gfx_c.specs.Frames.{MakesFrame, Shows, Delivers, FramesHere, HandsOut, emptied, fault_of, came_back};
+ghost use Rattle.gfx_c.specs.Frames.{MakesFrame, Shows, Delivers, Tells, FramesSeen, FramesUnseen, FramesInto, FramesHere, HandsOut, emptied, fault_of, came_back, closed};
+ghost use Rattle.gfx_c.specs.Calls.{is_over};
 ghost use Rattle.gfx_c.specs.Views.{ContextView};
 ghost use Rattle.gfx_c.specs.Rendered.{rendering_of};
 
@@ -170,14 +171,25 @@ impl Context {
         })
     }
 
-    /// Ends the frame, renders it, and writes its picture. `Ended`; `TooSmall` where the buffer is; `TryAgain` where an encoder has not
-    /// come back; `FramesSpent`. After `OutOfMemory` the context is ended. After a refusal the buffer is as before.
-    pub(crate) fn frame(&mut self, buffer: &mut [u8]) -> Result<Framed, Fault>
-        ensures { FramesHere result buffer.old buffer.new self.old self.new }
+    // Tells a frame that was rendered without a buffer, where it was shown.
+    fn tell(&self, number: u32, dropped: u64) -> Result<Framed, Fault>
+        ensures { (frame : Frame) (before : ContextView) → number ≡ frame.number → Shows frame before self.now → Tells result frame dropped before self.now }
     {
-        if self.is_ended() {
-            return Err(Fault::Ended);
+        if !self.is_shown() {
+            return Err(Fault::Refused(Refusal::OutOfMemory));
         }
+        Ok(Framed {
+            number,
+            picture: 0,
+            dropped,
+        })
+    }
+
+    // Ends the frame, and writes its picture.
+    fn frame_seen(&mut self, buffer: &mut [u8]) -> Result<Framed, Fault>
+        requires { is_over self.old ≡ false }
+        ensures { FramesSeen result buffer.old buffer.new self.old self.new }
+    {
         if buffer.len() < self.most() {
             return Err(Fault::TooSmall);
         }
@@ -185,5 +197,56 @@ impl Context {
             Err(fault) => Err(fault),
             Ok((number, dropped)) => self.deliver(number, dropped, buffer),
         }
+    }
+
+    // Ends the frame without a buffer.
+    fn frame_unseen(&mut self) -> Result<Framed, Fault>
+        requires { is_over self.old ≡ false }
+        ensures { FramesUnseen result self.old self.new }
+    {
+        match self.make() {
+            Err(fault) => Err(fault),
+            Ok((number, dropped)) => self.tell(number, dropped),
+        }
+    }
+
+    fn frame_into(&mut self, buffer: &mut [u8]) -> Result<Framed, Fault>
+        requires { is_over self.old ≡ false }
+        ensures { FramesInto result buffer.old buffer.new self.old self.new }
+    {
+        if buffer.is_empty() {
+            return self.frame_unseen();
+        }
+        self.frame_seen(buffer)
+    }
+
+    // Whether an encoder that has not come back was given up.
+    fn is_abandoned(&self) -> bool
+        ensures { result ≡ true → 0 < length self.now.core.state.seat.off }
+    {
+        self.off() > 0 && self.shared.is_given_up()
+    }
+
+    // No encoder begins and no frame ends from then on.
+    fn close(&mut self)
+        ensures { self.new ≡ closed self.old }
+    {
+        self.is_shown = false;
+    }
+
+    /// Ends the frame, renders it, and writes its picture, unless the buffer has no bytes. `Ended`, also where an encoder that has not come
+    /// back was given up, and from then on; `TooSmall` where the buffer is; `TryAgain` where an encoder has not come back; `FramesSpent`. After
+    /// `OutOfMemory` the context is ended. After a refusal the buffer is as before.
+    pub(crate) fn frame(&mut self, buffer: &mut [u8]) -> Result<Framed, Fault>
+        ensures { FramesHere result buffer.old buffer.new self.old self.new }
+    {
+        if self.is_ended() {
+            return Err(Fault::Ended);
+        }
+        if self.is_abandoned() {
+            self.close();
+            return Err(Fault::Ended);
+        }
+        self.frame_into(buffer)
     }
 }

@@ -10,6 +10,7 @@ mod c_context;
 mod c_creates;
 mod c_encoder;
 mod c_frame;
+mod c_pixels;
 mod c_play;
 mod c_recording;
 mod c_updates;
@@ -25,6 +26,9 @@ mod held;
 mod objects;
 mod parts;
 mod picture;
+#[cfg(test)]
+mod pixel_tests;
+mod pixels;
 #[cfg(test)]
 mod play_tests;
 mod playing;

@@ -7,6 +7,7 @@ use atomic_table::Table;
 use draw_encoder::Recorder;
 use hold_table::HoldTable;
 use std::alloc::{AllocError, Global};
+use std::sync::atomic::{AtomicBool, Ordering};
 
 // How many boxes there are, as many as a frame has encoders.
 const BOXES: u8 = 8;
@@ -71,11 +72,12 @@ impl LetterBox {
     }
 }
 
-/// The table, and a box for each of eight encoder numbers.
+/// The table, a box for each of eight encoder numbers, and whether an encoder was given up.
 #[derive(Drop)]
 pub struct Shared {
     pub table: HoldTable,
     boxes: Vec<LetterBox>,
+    given_up: AtomicBool,
     ghost same: { All (λ b. table_of b.mail.shared.key ≡ table_of table) boxes.items },
     ghost eight: { vec_len boxes ≡ 8 },
 }
@@ -90,7 +92,11 @@ impl Shared {
             let empty = LetterBox::new(alloc, &table)?;
             boxes.push(empty)?;
         }
-        Ok(Shared { table, boxes })
+        Ok(Shared {
+            table,
+            boxes,
+            given_up: AtomicBool::new(false),
+        })
     }
 
     /// Ends a recorder and puts what it ended with into the box of its number, where that is empty. Else the recorder comes back.
@@ -109,5 +115,15 @@ impl Shared {
         ensures { IfSome result (λ l. enc_table l.1 ≡ table_of self.now.table) }
     {
         self.boxes[number as usize].try_take()
+    }
+
+    /// Says that an encoder of the table will not come back.
+    pub fn give_up(&self) {
+        self.given_up.store(true, Ordering::SeqCst);
+    }
+
+    /// Whether an encoder was given up. Where it was, it is so for ever.
+    pub fn is_given_up(&self) -> bool {
+        self.given_up.load(Ordering::SeqCst)
     }
 }

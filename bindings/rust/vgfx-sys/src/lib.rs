@@ -141,6 +141,8 @@ pub const VGFX_ERROR_NO_SCENE: vgfx_status = 106;
 pub const VGFX_ERROR_TOO_LONG: vgfx_status = 107;
 /// `VGFX_ERROR_UNKNOWN`.
 pub const VGFX_ERROR_UNKNOWN: vgfx_status = 108;
+/// `VGFX_ERROR_NOT_THERE`.
+pub const VGFX_ERROR_NOT_THERE: vgfx_status = 109;
 /// `VGFX_ATTRIBUTE_POSITION`.
 pub const VGFX_ATTRIBUTE_POSITION: u8 = 0;
 /// `VGFX_ATTRIBUTE_NORMAL`.
@@ -167,6 +169,12 @@ pub const VGFX_COMPONENT_FIXED: u8 = 2;
 pub const VGFX_FORMAT_RGBA8: u32 = 0;
 /// `VGFX_FORMAT_D24S8`.
 pub const VGFX_FORMAT_D24S8: u32 = 1;
+/// `VGFX_PIXELS_RGBA8`.
+pub const VGFX_PIXELS_RGBA8: u32 = 0;
+/// `VGFX_PIXELS_D24S8`.
+pub const VGFX_PIXELS_D24S8: u32 = 1;
+/// `VGFX_PIXELS_BGRA8`.
+pub const VGFX_PIXELS_BGRA8: u32 = 2;
 /// `VGFX_PROGRAM_SOLID`.
 pub const VGFX_PROGRAM_SOLID: u32 = 0;
 /// `VGFX_PROGRAM_COLOR`.
@@ -361,13 +369,15 @@ unsafe extern "C" {
     pub fn vgfx_collect(context: *mut vgfx_context, out: *mut u32) -> vgfx_status;
     /// Ends the frame, renders it on the calling thread, and writes its picture as a P6 text: "P6\nWIDTH HEIGHT\n255\n" and three bytes a pixel.
     pub fn vgfx_frame(context: *mut vgfx_context, picture: *mut c_void, picture_length: usize, report: *mut vgfx_frame_report) -> vgfx_status;
+    /// Reads the back buffer by 0, or a texture, as the last frame left it: row by row from the top, four bytes a pixel, with `stride` bytes from the start of a row to that of the next.
+    pub fn vgfx_read_pixels(context: *mut vgfx_context, texture: vgfx_id, pixels_format: u32, pixels: *mut c_void, pixels_length: usize, stride: usize) -> vgfx_status;
     /// Makes a layout of parts.
     pub fn vgfx_create_layout(context: *mut vgfx_context, parts: *const vgfx_layout_part, parts_length: usize, made: *mut vgfx_id) -> vgfx_status;
     /// Makes a vertex buffer of a layout, of 1 to VGFX_MAX_BUFFER_BYTES bytes, which are copied.
     pub fn vgfx_create_vertex_buffer(context: *mut vgfx_context, layout: vgfx_id, bytes: *const c_void, bytes_length: usize, made: *mut vgfx_id) -> vgfx_status;
     /// Makes an index buffer, of 2 to VGFX_MAX_BUFFER_BYTES bytes, an even number, which are copied.
     pub fn vgfx_create_index_buffer(context: *mut vgfx_context, bytes: *const c_void, bytes_length: usize, made: *mut vgfx_id) -> vgfx_status;
-    /// Makes a texture with sides of 1 to VGFX_MAX_SIDE, of four bytes a texel, which are copied.
+    /// Makes a texture with sides of 1 to VGFX_MAX_SIDE, of four bytes a texel, which are copied once the sizes are found right.
     pub fn vgfx_create_texture(context: *mut vgfx_context, width: u16, height: u16, format: u32, blit_destination: u8, bytes: *const c_void, bytes_length: usize, made: *mut vgfx_id) -> vgfx_status;
     /// Makes a texture all of whose texels are these four bytes: of VGFX_FORMAT_D24S8 the depth, lowest byte first, and the stencil.
     pub fn vgfx_create_filled_texture(context: *mut vgfx_context, width: u16, height: u16, format: u32, blit_destination: u8, red: u8, green: u8, blue: u8, alpha: u8, made: *mut vgfx_id) -> vgfx_status;

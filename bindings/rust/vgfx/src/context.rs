@@ -5,7 +5,7 @@ use std::mem;
 use vgfx_sys as sys;
 
 use crate::{
-    Buffer, Encoder, Error, Format, FrameBuffer, IndexBuffer, IntUniform, Layout, LayoutPart, Program, ProgramKind, Rect, Resource,
+    Buffer, Encoder, Error, Format, FrameBuffer, IndexBuffer, IntUniform, Layout, LayoutPart, Pixels, Program, ProgramKind, Rect, Resource,
     Texture, Transform, Vec4Uniform, VertexBuffer, ViewMode,
 };
 
@@ -163,6 +163,26 @@ impl Context {
             number: told.number,
             dropped: told.dropped,
         })
+    }
+
+    /// Ends the frame and renders it on this thread, without a picture's text. Refused as [`Context::frame`] is.
+    pub fn frame_unseen(&mut self) -> Result<FrameReport, Error> {
+        let (mut told, mut none) = (sys::vgfx_frame_report::default(), 0u8);
+        // SAFETY: as above; a length of 0 has the address of a byte beside it.
+        self.call(|context| unsafe { sys::vgfx_frame(context, (&raw mut none).cast(), 0, &mut told) })?;
+        Ok(FrameReport {
+            number: told.number,
+            dropped: told.dropped,
+        })
+    }
+
+    /// Reads a texture, or the back buffer where none is given, as the last frame left it: row by row from the top, four bytes a pixel, with
+    /// `stride` bytes from the start of a row to that of the next. [`Error::Unknown`], [`Error::WrongKind`], [`Error::NotThere`],
+    /// [`Error::BadSize`] where the stride is shorter than a row, [`Error::TooSmall`].
+    pub fn read_pixels(&self, texture: Option<Texture>, format: Pixels, buffer: &mut [u8], stride: usize) -> Result<(), Error> {
+        let (texture, at, length) = (texture.map_or(0, Texture::id), buffer.as_mut_ptr().cast(), buffer.len());
+        // SAFETY: as above; the pointer and the length are one slice's.
+        self.call(|context| unsafe { sys::vgfx_read_pixels(context, texture, format as u32, at, length, stride) })
     }
 
     /// Makes a layout of parts. [`Error::BadSize`], [`Error::Full`], [`Error::SerialsSpent`], [`Error::OutOfMemory`].

@@ -40,12 +40,16 @@ pub enum Error {
     OutOfMemory,
     /// An encoder has not come back: it was forgotten and never dropped.
     TryAgain,
-    /// Memory was wanting in an earlier frame.
+    /// Memory was wanting in an earlier frame, or an encoder was given up.
     Ended,
+    /// A buffer is too short.
+    TooSmall,
     /// The scene's text is longer than 16777216 bytes.
     TooLong,
     /// The id names no resource of this context, or none that was made before the encoder began.
     Unknown,
+    /// The last frame left no such texture: no frame has ended since it was made, or it was destroyed.
+    NotThere,
     /// Another answer of the library, by its number in the header.
     Other(u32),
 }
@@ -72,8 +76,10 @@ impl Error {
             sys::VGFX_ERROR_OUT_OF_MEMORY => Error::OutOfMemory,
             sys::VGFX_ERROR_TRY_AGAIN => Error::TryAgain,
             sys::VGFX_ERROR_ENDED => Error::Ended,
+            sys::VGFX_ERROR_TOO_SMALL => Error::TooSmall,
             sys::VGFX_ERROR_TOO_LONG => Error::TooLong,
             sys::VGFX_ERROR_UNKNOWN => Error::Unknown,
+            sys::VGFX_ERROR_NOT_THERE => Error::NotThere,
             other => Error::Other(other),
         })
     }
@@ -99,9 +105,11 @@ impl fmt::Display for Error {
             Error::BadState => "a state word, a stencil word or a clear setting is not admitted",
             Error::OutOfMemory => "memory was wanting",
             Error::TryAgain => "an encoder has not come back",
-            Error::Ended => "memory was wanting in an earlier frame",
+            Error::Ended => "memory was wanting in an earlier frame, or an encoder was given up",
+            Error::TooSmall => "a buffer is too short",
             Error::TooLong => "the scene's text is longer than 16777216 bytes",
             Error::Unknown => "the id names no resource that is known here",
+            Error::NotThere => "the last frame left no such texture",
             Error::Other(status) => return write!(to, "status {status}"),
         })
     }

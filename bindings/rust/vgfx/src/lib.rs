@@ -60,7 +60,7 @@ pub use error::Error;
 pub use ids::{Buffer, FrameBuffer, IndexBuffer, IntUniform, Layout, Program, Resource, Texture, Vec4Uniform, VertexBuffer};
 pub use play::{PlayError, Played, play};
 pub use words::{
-    Attribute, Compare, Component, Discard, Factor, Format, LayoutPart, ONE, ProgramKind, Rect, State, Stencil, StencilStep, Transform,
+    Attribute, Compare, Component, Discard, Factor, Format, LayoutPart, ONE, Pixels, ProgramKind, Rect, State, Stencil, StencilStep, Transform,
     ViewMode, fixed,
 };
 

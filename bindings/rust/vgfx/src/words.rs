@@ -77,6 +77,18 @@ pub enum Format {
     D24S8 = sys::VGFX_FORMAT_D24S8,
 }
 
+/// What pixels are read as, four bytes each.
+#[derive(Clone, Copy, Debug, PartialEq, Eq)]
+#[repr(u32)]
+pub enum Pixels {
+    /// Red, green, blue and alpha.
+    Rgba8 = sys::VGFX_PIXELS_RGBA8,
+    /// The depth in three bytes, lowest first, and the stencil.
+    D24S8 = sys::VGFX_PIXELS_D24S8,
+    /// Blue, green, red and alpha, of a texture of [`Format::Rgba8`].
+    Bgra8 = sys::VGFX_PIXELS_BGRA8,
+}
+
 /// What a program paints.
 #[derive(Clone, Copy, Debug, PartialEq, Eq)]
 #[repr(u32)]

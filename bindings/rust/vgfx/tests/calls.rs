@@ -112,6 +112,36 @@ fn what_cannot_be_is_refused() -> Result<(), Error> {
 }
 
 #[test]
+fn pixels_are_read_with_a_stride() -> Result<(), Error> {
+    let mut context = Context::new(2, 1)?;
+    let texture = context.create_texture((1, 2), Format::Rgba8, false, &[1, 2, 3, 4, 5, 6, 7, 8])?;
+    let depth = context.create_filled_texture((1, 1), Format::D24S8, false, [9, 8, 7, 6])?;
+    let mut read = [99; 11];
+    assert_eq!(context.read_pixels(Some(texture), Pixels::Rgba8, &mut read, 6), Err(Error::NotThere));
+    context.set_view_clear(
+        0,
+        Clear {
+            color: Some([10, 20, 30, 40]),
+            ..BLACK
+        },
+    )?;
+    let mut encoder = context.begin(Room::of_items(1))?;
+    encoder.touch(0)?;
+    encoder.end(3)?;
+    assert_eq!(context.frame_unseen()?, FrameReport { number: 0, dropped: 3 });
+    context.read_pixels(Some(texture), Pixels::Bgra8, &mut read, 6)?;
+    assert_eq!(read, [3, 2, 1, 4, 99, 99, 7, 6, 5, 8, 99]);
+    context.read_pixels(None, Pixels::Rgba8, &mut read, 8)?;
+    assert_eq!(read[..8], [10, 20, 30, 40, 10, 20, 30, 40]);
+    context.read_pixels(Some(depth), Pixels::D24S8, &mut read, 4)?;
+    assert_eq!(read[..4], [9, 8, 7, 6]);
+    assert_eq!(context.read_pixels(Some(depth), Pixels::Rgba8, &mut read, 4), Err(Error::WrongKind));
+    assert_eq!(context.read_pixels(None, Pixels::Rgba8, &mut read, 7), Err(Error::BadSize));
+    assert_eq!(context.read_pixels(Some(texture), Pixels::Rgba8, &mut read, 8), Err(Error::TooSmall));
+    Ok(())
+}
+
+#[test]
 fn eight_threads_record_at_once() -> Result<(), Error> {
     let mut context = Context::new(8, 1)?;
     let (vertices, program) = made(&context, [255, 128, 1, 255])?;

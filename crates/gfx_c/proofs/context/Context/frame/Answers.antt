@@ -1,35 +1,14 @@
-use Rattle.std.proofs.Common.{inl, inr, refl, sym, ◌∙◌, arith}
-use Rattle.gfx_c.proofs.Frames.{first_false, delivered_told, enough_still}
+use Rattle.std.proofs.Common.{inl, inr, refl, sym, ◌∙◌}
 use Rattle.gfx_c.proofs.context.Context.frame.Goals as goal
 
-pub make-requires : goal.make-requires
-make-requires c = first_false c.args.self.now.core.state.is_ended _ (sym c.is_ended.ensures ∙ c.if-is_ended.false)
+pub frame_into-requires : goal.frame_into-requires
+frame_into-requires c = sym c.is_ended.ensures ∙ c.if-is_ended.false
 
 pub returns-then-is_ended : goal.returns-then-is_ended
-returns-then-is_ended c = inl (refl, sym c.is_ended.ensures ∙ c.if-is_ended.true, refl, refl)
+returns-then-is_ended c = inl (refl, refl, inl (sym c.is_ended.ensures ∙ c.if-is_ended.true, refl))
 
-pub returns-then-buffer-most : goal.returns-then-buffer-most
-returns-then-buffer-most c =
-    let lt = c.if-buffer-most.true in
-    let most = c.most.ensures in
-    inr (sym c.is_ended.ensures ∙ c.if-is_ended.false, inl (refl, omega (arith, lt, most), refl, refl))
+pub returns-then-is_abandoned : goal.returns-then-is_abandoned
+returns-then-is_abandoned c = inl (refl, refl, inr (sym c.is_ended.ensures ∙ c.if-is_ended.false, c.is_abandoned.ensures c.if-is_abandoned.true, c.close.ensures))
 
-pub deliver-requires : goal.deliver-requires
-deliver-requires c =
-    let enough = c.if-buffer-most.false in
-    let most = c.most.ensures in
-    let m = c.in-Ok.ensures in
-    enough_still m.1 c.in-Ok.dropped c.args.buffer.now c.args.buffer.now c.args.self.now m.0 c.make.new.self (sym c.is_ended.ensures ∙ c.if-is_ended.false) (omega (arith, enough, most)) m.3 m.4
-
-pub returns-in-Err : goal.returns-in-Err
-returns-in-Err c =
-    let enough = c.if-buffer-most.false in
-    let most = c.most.ensures in
-    inr (sym c.is_ended.ensures ∙ c.if-is_ended.false, inr (omega (arith, enough, most), inl (c.in-Err.ensures, refl)))
-
-pub returns-in-Ok : goal.returns-in-Ok
-returns-in-Ok c =
-    let enough = c.if-buffer-most.false in
-    let most = c.most.ensures in
-    let m = c.in-Ok.ensures in
-    delivered_told m.1 c.in-Ok.dropped c.args.buffer.now c.deliver.new.buffer c.args.self.now m.0 c.make.new.self (sym c.is_ended.ensures ∙ c.if-is_ended.false) (omega (arith, enough, most)) m.3 c.deliver.result (c.deliver.ensures m.1 m.0 m.2 m.4)
+pub returns : goal.returns
+returns c = inr (sym c.is_ended.ensures ∙ c.if-is_ended.false, c.frame_into.ensures)
