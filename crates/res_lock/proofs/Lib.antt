@@ -5,4 +5,5 @@ pub mod Steps
 pub mod HistoryLaws
 pub mod KeptLaws
 pub mod FrameLaws
+pub mod GivenLaws
 pub mod EndedLaws

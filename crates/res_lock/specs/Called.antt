@@ -31,6 +31,7 @@ pub record Does {L : Type 0} (call : ResourceCall) (handle : Option Handle) (old
   pub made_is : (effect old.book.resources call).made ≡ handle
   pub state : state_of new ≡ record (state_of old) { resources = bare_of (effect old.book.resources call).after }
   pub book : new.book ≡ after_in call handle old.book
+  pub given_same : new.given ≡ old.given
 
 -- a refusal is the definition's; memory may be wanting at any call
 abbrev pub IsRefusalOrOutOfMemory : Option model.Refusal → Refusal → Type 0

@@ -6,4 +6,5 @@ pub mod Seats
 pub mod Called
 pub mod Written
 pub mod Locked
+pub mod Given
 pub mod Laws

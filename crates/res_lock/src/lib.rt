@@ -7,6 +7,7 @@
 mod changes;
 mod creates;
 mod entry;
+mod link;
 mod lock;
 mod log;
 mod naming;
@@ -18,6 +19,7 @@ mod view;
 ghost use Rattle.res_lock.specs.Laws.{EndedLaw};
 
 pub use entry::{Entry, LockRefusal, ResCall, ResReply};
+pub use link::{LinkNaming, NamedLink};
 pub use lock::ResLock;
 pub use naming::HistoryNaming;
 pub use table::{HistoryTable, ResPass};

@@ -10,6 +10,7 @@ ghost use Rattle.res_lock.specs.Seats.{log_table, table_of, pass_table, pass_vie
 ghost use Rattle.res_lock.specs.Views.{split_from, split_off, joined_with, GoesOn};
 ghost use Rattle.res_lock.specs.Called.{IsCreate, IsChange, IsSamePass, IsCreated, IsChanged, IsFramed, IsBegun};
 ghost use Rattle.res_lock.specs.Locked.{IsOpening, IsKept, IsReport};
+ghost use Rattle.res_lock.specs.Given.{HasGiven};
 
 use crate::entry::{Entry, LockRefusal, ResCall};
 use crate::log::Log;
@@ -42,7 +43,8 @@ pub struct ResLock<'t, C: Naming, L: FrameLink + Drop, H: HistoryNaming> {
 
 impl<'t, C: Naming, L: FrameLink + Drop, H: HistoryNaming> ResLock<'t, C, L, H> {
     /// Puts a context behind the lock. The table is the named one; the named start is the state of the context's calls: nothing
-    /// was made in it, no encoder begun, and it is not ended; and the named book is what they wrote in this frame. `Err` only for want of memory; the table and the context come back.
+    /// was made in it, no encoder begun, and it is not ended; the named book is what they wrote in this frame,
+    /// and the named frames are those that were given. `Err` only for want of memory; the table and the context come back.
     pub fn new(
         alloc: Global,
         table: HistoryTable,
@@ -51,6 +53,7 @@ impl<'t, C: Naming, L: FrameLink + Drop, H: HistoryNaming> ResLock<'t, C, L, H> 
         requires table { table_of table ≡ H.table }
         requires start { (state_of context ≡ H.start) × IsOpening H.start }
         requires book { context.book ≡ H.book }
+        requires given { context.given ≡ H.given }
         ensures { IfErr result (λ e. (table_of e.0 ≡ table_of table) × (e.1 ≡ context.entry)) }
     {
         let HistoryTable { log, pen } = table;
@@ -94,6 +97,9 @@ impl<'t, C: Naming, L: FrameLink + Drop, H: HistoryNaming> ResLock<'t, C, L, H> 
     /// back, in the state after the history. Where it is not ended, it has written just what the calls of the frame that is recorded
     /// write, with the bytes, texels and names of the history. Of an ended context that is not said; the frame that came back last has
     /// the outcome that the history tells, or it tells want of memory and none came back.
+    ///
+    /// What was given behind the named frames is a frame for each entry that tells one, in their order: of its number, with what the calls
+    /// before the entry wrote, and with one recording of each encoder that was begun in it.
     pub fn close(self, pass: ResPass) -> (Context<'t, C, L>, Vec<Entry>)
         requires table { pass_table pass ≡ H.table }
         requires all { IsFirst pass × HasAll pass }
@@ -101,6 +107,7 @@ impl<'t, C: Naming, L: FrameLink + Drop, H: HistoryNaming> ResLock<'t, C, L, H> 
         ensures beyond { (c : ℕ) → (pass_view pass).next ≤ c → part_of c (entries_seen result.1.items) ≡ [] }
         ensures legal { IsLegal H.start (entries_seen result.1.items) }
         ensures state { IsKept H.start H.book (record { context = result.0; history = entries_seen result.1.items }) }
+        ensures given { HasGiven C.admits C.views H.start H.book H.given (record { context = result.0; history = entries_seen result.1.items }) }
     {
         let ResLock {
             alloc: _,

@@ -8,6 +8,7 @@ ghost use Rattle.gfx_context.specs.States.{state_of};
 ghost use Rattle.res_lock.specs.Seen.{call_seen, reply_seen};
 ghost use Rattle.res_lock.specs.Seats.{log_table, pass_table, pass_view, pen_table, pen_log, made_by};
 ghost use Rattle.res_lock.specs.Locked.{IsOpening, IsKept, IsReport, table_of_log, log_entries};
+ghost use Rattle.res_lock.specs.Given.{HasGiven};
 ghost use Rattle.res_lock.specs.Called.{IsCreate, IsChange, IsSamePass, IsCreated, IsChanged, IsFramed, IsBegun, reply_of, frame_reply};
 
 use crate::entry::{LockRefusal, ResCall, ResReply};
@@ -35,12 +36,13 @@ pub(crate) struct LockState<'t, C: Naming, L: FrameLink + Drop, H: HistoryNaming
 impl<'t, C: Naming, L: FrameLink + Drop, H: HistoryNaming> Model for LockState<'t, C, L, H> {
     ghost use Rattle.std.specs.Prelude.{◌≡◌};
     ghost use Rattle.res_lock.specs.Locked.{LockView, IsKept, log_entries, table_of_log};
+    ghost use Rattle.res_lock.specs.Given.{HasGiven};
 
     ghost Value = { LockView L };
 
     ghost view = { λ s. record { context = s.context; history = log_entries s.log } };
 
-    ghost invariant = { λ s. (table_of_log s.log ≡ H.table) × IsKept H.start H.book (record { context = s.context; history = log_entries s.log }) };
+    ghost invariant = { λ s. (table_of_log s.log ≡ H.table) × IsKept H.start H.book (record { context = s.context; history = log_entries s.log }) × HasGiven C.admits C.views H.start H.book H.given (record { context = s.context; history = log_entries s.log }) };
 }
 
 impl<'t, C: Naming, L: FrameLink + Drop, H: HistoryNaming> LockState<'t, C, L, H> {
@@ -53,6 +55,7 @@ impl<'t, C: Naming, L: FrameLink + Drop, H: HistoryNaming> LockState<'t, C, L, H
         requires pen { (pen_table pen ≡ H.table) × (pen_log pen ≡ []) }
         requires start { (state_of context ≡ H.start) × IsOpening H.start }
         requires book { context.book ≡ H.book }
+        requires given { context.given ≡ H.given }
         ensures { IfErr result (λ e. (e.0 ≡ context.entry) × (e.1 ≡ pen)) }
     {
         match Log::new(alloc, pen) {
@@ -69,6 +72,7 @@ impl<'t, C: Naming, L: FrameLink + Drop, H: HistoryNaming> LockState<'t, C, L, H
     pub fn into_parts(self) -> (Context<'t, C, L>, Log)
         ensures table { table_of_log result.1 ≡ H.table }
         ensures kept { IsKept H.start H.book (record { context = result.0; history = log_entries result.1 }) }
+        ensures given { HasGiven C.admits C.views H.start H.book H.given (record { context = result.0; history = log_entries result.1 }) }
     {
         let LockState {
             context,

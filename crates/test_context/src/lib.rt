@@ -8,6 +8,8 @@ mod gfx_context_order_tests;
 #[cfg(test)]
 mod gfx_context_tests;
 #[cfg(test)]
+mod res_lock_link_tests;
+#[cfg(test)]
 mod res_lock_order_tests;
 #[cfg(test)]
 mod res_lock_tests;

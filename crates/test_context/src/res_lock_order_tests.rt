@@ -1,5 +1,5 @@
 // What no clause of `frame` says: that the journal is the order in which the encoders drew, also of one that is gathered.
-ghost use Rattle.std.specs.Prelude.{◌≡◌};
+ghost use Rattle.std.specs.Prelude.{◌≡◌, []};
 ghost use Rattle.gfx_model.specs.FrameCalls.{opened};
 ghost use Rattle.gfx_model.specs.Resources.{opening};
 ghost use Rattle.gfx_model.specs.Views.{fewest_views};
@@ -101,6 +101,7 @@ fn journal<C: Naming, H: HistoryNaming, R: Wait>(
     requires table { (table_of table ≡ H.table) × (pass_table pass ≡ H.table) }
     requires start { H.start ≡ opened (opening 256 1 0 1) }
     requires book { H.book ≡ record no_book { resources = opening 256 1 0 1 } }
+    requires given { H.given ≡ [] }
 {
     let Ok(shared) = Shared::<C>::new(alloc, hold) else {
         return None;

@@ -118,6 +118,7 @@ pub(crate) fn locked<'t, C: Naming, L: FrameLink + Drop, H: HistoryNaming>(
     requires start { H.start ≡ opened (opening 256 1 0 1) }
     requires book { H.book ≡ record no_book { resources = opening 256 1 0 1 } }
     requires link { (L.latency link ≡ 1) × (L.given link ≡ frames_of (L.back link)) }
+    requires given { L.given link ≡ H.given }
 {
     let start = Start {
         frame: 0,
@@ -357,6 +358,7 @@ fn all_calls<C: Naming, H: HistoryNaming, R: Threads + Wait + Sync>(
     requires table { (table_of table ≡ H.table) × (pass_table pass ≡ H.table) × (pass_view pass ≡ first_view) }
     requires start { H.start ≡ opened (opening 256 1 0 1) }
     requires book { H.book ≡ record no_book { resources = opening 256 1 0 1 } }
+    requires given { H.given ≡ [] }
 {
     let Ok(shared) = Shared::<C>::new(alloc, hold) else {
         return None;
@@ -509,6 +511,7 @@ fn ends<C: Naming, H: HistoryNaming, R: Threads + Wait + Sync>(
     requires table { (table_of table ≡ H.table) × (pass_table pass ≡ H.table) × (pass_view pass ≡ first_view) }
     requires start { H.start ≡ opened (opening 256 1 0 1) }
     requires book { H.book ≡ record no_book { resources = opening 256 1 0 1 } }
+    requires given { H.given ≡ [] }
 {
     let Ok(shared) = Shared::<C>::new(alloc, hold) else {
         return None;

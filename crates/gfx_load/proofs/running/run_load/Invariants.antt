@@ -1,4 +1,4 @@
-use Rattle.std.proofs.Common.{inl, refl}
+use Rattle.std.proofs.Common.{inl, refl, []}
 use Rattle.gfx_model.specs.Views.{fewest_views}
 use Rattle.hold_table.specs.Seats as seats
 use Rattle.res_lock.specs.Seats.{table_of}
@@ -11,4 +11,4 @@ ghosts-run_tables-C-Naming g a = record { table = seats.table_of a.hold; admits 
 
 -- the history's table that was just made, and a load's first state
 abbrev pub ghosts-run_tables-H-HistoryNaming : goal.ghosts-run_tables-H-HistoryNaming
-ghosts-run_tables-H-HistoryNaming g a = record { table = table_of a.table; start = load_start; book = load_book }
+ghosts-run_tables-H-HistoryNaming g a = record { table = table_of a.table; start = load_start; book = load_book; given = [] }

@@ -1,16 +1,18 @@
-use Rattle.std.proofs.Common.{rules, subst, sym, ◌∙◌}
+use Rattle.std.proofs.Common.{rules, refl, ap, subst, sym, ◌∙◌}
+use Rattle.gfx_words.specs.Seen.{refusal_seen}
 use Rattle.draw_encoder.specs.Seen.{room_seen}
 use Rattle.res_lock.specs.Histories.{begins}
 use Rattle.res_lock.specs.Called.{IsRefusedBy}
 use Rattle.res_lock.specs.declared.entry.LockRefusal.{LockRefusal}
 use Rattle.res_lock.proofs.KeptLaws.{ended_kept}
 use Rattle.res_lock.proofs.FrameLaws.{begun_kept, begin_refused}
+use Rattle.res_lock.proofs.GivenLaws.{still_given, refused_given}
 use Rattle.res_lock.proofs.state.LockState.begin.Goals as goal
 
 pub invariant_of-self-then-is_ended : goal.invariant_of-self-then-is_ended
 invariant_of-self-then-is_ended g c =
     let over = sym c.is_ended.ensures ∙ c.if-is_ended.true in
-    (search rules, (ended_kept g.H.HistoryNaming.start _ _ c.self.invariant.1 _ _ _ _ c.reserve.ensures.same.0 over (begins (room_seen c.args.room)) c.frame_number-frame.result c.frame_number-frame.ensures.same c.append.ensures).kept)
+    (search rules, (ended_kept g.H.HistoryNaming.start _ _ c.self.invariant.1 _ _ _ _ c.reserve.ensures.same.0 over (begins (room_seen c.args.room)) c.frame_number-frame.result c.frame_number-frame.ensures.same c.append.ensures).kept, still_given g.C.Naming.admits g.C.Naming.views g.H.HistoryNaming.start g.H.HistoryNaming.book g.H.HistoryNaming.given _ _ c.self.invariant.2 _ _ _ _ c.reserve.ensures.same.0 _ (begins (room_seen c.args.room)) _ c.append.ensures refl refl)
 
 pub returns-then-is_ended-clause-answer : goal.returns-then-is_ended-clause-answer
 returns-then-is_ended-clause-answer g c =
@@ -20,12 +22,12 @@ returns-then-is_ended-clause-answer g c =
 pub invariant_of-self-in-Ok : goal.invariant_of-self-in-Ok
 invariant_of-self-in-Ok g c =
     let runs = sym c.is_ended.ensures ∙ c.if-is_ended.false in
-    (search rules, (begun_kept g.H.HistoryNaming.start _ _ c.self.invariant.1 _ _ _ _ c.reserve.ensures.same.0 c.tell_facts.ensures.keeps runs (room_seen c.args.room) c.in-Ok.encoder c.number-number.result _ c.number-number.ensures c.in-Ok.ensures c.append-in-Ok.ensures).kept)
+    (search rules, (begun_kept g.H.HistoryNaming.start _ _ c.self.invariant.1 _ _ _ _ c.reserve.ensures.same.0 c.tell_facts.ensures.keeps runs (room_seen c.args.room) c.in-Ok.encoder c.number-number.result _ c.number-number.ensures c.in-Ok.ensures c.append-in-Ok.ensures).kept, still_given g.C.Naming.admits g.C.Naming.views g.H.HistoryNaming.start g.H.HistoryNaming.book g.H.HistoryNaming.given _ _ c.self.invariant.2 _ _ _ _ c.reserve.ensures.same.0 _ (begins (room_seen c.args.room)) _ c.append-in-Ok.ensures (ap (λ v. v.given) c.in-Ok.ensures.after) refl)
 
 pub invariant_of-self-in-Err : goal.invariant_of-self-in-Err
 invariant_of-self-in-Err g c =
     let runs = sym c.is_ended.ensures ∙ c.if-is_ended.false in
-    (search rules, (begin_refused g.H.HistoryNaming.start _ _ c.self.invariant.1 _ _ _ _ c.reserve.ensures.same.0 runs (room_seen c.args.room) c.in-Err.refusal _ c.in-Err.ensures c.refuse.ensures.adds).kept)
+    (search rules, (begin_refused g.H.HistoryNaming.start _ _ c.self.invariant.1 _ _ _ _ c.reserve.ensures.same.0 runs (room_seen c.args.room) c.in-Err.refusal _ c.in-Err.ensures c.refuse.ensures.adds).kept, refused_given g.C.Naming.admits g.C.Naming.views g.H.HistoryNaming.start g.H.HistoryNaming.book g.H.HistoryNaming.given _ _ c.self.invariant.2 _ _ _ _ c.reserve.ensures.same.0 _ c.in-Err.ensures.1 (begins (room_seen c.args.room)) c.in-Err.refusal (refusal_seen c.in-Err.refusal) c.refuse.ensures.adds)
 
 pub returns-in-Ok-clause-answer : goal.returns-in-Ok-clause-answer
 returns-in-Ok-clause-answer g c =

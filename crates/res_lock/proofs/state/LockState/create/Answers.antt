@@ -1,14 +1,15 @@
-use Rattle.std.proofs.Common.{rules, subst, sym, ◌∙◌}
+use Rattle.std.proofs.Common.{rules, refl, subst, sym, ◌∙◌}
 use Rattle.res_lock.specs.Seen.{call_seen}
 use Rattle.res_lock.specs.Called.{IsRefusedBy}
 use Rattle.res_lock.specs.declared.entry.LockRefusal.{LockRefusal}
 use Rattle.res_lock.proofs.KeptLaws.{ended_kept, made_kept, create_refused}
+use Rattle.res_lock.proofs.GivenLaws.{still_given, made_given, create_not_given}
 use Rattle.res_lock.proofs.state.LockState.create.Goals as goal
 
 pub invariant_of-self-then-is_ended : goal.invariant_of-self-then-is_ended
 invariant_of-self-then-is_ended g c =
     let over = sym c.is_ended.ensures ∙ c.if-is_ended.true in
-    (search rules, (ended_kept g.H.HistoryNaming.start _ _ c.self.invariant.1 _ _ _ _ c.reserve.ensures.same.0 over (call_seen c.args.call) c.frame_number-frame.result c.frame_number-frame.ensures.same c.append.ensures).kept)
+    (search rules, (ended_kept g.H.HistoryNaming.start _ _ c.self.invariant.1 _ _ _ _ c.reserve.ensures.same.0 over (call_seen c.args.call) c.frame_number-frame.result c.frame_number-frame.ensures.same c.append.ensures).kept, still_given g.C.Naming.admits g.C.Naming.views g.H.HistoryNaming.start g.H.HistoryNaming.book g.H.HistoryNaming.given _ _ c.self.invariant.2 _ _ _ _ c.reserve.ensures.same.0 _ (call_seen c.args.call) _ c.append.ensures refl refl)
 
 pub returns-then-is_ended-clause-answer : goal.returns-then-is_ended-clause-answer
 returns-then-is_ended-clause-answer g c =
@@ -18,12 +19,12 @@ returns-then-is_ended-clause-answer g c =
 pub invariant_of-self-in-Ok : goal.invariant_of-self-in-Ok
 invariant_of-self-in-Ok g c =
     let runs = sym c.is_ended.ensures ∙ c.if-is_ended.false in
-    (search rules, (made_kept g.H.HistoryNaming.start _ _ c.self.invariant.1 _ _ _ _ c.reserve.ensures.same.0 runs (call_seen c.args.call) c.in-Ok.handle _ c.in-Ok.ensures c.append-in-Ok.ensures).kept)
+    (search rules, (made_kept g.H.HistoryNaming.start _ _ c.self.invariant.1 _ _ _ _ c.reserve.ensures.same.0 runs (call_seen c.args.call) c.in-Ok.handle _ c.in-Ok.ensures c.append-in-Ok.ensures).kept, made_given g.C.Naming.admits g.C.Naming.views g.H.HistoryNaming.start g.H.HistoryNaming.book g.H.HistoryNaming.given _ _ c.self.invariant.2 _ _ _ _ c.reserve.ensures.same.0 (call_seen c.args.call) c.in-Ok.handle _ c.in-Ok.ensures c.append-in-Ok.ensures)
 
 pub invariant_of-self-in-Err : goal.invariant_of-self-in-Err
 invariant_of-self-in-Err g c =
     let runs = sym c.is_ended.ensures ∙ c.if-is_ended.false in
-    (search rules, (create_refused g.H.HistoryNaming.start _ _ c.self.invariant.1 _ _ _ _ c.reserve.ensures.same.0 runs (call_seen c.args.call) c.in-Err.refusal _ c.in-Err.ensures c.refuse.ensures.adds).kept)
+    (search rules, (create_refused g.H.HistoryNaming.start _ _ c.self.invariant.1 _ _ _ _ c.reserve.ensures.same.0 runs (call_seen c.args.call) c.in-Err.refusal _ c.in-Err.ensures c.refuse.ensures.adds).kept, create_not_given g.C.Naming.admits g.C.Naming.views g.H.HistoryNaming.start g.H.HistoryNaming.book g.H.HistoryNaming.given _ _ c.self.invariant.2 _ _ _ _ c.reserve.ensures.same.0 (call_seen c.args.call) c.in-Err.refusal _ c.in-Err.ensures c.refuse.ensures.adds)
 
 pub returns-in-Ok-clause-answer : goal.returns-in-Ok-clause-answer
 returns-in-Ok-clause-answer g c =
