@@ -15,7 +15,7 @@ ghost use Rattle.res_lock.specs.Views.{first_view};
 use crate::res_lock_tests::locked;
 use frame_record::{Outcome, RenderedFrame};
 use frame_swap::{ApiEnd, RenderEnd, WaitingEnd, swap_pair};
-use gfx_context::{Naming, Shared};
+use gfx_context::{Closed, Naming, Shared};
 use hold_table::{ApiSeat, HoldTable};
 use res_lock::*;
 use std::alloc::Global;
@@ -65,7 +65,8 @@ fn through<'r, C: Naming, H: HistoryNaming, N: LinkNaming<WaitingEnd<'r, R>>, R:
         return None;
     };
     let mut pass = pass;
-    let link = NamedLink::<WaitingEnd<'r, R>, N>::new(WaitingEnd::new(api, rt));
+    let waiting = WaitingEnd::new(api, rt);
+    let link = NamedLink::<WaitingEnd<'r, R>, N>::new(waiting);
     let lock = locked::<C, NamedLink<WaitingEnd<'r, R>, N>, H>(alloc, &shared, seat, table, link)?;
     if pass.is_full() {
         return None;
@@ -76,9 +77,10 @@ fn through<'r, C: Naming, H: HistoryNaming, N: LinkNaming<WaitingEnd<'r, R>>, R:
         return None;
     }
     let (end, number) = rendered(rt, end)?;
-    let closed = context.shutdown(rt);
-    let api = closed.link.into_link().into_end();
-    api.close(end);
+    let Closed { link, .. } = context.shutdown(rt);
+    let waited = link.into_link();
+    let given = waited.into_end();
+    given.close(end);
     Some(number)
 }
 
