@@ -8,7 +8,6 @@ mod creates;
 mod ending;
 mod freeing;
 mod gathering;
-mod last;
 mod marks;
 mod updates;
 mod views;

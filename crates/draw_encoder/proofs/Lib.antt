@@ -2,4 +2,3 @@ pub mod Ranges
 pub mod NameLaws
 pub mod Exits
 pub mod Begins
-pub mod Balance

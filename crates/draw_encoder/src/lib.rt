@@ -7,7 +7,6 @@ mod items;
 pub mod laws;
 mod lists;
 mod naming;
-mod posting;
 mod recorder;
 mod shared;
 mod states;

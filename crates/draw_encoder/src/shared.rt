@@ -4,51 +4,20 @@ ghost use Rattle.hold_table.specs.Seats.{table_of};
 
 use crate::bundle::Bundle;
 use crate::naming::Naming;
-use crate::posting::BundleQueue;
+use crossbeam_queue::ArrayQueue;
 use crossbeam_utils::Backoff;
 use crossbeam_utils::sync::EventCount;
 use hold_table::HoldTable;
 use std::alloc::Global;
-use std::marker::PhantomData;
 use std::sync::Wait;
-
-/// The named table.
-#[derive(Drop)]
-struct NamedTable<C: Naming> {
-    table: HoldTable,
-    of: PhantomData<C>,
-    ghost named: { table_of table ≡ C.table },
-}
-
-impl<C: Naming> NamedTable<C> {
-    fn new(table: HoldTable) -> NamedTable<C>
-        requires { table_of table ≡ C.table }
-    {
-        NamedTable {
-            table,
-            of: PhantomData,
-        }
-    }
-
-    fn get(&self) -> &HoldTable
-        ensures { table_of result.now ≡ C.table }
-    {
-        &self.table
-    }
-
-    fn into_table(self) -> HoldTable
-        ensures { table_of result ≡ C.table }
-    {
-        self.table
-    }
-}
 
 /// The hold table, and the queue of the bundles that wait, with 8 places. Who waits for a bundle sleeps.
 #[derive(Drop)]
 pub struct Shared<C: Naming> {
-    table: NamedTable<C>,
-    queue: BundleQueue<C>,
+    table: HoldTable,
+    queue: ArrayQueue<Bundle<C>>,
     bundle_came: EventCount,
+    ghost named: { table_of table ≡ C.table },
 }
 
 impl<C: Naming> Shared<C> {
@@ -57,9 +26,9 @@ impl<C: Naming> Shared<C> {
         requires { table_of table ≡ C.table }
         ensures { IfErr result (λ t. t ≡ table) }
     {
-        match BundleQueue::new(alloc) {
+        match ArrayQueue::new(alloc, 8) {
             Ok(queue) => Ok(Shared {
-                table: NamedTable::new(table),
+                table,
                 queue,
                 bundle_came: EventCount::new(),
             }),
@@ -71,7 +40,7 @@ impl<C: Naming> Shared<C> {
     pub fn table(&self) -> &HoldTable
         ensures { table_of result.now ≡ C.table }
     {
-        self.table.get()
+        &self.table
     }
 
     /// The hold table, at the end. What waits in the queue is given up, and the seats in it stay off.
@@ -79,7 +48,7 @@ impl<C: Naming> Shared<C> {
         ensures { table_of result ≡ C.table }
     {
         let Shared { table, .. } = self;
-        table.into_table()
+        table
     }
 
     /// Takes a bundle out of the queue, and waits until there is one.

@@ -7,5 +7,4 @@ pub mod Gathers
 pub mod Openings
 pub mod Entries
 pub mod Finish
-pub mod Drawn
 pub mod Closings
