@@ -26,8 +26,6 @@ mod held;
 mod objects;
 mod parts;
 mod picture;
-#[cfg(test)]
-mod pixel_tests;
 mod pixels;
 #[cfg(test)]
 mod play_tests;
