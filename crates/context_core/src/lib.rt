@@ -8,6 +8,7 @@ mod creates;
 mod ending;
 mod freeing;
 mod gathering;
+mod last;
 mod marks;
 mod updates;
 mod views;
