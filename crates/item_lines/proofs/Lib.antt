@@ -1,0 +1,4 @@
+mod Lists
+mod Merging
+mod PlaceLaws
+mod Counts
