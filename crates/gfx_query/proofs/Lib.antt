@@ -6,5 +6,4 @@ pub mod Hex
 pub mod Lines
 pub mod Sums
 pub mod Noting
-pub mod Pieces
 pub mod Ends

@@ -7,7 +7,6 @@ pub mod Fields
 pub mod Seen
 pub mod SeenReading
 pub mod SeenFrames
-pub mod Io
 pub mod Ended
 pub mod Numbers
 pub mod Putting

@@ -23,15 +23,13 @@ use crate::refusing::{
 use crate::status::TraceStatus;
 use crate::words::{Job, Place, job_of};
 use io_edge::{Sink, Source};
-use io_whole::{InputError, put_all, read_all};
+use io_whole::{InputError, LONGEST_INPUT, put_all, read_all};
 use scene_text::Scene;
 use scene_tracing::{Spot, pixel_lines};
 use std::alloc::Global;
 use std::sync::Wait;
 use std::thread::Threads;
 use trace_laws::laws::scene_pixel_law;
-
-const LONGEST: usize = 16_777_216;
 
 /// Puts the lines of a pixel of a frame.
 fn put_pixel<P: Sink>(
@@ -152,7 +150,7 @@ fn run_job<R: Threads + Wait + Sync, S: Source, P: Sink, N: Sink>(
     ensures sure { (P.sure sink.new ≡ P.sure sink.old) × (N.sure notes.new ≡ N.sure notes.old) }
     ensures no_fewer { (S.faults source.old ≤ S.faults source.new) × (P.faults sink.old ≤ P.faults sink.new) × (N.faults notes.old ≤ N.faults notes.new) }
 {
-    match read_all(alloc, source, LONGEST) {
+    match read_all(alloc, source, LONGEST_INPUT) {
         Ok(bytes) => answer(rt, alloc, &bytes, job, sink, notes),
         Err(InputError::Fault) => TraceStatus::ReadFault,
         Err(InputError::TooLong) => refuse(TraceStatus::TooLong, TOO_LONG, notes),

@@ -3,7 +3,6 @@ mod EndedFrames
 mod FourPixels
 mod OneWay
 mod Parts
-mod Pieces
 mod Runs
 mod ShownFrames
 mod Shows
