@@ -1,7 +1,6 @@
 pub mod Places
 pub mod Triangles
 pub mod Counts
-pub mod Splits
 pub mod Hex
 pub mod Lines
 pub mod Sums

@@ -3,7 +3,6 @@ pub mod Draws
 pub mod Standing
 pub mod Queries
 pub mod Text
-pub mod Fields
 pub mod Seen
 pub mod SeenReading
 pub mod SeenFrames

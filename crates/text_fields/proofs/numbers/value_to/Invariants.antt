@@ -1,6 +1,6 @@
 use Rattle.std.proofs.Common.{◌≡◌, ◌≤◌, drop}
 use Rattle.scene_model.specs.Field.{value_onto}
-use Rattle.gfx_query.proofs.fields.value_to.Given as goal
+use Rattle.text_fields.proofs.numbers.value_to.Given as goal
 
 abbrev pub invariant-loop-digit : goal.invariant-loop-digit
 invariant-loop-digit l = record {

@@ -2,8 +2,8 @@ use Rattle.std.proofs.Common.{◌≡◌, ◌<◌, ◌≤◌, ◌+◌, [], ◌∷
 use Rattle.std.proofs.lemmas.List.{take_rest, length-drop}
 use Rattle.scene_model.specs.Field.{split_at}
 use Rattle.scene_model.proofs.SplitLaws.{is_free_of}
-use Rattle.scene_text.proofs.Splits.{split_found, none_behind, some_behind}
-use Rattle.scene_text.proofs.splitting.find_near.Goals as goal
+use Rattle.text_fields.proofs.Splits.{split_found, none_behind, some_behind}
+use Rattle.text_fields.proofs.splitting.find_near.Goals as goal
 
 pub returns-then-bytes-place-clause-cases : goal.returns-then-bytes-place-clause-cases
 returns-then-bytes-place-clause-cases c =
