@@ -20,7 +20,7 @@ use Rattle.render_core.specs.Rendered.{Rendering, IsRendered, AreRendered, rende
 use Rattle.render_core.specs.Seen.{frame_seen}
 use Rattle.render_core.specs.Shown.{StoresAfter, HeldAfter, TallyAfter, FaultIf}
 use Rattle.io_whole.proofs.Pieces.{with_back-with_back, with_back-nothing, rose_after}
-use Rattle.render_core.proofs.Tallies.{counted_both}
+use Rattle.io_whole.proofs.Tallies.{counted_both}
 use Rattle.render_core.proofs.Texts.{stores_seen_after, picture_at, text_at, stores_more, pictures_more, texts_more, text_is}
 
 -- ---- the first outcome

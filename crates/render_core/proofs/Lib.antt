@@ -7,7 +7,6 @@ mod Runs
 mod ShownFrames
 mod Shows
 mod Sides
-mod Tallies
 mod Texts
 mod Turns
 mod ViewRuns
