@@ -10,7 +10,6 @@ mod blocks;
 mod callers;
 mod calls;
 mod input;
-mod link;
 mod loading;
 mod notes;
 mod output;
