@@ -5,14 +5,14 @@ ghost use Rattle.frame_record.specs.Kept.{numbers_in};
 
 use draw_encoder::Recording;
 use hold_table::ApiSeat;
-use std::snapshot::Snapshot;
+use remembered::Remembered;
 
 /// Of what the frame that was made last was made, as clauses see it: the seat as it was then, and the recordings. The numbers that
 /// the seat had gathered are those of the recordings. It has no bytes.
 #[derive(Drop)]
 pub(crate) struct Last {
-    pub(crate) seat: Snapshot<ApiSeat>,
-    pub(crate) recordings: Snapshot<Vec<Recording>>,
+    pub(crate) seat: Remembered<ApiSeat>,
+    pub(crate) recordings: Remembered<Vec<Recording>>,
     ghost numbers: { (api_view seat.value).numbers ≡ numbers_in recordings.value.items },
 }
 
@@ -24,8 +24,8 @@ impl Last {
         ensures recordings { result.recordings.value ≡ recordings.now }
     {
         Last {
-            seat: Snapshot::of(seat),
-            recordings: Snapshot::of(recordings),
+            seat: Remembered::of(seat),
+            recordings: Remembered::of(recordings),
         }
     }
 }

@@ -5,6 +5,7 @@
 mod begin;
 mod context;
 mod creates;
+mod crossing;
 mod ending;
 mod freeing;
 mod gathering;

@@ -9,7 +9,6 @@ mod block_lock;
 mod blocks;
 mod callers;
 mod calls;
-mod link;
 mod loading;
 mod notes;
 mod running;
