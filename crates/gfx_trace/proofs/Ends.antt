@@ -136,6 +136,10 @@ module _ (s : Scene) (p : Place) where
   pub is_there : nat_lt p.frame (length s.frames) ≡ true → is_inside ≡ true → place_status s (jobs.Pixel p) ≡ status.Done
   is_there e f = ap (λ b. by_tests b is_inside) e ∙ ap (by_tests true) f
 
+first : (a b : Bool) → by_tests a b ≡ status.Done → a ≡ true
+first true b e = refl
+first false b e = absurd (cc e)
+
 both : (a b : Bool) → by_tests a b ≡ status.Done → b ≡ true
 both true true e = refl
 both true false e = absurd (cc e)
@@ -144,16 +148,28 @@ both false b e = absurd (cc e)
 pub inside : (x w y h : ℕ) → (nat_lt x w && nat_lt y h) ≡ true → (x < w) × (y < h)
 inside x w y h e = (grind (arith, nat_tests), grind (arith, nat_tests))
 
-done_inside : (s : Scene) (p : Place) → place_status s (jobs.Pixel p) ≡ status.Done → (p.x < s.width) × (p.y < s.height)
-done_inside s p e = inside p.x s.width p.y s.height (both (nat_lt p.frame (length s.frames)) (nat_lt p.x s.width && nat_lt p.y s.height) e)
+below : (k n : ℕ) → nat_lt k n ≡ true → k < n
+below k n e = grind (arith, nat_tests)
 
-pixel_done : (p : Place) (source : Reading) (sink notes : Putting) (bytes : List ℕ) (s : Scene) (j : Journal) → EndsJob status.Done (jobs.Pixel p) source sink notes → source.before ≡ Some bytes → asked_of bytes ≡ scene_by s j
-    → (p.x < s.width) × (p.y < s.height)
+-- a scene has a frame, and its pictures have a pixel
+pub record IsThere (s : Scene) (p : Place) : Type 0 where
+  pub frame : p.frame < length s.frames
+  pub column : p.x < s.width
+  pub row : p.y < s.height
+
+done_there : (s : Scene) (p : Place) → place_status s (jobs.Pixel p) ≡ status.Done → IsThere s p
+done_there s p e =
+    let frame = nat_lt p.frame (length s.frames) in
+    let pixel = nat_lt p.x s.width && nat_lt p.y s.height in
+    let h = inside p.x s.width p.y s.height (both frame pixel e) in
+    record { frame = below p.frame (length s.frames) (first frame pixel e); column = h.0; row = h.1 }
+
+pixel_done : (p : Place) (source : Reading) (sink notes : Putting) (bytes : List ℕ) (s : Scene) (j : Journal) → EndsJob status.Done (jobs.Pixel p) source sink notes → source.before ≡ Some bytes → asked_of bytes ≡ scene_by s j → IsThere s p
 pixel_done p source sink notes bytes s j (b, r, h) told asked =
-    done_inside s p (ap (asked_status (jobs.Pixel p)) (sym asked ∙ ap asked_of (sym (read_told bytes b source told r))) ∙ h.0)
+    done_there s p (ap (asked_status (jobs.Pixel p)) (sym asked ∙ ap asked_of (sym (read_told bytes b source told r))) ∙ h.0)
 
 -- a pixel whose history was put is in the pictures
 pub pixel_is_there : (st : TraceStatus) (o : Option Job) (source : Reading) (sink notes : Putting) (bytes : List ℕ) (s : Scene) (j : Journal) (p : Place) → Ends st o source sink notes → st ≡ status.Done → o ≡ Some (jobs.Pixel p)
-    → source.before ≡ Some bytes → asked_of bytes ≡ scene_by s j → (p.x < s.width) × (p.y < s.height)
+    → source.before ≡ Some bytes → asked_of bytes ≡ scene_by s j → IsThere s p
 pixel_is_there st o source sink notes bytes s j p h done words told asked =
     pixel_done p source sink notes bytes s j (subst (λ (i : Option Job). Ends status.Done i source sink notes) words (subst (λ (t : TraceStatus). Ends t o source sink notes) done h)) told asked

@@ -1,19 +1,16 @@
 // The call.
-ghost use Rattle.std.specs.Prelude.{◌≡◌, ◌≢◌, ◌<◌, ◌≤◌, ◌+◌, ◌*◌, ◌&&◌, ℕ, nat_lt, List, Some, map, string_bytes, length, slice_get, slice_index_or, option_map};
-ghost use Rattle.gfx_model.specs.Raster.{Texels, no_color};
+ghost use Rattle.std.specs.Prelude.{◌≡◌, ◌≢◌, ◌<◌, ◌≤◌, ◌&&◌, ℕ, nat_lt, List, Some, map, string_bytes, length, option_map};
 ghost use Rattle.scene_model.specs.Scene as model;
-ghost use Rattle.scene_model.specs.Journal.{Journal, pictures};
+ghost use Rattle.scene_model.specs.Journal.{Journal};
 ghost use Rattle.spelling_model.specs.Readable.{IsReadable};
 ghost use Rattle.scene_text.specs.Bounds.{IsBounded};
 ghost use Rattle.scene_text.specs.Seen.{journal_seen, scene_seen};
-ghost use Rattle.trace_laws.specs.History.{after_history, pixel_at, pixel_history};
-ghost use Rattle.trace_laws.specs.Moments.{Moment, moments};
 ghost use Rattle.scene_tracing.specs.Asked.{IsLawfulOrder, journal_asked};
 ghost use Rattle.gfx_trace.specs.Asked.{asked_of, scene_by};
 ghost use Rattle.gfx_trace.specs.Ended.{Ends, EndsAs, EndsJob, IsAnswered, IsGiven, IsPut, status_of};
 ghost use Rattle.gfx_trace.specs.Found.{asked_seen};
 ghost use Rattle.gfx_trace.specs.Io.{HasFailedToTake, putting, reading};
-ghost use Rattle.gfx_trace.specs.Lines.{history_text};
+ghost use Rattle.gfx_trace.specs.Lines.{IsTold, history_text};
 ghost use Rattle.gfx_trace.specs.Words.{job_of};
 
 use crate::asked::{Asked, AskedFault, read_asked};
@@ -24,12 +21,13 @@ use crate::status::TraceStatus;
 use crate::words::{Job, Place, job_of};
 use io_edge::{Sink, Source};
 use io_whole::{InputError, LONGEST_INPUT, put_all, read_all};
+use scene_progress::plan_law;
 use scene_text::Scene;
 use scene_tracing::{Spot, pixel_lines};
 use std::alloc::Global;
 use std::sync::Wait;
 use std::thread::Threads;
-use trace_laws::laws::scene_pixel_law;
+use trace_laws::laws::{moment_law, scene_pixel_law};
 
 /// Puts the lines of a pixel of a frame.
 fn put_pixel<P: Sink>(
@@ -218,12 +216,13 @@ pub fn trace<R: Threads + Wait + Sync, S: Source, P: Sink, N: Sink>(
         → IsGiven (job_of (map string_bytes words.now)) (reading (S.left source.old) (S.left source.new) (S.faults source.old) (S.faults source.new)) bytes
         → (HasFailedToTake (putting (P.held sink.old) (P.held sink.new) (P.faults sink.old) (P.faults sink.new)) → ⊥)
         → EndsAs (status_of (job_of (map string_bytes words.now)) bytes) result }
-    // Where it was done, the colour with which the history ends is that of the scene's picture.
-    ensures color { (bytes : List ℕ) (s : model.Scene) (j : Journal) (p : Place) (m : Moment) (t : Texels)
+    // Where it was done, the lines are those from the frame's moment on, and the colour with which they end is that of the scene's picture.
+    ensures color { (bytes : List ℕ) (s : model.Scene) (j : Journal) (p : Place)
         → result ≡ TraceStatus.Done → job_of (map string_bytes words.now) ≡ Some (Job.Pixel p) → S.left source.old ≡ Some bytes → asked_of bytes ≡ scene_by s j
-        → slice_get (moments s j) p.frame ≡ Some m → slice_get (pictures s j) p.frame ≡ Some t
-        → (after_history (pixel_at m.world.back p.x p.y) (pixel_history m.world m.content p.x p.y)).color ≡ slice_index_or t.texels (p.y * s.width + p.x) no_color }
+        → IsTold bytes s j p.frame p.x p.y }
 {
+    moment_law();
     scene_pixel_law();
+    plan_law();
     run(rt, alloc, words, source, sink, notes)
 }

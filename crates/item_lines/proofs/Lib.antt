@@ -2,3 +2,4 @@ mod Lists
 mod Merging
 mod PlaceLaws
 mod Counts
+mod Behind
