@@ -4,12 +4,13 @@ use Rattle.std.proofs.lemmas.Bool.Decides.{nat_tests}
 use Rattle.std.proofs.lemmas.List.{length-append}
 use Rattle.std.proofs.lemmas.Option.{same_Some, none-some}
 use Rattle.io_edge.specs.Edge.{with_front, with_back, IsSpent}
-use Rattle.io_whole.specs.Whole.{HasMoreThan}
+use Rattle.io_whole.specs.Whole.{longest, HasMoreThan}
 use Rattle.scene_model.specs.Scene.{Scene}
 use Rattle.scene_model.specs.Journal.{Journal}
 use Rattle.gfx_trace.specs.Asked.{Asked, scene_by, asked_of}
 use Rattle.gfx_trace.specs.Ended.{place_status, asked_status, status_of, text_of, IsPut, IsAnswered, EndsJob, Ends, IsGiven, EndsAs}
-use Rattle.gfx_trace.specs.Io.{longest, Reading, IsRead, Putting, HasFailedToTake, IsUntouched, HasPutFront, HasTried}
+use Rattle.io_whole.specs.Runs.{Reading, Putting, HasFailedToTake, IsUntouched, HasPutFront, HasTried}
+use Rattle.gfx_trace.specs.Io.{IsRead}
 use Rattle.gfx_trace.specs.Refusals.{refusal_line, MayRefuse}
 use Rattle.gfx_trace.specs.declared.words.Job.{Job}
 use Rattle.gfx_trace.specs.declared.words.Place.{Place}

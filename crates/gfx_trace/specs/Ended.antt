@@ -1,11 +1,12 @@
 -- What is known after a run, for each status with which it may end.
 use Rattle.std.specs.Prelude.{◌≡◌, ◌⊎◌, ℕ, nat_lt, ◌&&◌, if◌then◌else◌, List, [], length, Option, Some, None, ⊤}
-use Rattle.io_whole.specs.Whole.{HasMoreThan}
+use Rattle.io_whole.specs.Whole.{longest, HasMoreThan}
 use Rattle.scene_model.specs.Scene.{Scene}
 use Rattle.scene_model.specs.Output.{length_line}
 use Rattle.gfx_trace.specs.Asked.{Asked, scene_by, no_scene, no_journal, asked_of}
 use Rattle.gfx_trace.specs.Lines.{history_text}
-use Rattle.gfx_trace.specs.Io.{longest, Reading, HasFailedToGive, IsUnread, IsRead, Putting, HasFailedToTake, IsUntouched, HasPut, HasPutFront, HasTried}
+use Rattle.io_whole.specs.Runs.{Reading, HasFailedToGive, IsUnread, Putting, HasFailedToTake, IsUntouched, HasPut, HasPutFront, HasTried}
+use Rattle.gfx_trace.specs.Io.{IsRead}
 use Rattle.gfx_trace.specs.Refusals.{usage_line, refusal_line}
 use Rattle.gfx_trace.specs.declared.words.Job.{Job}
 use Rattle.gfx_trace.specs.declared.words.Job.TheVariants as jobs

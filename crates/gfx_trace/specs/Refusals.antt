@@ -5,7 +5,7 @@ use Rattle.gfx_trace.specs.declared.status.TraceStatus.{TraceStatus}
 use Rattle.gfx_trace.specs.declared.status.TraceStatus.TheVariants as status
 use Rattle.gfx_trace.specs.declared.words.Job.{Job}
 use Rattle.gfx_trace.specs.declared.words.Job.TheVariants as jobs
-use Rattle.gfx_trace.specs.Io.{Putting, IsUntouched, HasTried}
+use Rattle.io_whole.specs.Runs.{Putting, IsUntouched, HasTried}
 
 -- the words are refused
 abbrev pub usage_line : List ℕ

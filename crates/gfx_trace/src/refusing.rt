@@ -1,7 +1,7 @@
 // Runs that are refused.
 ghost use Rattle.std.specs.Prelude.{◌≡◌, ◌≤◌, ℕ, List, IfOk};
 ghost use Rattle.scene_model.specs.Output.{journal_refusal_line, scene_line};
-ghost use Rattle.gfx_trace.specs.Io.{HasTried, putting};
+ghost use Rattle.io_whole.specs.Runs.{HasTried, putting};
 ghost use Rattle.gfx_trace.specs.Refusals.{MayRefuse, frame_line, pixel_line};
 
 use crate::status::TraceStatus;

@@ -9,7 +9,7 @@ ghost use Rattle.scene_tracing.specs.Asked.{IsLawfulOrder, journal_asked};
 ghost use Rattle.gfx_trace.specs.Asked.{asked_of, scene_by};
 ghost use Rattle.gfx_trace.specs.Ended.{Ends, EndsAs, EndsJob, IsAnswered, IsGiven, IsPut, status_of};
 ghost use Rattle.gfx_trace.specs.Found.{asked_seen};
-ghost use Rattle.gfx_trace.specs.Io.{HasFailedToTake, putting, reading};
+ghost use Rattle.io_whole.specs.Runs.{HasFailedToTake, putting, reading};
 ghost use Rattle.gfx_trace.specs.Lines.{IsTold, history_text};
 ghost use Rattle.gfx_trace.specs.Words.{job_of};
 
