@@ -1,9 +1,9 @@
 -- The history of a pixel that a link traced is that of the scene.
-use Rattle.std.proofs.Common.{◌≡◌, ◌∙◌, ℕ, zero, suc, ◌+◌, ◌<◌, ◌≤◌, Bool, true, false, not, List, [], ◌∷◌, ◌++◌, map, fold, take, drop, length, slice_get, Option, Some, None, refl, sym, ap, subst, arith}
+use Rattle.std.proofs.Common.{◌≡◌, ◌∙◌, ℕ, zero, suc, ◌+◌, ◌<◌, Bool, true, false, not, List, [], ◌∷◌, ◌++◌, map, fold, take, drop, length, slice_get, Option, Some, None, refl, sym, ap, subst, arith}
 use Rattle.std.proofs.lemmas.List.{length-map, map-append, take_all}
 use Rattle.gfx_model.specs.Pixel.{Pixel}
 use Rattle.gfx_model.specs.World.{World, Surface, frame_step, first_world}
-use Rattle.gfx_model.specs.Frames.{Recorded, Entry}
+use Rattle.gfx_model.specs.Frames.{Entry}
 use Rattle.gfx_model.specs.Views.{Views}
 use Rattle.store_laws.specs.ByIndex.{Stores, FrameData, first_stores, frame_by_index}
 use Rattle.scene_model.specs.Scene.{Scene}
@@ -15,7 +15,7 @@ use Rattle.scene_progress.specs.Laws.{LawfulCountLaw, PlanCountLaw}
 use Rattle.scene_laws.specs.SceneFrames.{HasColors, scene_frames}
 use Rattle.trace_laws.specs.Doers.{Doer, doers, doers_in}
 use Rattle.trace_laws.specs.History as history
-use Rattle.trace_laws.specs.Moments.{Moment, moments, moments_from}
+use Rattle.trace_laws.specs.Moments.{Moment, moments_from}
 use Rattle.trace_laws.specs.ByIndex.{IsTraced, history_in, begun_in, deeds_in}
 use Rattle.trace_laws.specs.Laws.{ScenePixelLaw}
 use Rattle.scene_traces.specs.Traced.{stores_before, SceneTracedLaw, GatheredDoersLaw}
@@ -29,12 +29,11 @@ use Rattle.frame_tracing.specs.Seen.{made_seen}
 use Rattle.trace_lines.specs.Seen.{doer_seen}
 use Rattle.trace_lines.specs.Numbered.{numbered_lines, lines_at, scene_numbered_lines}
 use Rattle.scene_tracing.specs.declared.asked.Asked.{Asked}
-use Rattle.scene_tracing.specs.declared.history.Spot.{Spot}
 use Rattle.scene_tracing.specs.declared.history.History.{History}
 use Rattle.scene_tracing.specs.Asked.{journal_asked, IsLawfulOrder}
 use Rattle.scene_tracing.specs.Histories.{IsHistory, EndsInPicture}
 use Rattle.scene_tracing.specs.Tracing.{stores_behind, IsTracedIn, HasTraced}
-use Rattle.scene_tracing.proofs.Frames.{Cut, cut-at, is-true}
+use Rattle.scene_tracing.proofs.Frames.{cut-at, is-true}
 use Rattle.scene_tracing.proofs.Journals.{lawful-whole, asked-journal}
 
 -- ---- the frame at a place

@@ -1,4 +1,4 @@
-use Rattle.std.proofs.Common.{List, ◌++◌, ◌∷◌, [], ap, ◌∙◌}
+use Rattle.std.proofs.Common.{◌++◌, ◌∷◌, [], ap, ◌∙◌}
 use Rattle.frame_record.specs.declared.frame.Frame.{Frame}
 use Rattle.frame_keeping.specs.Kept.{given_by}
 use Rattle.scene_tracing.proofs.Frames.{traces-same}
