@@ -1,5 +1,5 @@
 -- Frames that are traced one after another.
-use Rattle.std.proofs.Common.{◌≡◌, ◌∙◌, ℕ, zero, suc, ◌+◌, ◌<◌, ◌≤◌, Bool, true, false, is_some, List, [], ◌∷◌, ◌++◌, map, fold, take, drop, length, slice_get, ◌⊎◌, inl, inr, Option, Some, None, refl, sym, ap, subst, arith}
+use Rattle.std.proofs.Common.{◌≡◌, ◌∙◌, ℕ, zero, suc, ◌+◌, ◌<◌, ◌≤◌, Bool, true, false, not, is_some, List, [], ◌∷◌, ◌++◌, map, fold, take, drop, length, slice_get, ◌⊎◌, inl, inr, Option, Some, None, IfSome, refl, sym, ap, subst, arith}
 use Rattle.std.proofs.lemmas.List.{length-append, map-append}
 use Rattle.store_laws.specs.ByIndex.{Stores, FrameData, first_stores, frame_by_index}
 use Rattle.gfx_model.specs.World.{first_world}
@@ -7,10 +7,11 @@ use Rattle.frame_record.specs.declared.frame.Frame.{Frame}
 use Rattle.render_core.specs.Seen.{frame_seen}
 use Rattle.scene_tracing.specs.declared.asked.Asked.{Asked}
 use Rattle.scene_tracing.specs.declared.history.History.{History}
+use Rattle.scene_tracing.specs.declared.tracer.Tracer.{Tracer}
 use Rattle.frame_record.specs.declared.frame.Outcome.{Outcome}
 use Rattle.frame_record.specs.declared.frame.Outcome.TheVariants as outcomes
 use Rattle.render_core.specs.Shown.{StoresAfter}
-use Rattle.scene_tracing.specs.Tracing.{stores_behind, IsTracedIn, HasTraced, IsBefore, Reaches}
+use Rattle.scene_tracing.specs.Tracing.{stores_behind, IsTracedIn, HasTraced, IsBefore, Reaches, Traces}
 
 fold-more : {A B : Type 0} (f : B → A → B) (z : B) (xs : List A) (x : A) → fold f z (xs ++ x ∷ []) ≡ f (fold f z xs) x
 fold-more f z [] x = refl
@@ -99,6 +100,28 @@ alone-reaches a left h (Some t) whole frames f (inr e) r is = ((λ n. absurd (cc
 pub none-of : (o : Option History) → is_some o ≡ false → o ≡ None
 none-of None e = refl
 none-of (Some t) e = absurd (cc e)
+
+pub is-true : (b : Bool) → not b ≡ false → b ≡ true
+is-true true e = refl
+is-true false e = absurd (cc e)
+
+-- what is said of a history that is there
+pub history-is : (o : Option History) (P : History → Type 0) → ((t : History) → o ≡ Some t → P t) → IfSome o P
+history-is None P given = tt
+history-is (Some t) P given = given t refl
+
+-- what a tracer that was given frames has traced
+pub history-traced : (t : Tracer) → t.is_whole ≡ true → IfSome t.history (λ h. (frames : List Frame) → Traces t frames → HasTraced t.asked frames h)
+history-traced t whole = history-is t.history (λ h. (frames : List Frame) → Traces t frames → HasTraced t.asked frames h) (λ h is frames traces. (traces whole).1 h is)
+
+-- the same of the frames that it was given
+pub history-given : (t : Tracer) (frames : List Frame) (o : Option History) → Traces t frames → IfSome o (λ h. (frames : List Frame) → Traces t frames → HasTraced t.asked frames h) → IfSome o (λ h. HasTraced t.asked frames h)
+history-given t frames None traces is = tt
+history-given t frames (Some h) traces is = is frames traces
+
+-- the same frames by another name
+pub traces-same : (t : Tracer) (old new : List Frame) → new ≡ old → Traces t old → Traces t new
+traces-same t old new same = subst (λ (fs : List Frame). Traces t fs) (sym same)
 
 -- the stores after a frame that was shown
 pub shown-stores : (o : Outcome) (old : Stores) (f : FrameData) (new : Stores) → o ≡ outcomes.Shown → StoresAfter o old f new → new ≡ frame_by_index old f

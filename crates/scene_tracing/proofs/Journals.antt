@@ -1,5 +1,5 @@
 -- The journal of a play that gave all frames is the one that was asked for.
-use Rattle.std.proofs.Common.{◌≡◌, ◌≤◌, ℕ, Bool, true, List, length, take, Option, Some, None, refl, sym, ap, ◌∙◌, subst, arith}
+use Rattle.std.proofs.Common.{◌≡◌, ℕ, Bool, true, List, length, take, Option, Some, None, refl, sym, ◌∙◌, arith}
 use Rattle.std.proofs.lemmas.List.{length-map, take_all}
 use Rattle.scene_model.specs.Scene.{Scene}
 use Rattle.scene_model.specs.Fold.{FramePlan, plans}

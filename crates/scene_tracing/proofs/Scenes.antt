@@ -1,9 +1,9 @@
 -- The history of a pixel that a link traced is that of the scene.
-use Rattle.std.proofs.Common.{◌≡◌, ◌∙◌, ℕ, zero, suc, ◌+◌, ◌<◌, ◌≤◌, Bool, true, false, not, List, [], ◌∷◌, ◌++◌, map, fold, take, drop, length, slice_get, Option, Some, None, refl, sym, ap, subst, arith}
+use Rattle.std.proofs.Common.{◌≡◌, ◌∙◌, ℕ, zero, suc, ◌+◌, ◌<◌, Bool, true, false, not, List, [], ◌∷◌, ◌++◌, map, fold, take, drop, length, slice_get, Option, Some, None, refl, sym, ap, subst, arith}
 use Rattle.std.proofs.lemmas.List.{length-map, map-append, take_all}
 use Rattle.gfx_model.specs.Pixel.{Pixel}
 use Rattle.gfx_model.specs.World.{World, Surface, frame_step, first_world}
-use Rattle.gfx_model.specs.Frames.{Recorded, Entry}
+use Rattle.gfx_model.specs.Frames.{Entry}
 use Rattle.gfx_model.specs.Views.{Views}
 use Rattle.store_laws.specs.ByIndex.{Stores, FrameData, first_stores, frame_by_index}
 use Rattle.scene_model.specs.Scene.{Scene}
@@ -15,7 +15,7 @@ use Rattle.scene_progress.specs.Laws.{LawfulCountLaw, PlanCountLaw}
 use Rattle.scene_laws.specs.SceneFrames.{HasColors, scene_frames}
 use Rattle.trace_laws.specs.Doers.{Doer, doers, doers_in}
 use Rattle.trace_laws.specs.History as history
-use Rattle.trace_laws.specs.Moments.{Moment, moments, moments_from}
+use Rattle.trace_laws.specs.Moments.{Moment, moments_from}
 use Rattle.trace_laws.specs.ByIndex.{IsTraced, history_in, begun_in, deeds_in}
 use Rattle.trace_laws.specs.Laws.{ScenePixelLaw}
 use Rattle.scene_traces.specs.Traced.{stores_before, SceneTracedLaw, GatheredDoersLaw}
@@ -29,12 +29,11 @@ use Rattle.frame_tracing.specs.Seen.{made_seen}
 use Rattle.trace_lines.specs.Seen.{doer_seen}
 use Rattle.trace_lines.specs.Numbered.{numbered_lines, lines_at, scene_numbered_lines}
 use Rattle.scene_tracing.specs.declared.asked.Asked.{Asked}
-use Rattle.scene_tracing.specs.declared.history.Spot.{Spot}
 use Rattle.scene_tracing.specs.declared.history.History.{History}
 use Rattle.scene_tracing.specs.Asked.{journal_asked, IsLawfulOrder}
 use Rattle.scene_tracing.specs.Histories.{IsHistory, EndsInPicture}
 use Rattle.scene_tracing.specs.Tracing.{stores_behind, IsTracedIn, HasTraced}
-use Rattle.scene_tracing.proofs.Frames.{Cut, cut-at}
+use Rattle.scene_tracing.proofs.Frames.{cut-at, is-true}
 use Rattle.scene_tracing.proofs.Journals.{lawful-whole, asked-journal}
 
 -- ---- the frame at a place
@@ -123,9 +122,9 @@ history-at traced_law doers_law s j given x y t front f rest colors plans_are se
       ordered = at.ordered;
       begins = m.begins;
       before = is.0 ∙ ap (λ (h : Stores). history.pixel_at h.back x y) stores ∙ ap (λ (b : Surface). history.pixel_at b x y) traced.back;
-      made = is.1.0 ∙ ap (λ (h : Stores). history_in x y 0 (begun_in h (frame_seen f)) (deeds_in (frame_seen f))) stores ∙ traced.history x y;
+      made = is.1 ∙ ap (λ (h : Stores). history_in x y 0 (begun_in h (frame_seen f)) (deeds_in (frame_seen f))) stores ∙ traced.history x y;
       doers =
-          is.1.1 ∙ ap (λ (v : Views). doers_in v (recordings_of f) (journal_of f)) at.has.views ∙ ap (doers_in at.plan.views (recordings_of f)) at.has.journal
+          is.2 ∙ ap (λ (v : Views). doers_in v (recordings_of f) (journal_of f)) at.has.views ∙ ap (doers_in at.plan.views (recordings_of f)) at.has.journal
           ∙ doers_law at.plan (recordings_of f) at.entries at.has.gathered;
     }
 
@@ -160,10 +159,6 @@ lines-are numbers s j k x y t is =
     ∙ ap (λ (p : Pixel). numbered_lines numbers (doers is.plan is.entries) p (map made_seen t.made.items)) is.before
     ∙ ap (λ (ms : List history.Made). numbered_lines numbers (doers is.plan is.entries) (history.pixel_at is.world.back x y) ms) is.made
     ∙ sym (λ i. lines_at numbers x y (is.begins i) (is.planned i) (is.ordered i))
-
-is-true : (b : Bool) → not b ≡ false → b ≡ true
-is-true true e = refl
-is-true false e = absurd (cc e)
 
 -- what was asked for of a play that gave all frames
 pub history-asked : SceneTracedLaw → GatheredDoersLaw → ColorsLaw → LawfulCountLaw → PlanCountLaw → (s : Scene) (o : Option Journal) (j : Journal) (given : List Frame) (notes : List (ℕ × ℕ)) (is_whole : Bool) (a asked : Asked) (t : History)

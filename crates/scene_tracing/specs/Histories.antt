@@ -1,5 +1,5 @@
 -- The history of a pixel of a frame of a scene, and its lines.
-use Rattle.std.specs.Prelude.{◌≡◌, ℕ, ◌+◌, ◌*◌, List, [], ◌++◌, map, Some, slice_get, slice_index_or}
+use Rattle.std.specs.Prelude.{◌≡◌, ℕ, ◌+◌, ◌*◌, List, map, Some, slice_get, slice_index_or}
 use Rattle.gfx_model.specs.Raster.{Texels, no_color}
 use Rattle.gfx_model.specs.World.{World}
 use Rattle.scene_model.specs.Scene.{Scene}

@@ -4,7 +4,6 @@ use Rattle.scene_text.specs.Seen.{scene_seen, journal_seen}
 use Rattle.scene_playing.specs.Order.{order_seen}
 use Rattle.scene_tracing.specs.declared.asked.Asked.{Asked}
 use Rattle.scene_tracing.specs.Asked.{journal_asked}
-use Rattle.scene_tracing.specs.Histories.{IsHistory}
 use Rattle.scene_tracing.proofs.Scenes.{history-asked, ends-in-picture}
 use Rattle.scene_tracing.proofs.pixel.trace_pixel.Goals as goal
 
