@@ -2,3 +2,4 @@ mod Journals
 mod Frames
 mod Scenes
 mod Texts
+mod StepLines

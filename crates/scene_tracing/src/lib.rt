@@ -6,10 +6,12 @@ mod history;
 mod lines;
 mod link;
 mod pixel;
+mod steps;
 mod text;
 mod tracer;
 
 pub use history::{History, Spot};
 pub use lines::history_lines;
 pub use pixel::trace_pixel;
+pub use steps::step_lines;
 pub use text::pixel_lines;
