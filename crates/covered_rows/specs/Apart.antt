@@ -1,0 +1,12 @@
+-- Runs of two encoders that have no column in common.
+use Rattle.std.specs.Prelude.{◌≡◌, ℕ, ◌<◌, ◌≤◌, List}
+use Rattle.shared_keys.specs.Members.{In}
+use Rattle.covered_rows.specs.declared.runs.Run.{Run}
+
+-- a column is in a run
+abbrev pub HasColumn : Run → ℕ → Type 0
+HasColumn r c = (r.first ≤ c) × (c < r.after)
+
+-- no column of a row is in two runs of one key and of two encoders
+abbrev pub AreApart : List Run → Type 0
+AreApart runs = (x y : Run) → In x runs → In y runs → x.key ≡ y.key → x.row ≡ y.row → (x.encoder ≡ y.encoder → ⊥) → (c : ℕ) → HasColumn x c → HasColumn y c → ⊥
