@@ -5,5 +5,7 @@ mod frames;
 mod keys;
 pub mod laws;
 mod marking;
+mod pairs;
 
 pub use frames::recorded_views;
+pub use pairs::recorded_pairs;
