@@ -3,6 +3,8 @@
 
 mod runs;
 mod sweep;
+mod triangles;
 
 pub use runs::Run;
 pub use sweep::are_apart;
+pub use triangles::{Coverer, push_triangle};
