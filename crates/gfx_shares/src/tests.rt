@@ -20,13 +20,18 @@ struct Left {
 fn left_by<R: Threads + Wait + Sync>(
     rt: &R,
     alloc: Global,
+    words: &[&str],
     text: &[u8],
     source_fails: &[u32],
     capacity: usize,
 ) -> Result<Left, AllocError> {
+    let mut told = Vec::new(alloc);
+    for word in words {
+        told.push(format!(in alloc; "{word}")?)?;
+    }
     let mut source = MemSource::new(text.to_vec(alloc)?, source_fails.to_vec(alloc)?);
     let mut notes = MemSink::new(alloc, capacity, 7, Vec::new(alloc))?;
-    let status = shares(rt, alloc, &mut source, &mut notes);
+    let status = shares(rt, alloc, &told, &mut source, &mut notes);
     Ok(Left {
         status,
         lines: notes.bytes().to_vec(alloc)?,
@@ -59,9 +64,28 @@ fn two_encoders_share_or_not(rt: HostRuntime) -> Result<(), Fail> {
         (TWO_BLITS, b"frame 1 view 3 encoders 0 1\n"),
     ];
     for (text, lines) in scenes {
-        let left = left_by(&rt, rt.alloc(), text, &[], 1000)?;
+        let left = left_by(&rt, rt.alloc(), &[], text, &[], 1000)?;
         assert_eq!(rt; left.status, SharesStatus::Done);
         assert_eq!(rt; left.lines.as_slice(), lines);
+    }
+    Ok(())
+}
+
+// The first two draws of encoder 0 share with none, and the first of encoder 2 neither.
+#[test]
+fn the_pairs_of_items(rt: HostRuntime) -> Result<(), Fail> {
+    let text =
+        b"scene 1\nsize 1 1\nencoders 3\n# a comment\nframe\nprogram s solid\nencoder 0\nsubmit 0 s 1 255\nsubmit 9 s 1 255\nsubmit 0 s 4 255\nsubmit 0 s 5 255\nencoder 2\nsubmit 0 s 9 255\nsubmit 0 s 5 255\nsubmit 0 s 4 255\ndone\n";
+    let left = left_by(&rt, rt.alloc(), &["pairs"], text, &[], 1000)?;
+    assert_eq!(rt; left.status, SharesStatus::Done);
+    assert_eq!(rt;
+        left.lines.as_slice(),
+        b"frame 0 view 0 encoders 0 2\npair frame 0 view 0 encoder 0 item 2 line 10 encoder 2 item 2 line 15\n".as_slice()
+    );
+    for words in [["pair"].as_slice(), ["pairs", "pairs"].as_slice()] {
+        let none = left_by(&rt, rt.alloc(), words, text, &[], 1000)?;
+        assert_eq!(rt; none.status, SharesStatus::Usage);
+        assert_eq!(rt; none.lines.len(), 0);
     }
     Ok(())
 }
@@ -79,7 +103,7 @@ fn the_first_line_that_fails(rt: HostRuntime) -> Result<(), Fail> {
         ),
     ];
     for (text, line, cause) in texts {
-        let left = left_by(&rt, rt.alloc(), text, &[], 1000)?;
+        let left = left_by(&rt, rt.alloc(), &[], text, &[], 1000)?;
         assert_eq!(rt; left.status, SharesStatus::Scene { line, cause });
         assert_eq!(rt; left.lines.len(), 0);
     }
@@ -88,10 +112,10 @@ fn the_first_line_that_fails(rt: HostRuntime) -> Result<(), Fail> {
 
 #[test]
 fn a_read_and_a_write_that_fail(rt: HostRuntime) -> Result<(), Fail> {
-    let unread = left_by(&rt, rt.alloc(), TWO_BLITS, &[0], 1000)?;
+    let unread = left_by(&rt, rt.alloc(), &[], TWO_BLITS, &[0], 1000)?;
     assert_eq!(rt; unread.status, SharesStatus::ReadFault);
     assert_eq!(rt; unread.lines.len(), 0);
-    let cut = left_by(&rt, rt.alloc(), TWO_BLITS, &[], 9)?;
+    let cut = left_by(&rt, rt.alloc(), &[], TWO_BLITS, &[], 9)?;
     assert_eq!(rt; cut.status, SharesStatus::NoteFault);
     assert_eq!(rt; cut.lines.as_slice(), b"frame 1 v".as_slice());
     Ok(())
@@ -106,14 +130,14 @@ fn an_input_that_is_too_long(rt: HostRuntime) -> Result<(), Fail> {
     text.extend_from_slice(&comment)?;
     text.push(b'\n')?;
     assert_eq!(rt; text.len(), 16_777_216);
-    let whole = left_by(&rt, alloc, &text, &[], 1000)?;
+    let whole = left_by(&rt, alloc, &[], &text, &[], 1000)?;
     assert_eq!(rt; whole.status, SharesStatus::Done);
     assert_eq!(rt;
         whole.lines.as_slice(),
         b"frame 1 view 3 encoders 0 1\n".as_slice()
     );
     text.push(b'\n')?;
-    let longer = left_by(&rt, alloc, &text, &[], 1000)?;
+    let longer = left_by(&rt, alloc, &[], &text, &[], 1000)?;
     assert_eq!(rt; longer.status, SharesStatus::TooLong);
     assert_eq!(rt; longer.lines.len(), 0);
     Ok(())
