@@ -26,6 +26,7 @@ use Rattle.render_core.specs.Shown.{HeldAfter}
 use Rattle.c_words.specs.declared.faults.Fault.{Fault}
 use Rattle.gfx_c.specs.declared.frame.Framed.{Framed}
 use Rattle.gfx_c.specs.Calls.{is_over}
+use Rattle.gfx_c.specs.Standings.{is_open, stands}
 use Rattle.gfx_c.specs.Frames.{Shows, HandsOut, Delivers, IsDelivered, IsMade, IsTold, Tells, FramesSeen, FramesUnseen, FramesInto, came_back, emptied, picture_of}
 use Rattle.gfx_c.specs.Views.{ContextView, IsOn}
 use Rattle.gfx_c.proofs.Told.{context_with}
@@ -101,12 +102,17 @@ shown_held outcomes.PictureFault text held s h = absurd (cc s)
 shown_held outcomes.OutOfMemory text held s h = absurd (cc s)
 shown_held outcomes.Skipped text held s h = absurd (cc s)
 
+-- a context is open after a frame only where that was shown
+shown_where_open : (b : Bool) → is_open (stands b) ≡ true → b ≡ true
+shown_where_open true e = refl
+shown_where_open false e = e
+
 -- the picture is handed out
-pub handed : (f : Frame) (old new : ContextView) (n : ℕ) (before after : List ℕ) → Shows f old new → new.is_shown ≡ true → HandsOut new.renderer.held n before after
+pub handed : (f : Frame) (old new : ContextView) (n : ℕ) (before after : List ℕ) → Shows f old new → is_open new.standing ≡ true → HandsOut new.renderer.held n before after
     → (n ≡ length (picture_of new)) × (n ≤ length before) × (after ≡ picture_of new ++ drop n before)
 handed f old new n before after s shown out =
     let r : RenderedFrame = s.0 in
-    let is : is_shown r.outcome ≡ true = sym (ap (λ (c : ContextView). c.is_shown) s.3) ∙ shown in
+    let is : is_shown r.outcome ≡ true = shown_where_open (is_shown r.outcome) (sym (ap (λ (c : ContextView). is_open c.standing) s.3) ∙ shown) in
     subst (λ (h : Option (List ℕ)). HandsOut h n before after) (shown_held r.outcome (picture_of new) new.renderer.held is s.2.held) out
 
 -- the room of a sink stays

@@ -13,4 +13,4 @@ pub invariant_of-self : goal.invariant_of-self
 invariant_of-self c = (on_begun c.self.invariant.0 c.begin.new.self (room_seen c.args.room) c.begin.result c.begin.ensures.answer, c.self.invariant.1)
 
 pub returns : goal.returns
-returns c = recorder_told c.self.inside.things.rows.items (rendering_of c.self.inside.renderer) c.self.inside.is_shown c.self.inside.renderer.sink.capacity c.self.inside.core c.begin.new.self c.self.invariant.0 (room_seen c.args.room) c.begin.result c.begin.ensures.answer c.begin.ensures.table _ c.self.view_is
+returns c = recorder_told c.self.inside.things.rows.items (rendering_of c.self.inside.renderer) c.self.inside.standing c.self.inside.renderer.sink.capacity c.self.inside.core c.begin.new.self c.self.invariant.0 (room_seen c.args.room) c.begin.result c.begin.ensures.answer c.begin.ensures.table _ c.self.view_is

@@ -16,4 +16,4 @@ pub returns-clause-prepares : goal.returns-clause-prepares
 returns-clause-prepares c = subst (λ (v : ContextView). Prepares c.prepare.result v.core c.prepare.new.self) c.self.view_is c.prepare.ensures
 
 pub returns-clause-same : goal.returns-clause-same
-returns-clause-same c = subst (λ (v : ContextView). (context_with c.self.inside.things.rows.items (rendering_of c.self.inside.renderer) c.self.inside.is_shown c.self.inside.renderer.sink.capacity) c.prepare.new.self ≡ record v { core = c.prepare.new.self }) c.self.view_is refl
+returns-clause-same c = subst (λ (v : ContextView). (context_with c.self.inside.things.rows.items (rendering_of c.self.inside.renderer) c.self.inside.standing c.self.inside.renderer.sink.capacity) c.prepare.new.self ≡ record v { core = c.prepare.new.self }) c.self.view_is refl
