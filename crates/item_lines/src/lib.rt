@@ -8,6 +8,3 @@ pub mod laws;
 mod places;
 
 pub use items::item_lines;
-
-#[cfg(test)]
-mod tests;
