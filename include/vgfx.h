@@ -496,6 +496,11 @@ VGFX_CALL vgfx_encoder_set_int(vgfx_encoder *encoder, vgfx_id uniform, int32_t v
  * Returns: VGFX_OK, VGFX_ERROR_BAD_VIEW, VGFX_ERROR_WRONG_KIND, VGFX_ERROR_STALE, VGFX_ERROR_ROOM_FULL. */
 VGFX_CALL vgfx_encoder_submit(vgfx_encoder *encoder, uint16_t view, vgfx_id program, uint32_t depth, uint8_t discard);
 
+/* Resets the parts of the state for the next draw that `discard` names (VGFX_DISCARD_BINDINGS | ..), as they are where an encoder begins.
+ * Nothing is recorded; uniform values that were set stay for the next draw or touch.
+ * Returns: VGFX_OK. */
+VGFX_CALL vgfx_encoder_discard(vgfx_encoder *encoder, uint8_t discard);
+
 /* Records an empty primitive with the uniform values, so that the view is entered, and resets all as VGFX_DISCARD_ALL.
  * Returns: VGFX_OK, VGFX_ERROR_BAD_VIEW, VGFX_ERROR_ROOM_FULL. */
 VGFX_CALL vgfx_encoder_touch(vgfx_encoder *encoder, uint16_t view);
@@ -511,7 +516,7 @@ VGFX_CALL vgfx_encoder_blit(vgfx_encoder *encoder, uint16_t view, vgfx_id destin
 VGFX_CALL vgfx_encoder_end(vgfx_encoder *encoder, uint32_t dropped);
 
 /* Gives up an encoder whose context is, or will be, shut down. Its handle is null from then on, and it stays out for ever: each later
- * vgfx_frame of its context answers VGFX_ERROR_ENDED. To be rid of an encoder and go on, end it.
+ * vgfx_frame of its context answers VGFX_ERROR_ENDED. To be rid of an encoder and go on, end it; to take back what was set, vgfx_encoder_discard.
  * Returns: VGFX_OK. */
 VGFX_CALL vgfx_encoder_drop(vgfx_encoder *encoder);
 

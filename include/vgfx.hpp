@@ -110,6 +110,7 @@ class Encoder {
     Status submit(std::uint16_t view, Id program, std::uint32_t depth = 0, std::uint8_t discard = VGFX_DISCARD_ALL) noexcept {
         return vgfx_encoder_submit(&handle_, view, program, depth, discard);
     }
+    Status discard(std::uint8_t discard = VGFX_DISCARD_ALL) noexcept { return vgfx_encoder_discard(&handle_, discard); }
     Status touch(std::uint16_t view) noexcept { return vgfx_encoder_touch(&handle_, view); }
     Status blit(std::uint16_t view, Id destination, std::uint16_t dx, std::uint16_t dy, Id source, Rect from) noexcept {
         return vgfx_encoder_blit(&handle_, view, destination, dx, dy, source, from.x, from.y, from.w, from.h);

@@ -135,6 +135,7 @@ CALLS = {
     "vgfx_encoder_set_vec4": [HANDLE, ID, *[c_int32] * 4],
     "vgfx_encoder_set_int": [HANDLE, ID, c_int32],
     "vgfx_encoder_submit": [HANDLE, c_uint16, ID, c_uint32, c_uint8],
+    "vgfx_encoder_discard": [HANDLE, c_uint8],
     "vgfx_encoder_touch": [HANDLE, c_uint16],
     "vgfx_encoder_blit": [HANDLE, c_uint16, ID, c_uint16, c_uint16, ID, *RECT],
     "vgfx_encoder_end": [HANDLE, c_uint32],
@@ -277,6 +278,10 @@ class Encoder(Owner):
 
     def submit(self, view, program, depth=0, discard=RESET_ALL):
         self._call("vgfx_encoder_submit", view, program, depth, discard)
+
+    def discard(self, flags=RESET_ALL):
+        """Resets the parts of the state for the next draw that FLAGS name, and records nothing."""
+        self._call("vgfx_encoder_discard", flags)
 
     def touch(self, view):
         self._call("vgfx_encoder_touch", view)
@@ -499,7 +504,9 @@ def draws():
         refused("BAD_SIZE", context.read_pixels, pixels, 0, "rgba8", 7)
         refused("TOO_SMALL", context.read_pixels, bytearray(7))
         with context.begin(items=1) as encoder:
-            encoder.touch(0)
+            encoder.set_vertices(buffer, 0, 6)
+            encoder.discard()
+            encoder.submit(0, program)
         assert context.frame().picture == 0
         context.read_pixels(pixels)
         assert bytes(pixels) == bytes([1, 2, 3, 255] * 2)

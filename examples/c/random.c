@@ -1,6 +1,6 @@
 /* Random calls, by a seed: handles that are null, of the other kind or ended, words that name nothing, numbers that stand for nothing, buffers
  * too small. Each is answered by a status of the header, none by want of memory, and a call that is not done changes no word that it is given.
- * The program writes how often each status came. Among 100,000 calls or more each of the 41 is done at least once, or the program fails.
+ * The program writes how often each status came. Among 100,000 calls or more each of the 42 is done at least once, or the program fails.
  *
  * usage: random [SEED [CALLS]] */
 #include "vgfx.h"
@@ -10,7 +10,7 @@
 #include <stdlib.h>
 #include <string.h>
 
-enum { WIDTH = 17, HEIGHT = 5, PICTURE = 3 * WIDTH * HEIGHT + 17, WORDS = 32, ENCODERS = 10, CALLS = 41 };
+enum { WIDTH = 17, HEIGHT = 5, PICTURE = 3 * WIDTH * HEIGHT + 17, WORDS = 32, ENCODERS = 10, CALLS = 42 };
 
 enum kind { LAYOUT, VERTEX_BUFFER, INDEX_BUFFER, TEXTURE, FRAME_BUFFER, PROGRAM, UNIFORM, KINDS };
 
@@ -140,7 +140,8 @@ static vgfx_status any_call(uint32_t call) {
         case 36: return vgfx_encoder_end(e, below(3));
         case 37: { uint32_t off; return vgfx_collect(c, &off); }
         case 38: { uint32_t number; return vgfx_frame_number(c, &number); }
-        case 39: {
+        case 39: return vgfx_encoder_discard(e, (uint8_t)next());
+        case 40: {
             size_t stride = below(8) ? 4 * WIDTH + below(8) : below(80), length = below(8) ? sizeof pixels : below(sizeof pixels);
             return vgfx_read_pixels(c, below(2) ? word(TEXTURE) : 0, (vgfx_pixels)below(4), pixels, length, stride);
         }

@@ -22,8 +22,8 @@ use Rattle.resource_book.specs.declared.frames.Work.{Work}
 use Rattle.context_core.specs.Places.{Stays}
 use Rattle.context_core.specs.Gathered.{AreGathered, IsGivenAway, HasGathered, once_below, with_gathered}
 use Rattle.context_core.specs.Kept.{IsTied, IsNext, AreTargets, IsCore, KeepsOut}
-use Rattle.context_core.specs.States.{CoreState, CoreView, state_of, core_of}
-use Rattle.context_core.specs.Ended.{AreNumbered, started, MakesFrame, StartsNext, Gives}
+use Rattle.context_core.specs.States.{CoreState, CoreView, Gathering, state_of, core_of}
+use Rattle.context_core.specs.Ended.{AreNumbered, started, gathering_of, MakesFrame, StartsNext, Gives}
 use Rattle.context_core.proofs.Targets.{live_targets}
 use Rattle.context_core.proofs.Stays.{targets_stay}
 
@@ -84,8 +84,9 @@ not_last v e = by_test (nat_lt v.book.resources.frame 1073741823) refl where
 -- ---- a frame is given
 
 module _ (admits : ℕ → ℕ → List Item → ℕ → Type 0) (views : ℕ) (v : CoreState) (k : IsCore admits views ⊤ v) (rs : List Recording) (empty : rs ≡ []) where
-  pub kept_given : v.seat.off ≡ [] → v.book.resources.frame < 1073741823 → v.out < v.book.resources.latency → IsCore admits views ⊤ (record v { gathered = rs; is_given = true; out = v.out + 1 })
-  kept_given none last few = record {
+  pub kept_given : (made : Gathering) → v.seat.off ≡ [] → v.book.resources.frame < 1073741823 → v.out < v.book.resources.latency
+      → IsCore admits views ⊤ (record v { gathered = rs; last = made; is_given = true; out = v.out + 1 })
+  kept_given made none last few = record {
     tied = k.tied;
     newest = k.newest;
     targets = k.targets;
@@ -100,9 +101,9 @@ module _ (admits : ℕ → ℕ → List Item → ℕ → Type 0) (views : ℕ) (
   -- the frame is of the work and of what was gathered
   pub makes_work : (t : TableId) (f : Frame) (work : Work) → AreGathered admits views v.seat v.begun v.gathered → f.number ≡ v.book.resources.frame → f.views ≡ v.book.resources.views → f.pre ≡ work.pre → f.post ≡ work.post → f.payloads ≡ work.payloads
       → f.recordings.items ≡ v.gathered → map entry_seen f.journal.items ≡ collected (recordings_seen v.gathered) → (old : CoreView) → core_of t v ≡ old
-      → MakesFrame work f old (core_of t (record v { gathered = rs; is_given = true; out = v.out + 1 }))
-  makes_work t f work g number vs pre post payloads recordings journal old e =
-      subst (λ (o : CoreView). MakesFrame work f o (core_of t (record v { gathered = rs; is_given = true; out = v.out + 1 }))) e (record {
+      → (made : Gathering) → made ≡ gathering_of v → MakesFrame work f old (core_of t (record v { gathered = rs; last = made; is_given = true; out = v.out + 1 }))
+  makes_work t f work g number vs pre post payloads recordings journal old e made is =
+      subst (λ (o : CoreView). MakesFrame work f o (core_of t (record v { gathered = rs; last = made; is_given = true; out = v.out + 1 }))) e (record {
         is_of = record {
           number = number;
           views = vs;
@@ -113,7 +114,7 @@ module _ (admits : ℕ → ℕ → List Item → ℕ → Type 0) (views : ℕ) (
           journal = journal;
         };
         numbers = g.numbers;
-        same = (λ j. core_of t (record v { gathered = empty j; is_given = true; out = v.out + 1 }));
+        same = (λ j. core_of t (record v { gathered = empty j; last = is j; is_given = true; out = v.out + 1 }));
       })
 
 -- ---- the next frame starts
@@ -178,7 +179,7 @@ module _ (admits : ℕ → ℕ → List Item → ℕ → Type 0) (views : ℕ) (
 -- ---- both together
 
 module _ (work : Work) (f : Frame) (a b c : CoreView) (m : MakesFrame work f a b) (s : StartsNext b c) where
-  next_of : StartsNext (record a { state = record a.state { gathered = []; is_given = true; out = a.state.out + 1 } }) c
+  next_of : StartsNext (record a { state = record a.state { gathered = []; last = gathering_of a.state; is_given = true; out = a.state.out + 1 } }) c
   next_of = subst (λ (x : CoreView). StartsNext x c) m.same s
 
   -- a frame is made and the next one starts
@@ -188,9 +189,10 @@ module _ (work : Work) (f : Frame) (a b c : CoreView) (m : MakesFrame work f a b
       (λ j. record { resources = model.start_frame (a.state.book.resources.frame + 1) a.state.book.resources; pre = taken.0 j; post = taken.1 j; payloads = taken.2 j }) in
       record {
         is_of = m.is_of;
+        numbers = m.numbers;
         numbered = subst (AreNumbered a.state.seat.base c.state.seat.base) m.numbers next_of.numbered;
         seat = next_of.seat;
-        same = next_of.same ∙ (λ j. record a { state = record a.state { book = book j; seat = c.state.seat; begun = 0; gathered = []; is_given = false; out = a.state.out + 1 } });
+        same = next_of.same ∙ (λ j. record a { state = record a.state { book = book j; seat = c.state.seat; begun = 0; gathered = []; last = gathering_of a.state; is_given = false; out = a.state.out + 1 } });
       }
 
   -- what could be named in a frame that may be out can be named still

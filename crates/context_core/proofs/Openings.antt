@@ -12,7 +12,7 @@ use Rattle.resource_book.specs.Written.{BookView}
 use Rattle.draw_encoder.specs.declared.items.Recording.{Recording}
 use Rattle.resource_book.specs.Opened.{opened}
 use Rattle.context_core.specs.Kept.{IsCore}
-use Rattle.context_core.specs.States.{opened_core}
+use Rattle.context_core.specs.States.{Gathering, opened_core}
 use Rattle.context_core.proofs.Ends.{none_begun}
 use Rattle.context_core.proofs.Targets.{new_targets}
 
@@ -48,8 +48,11 @@ kept_new admits start frame serial some few = record {
   frames = tt;
 }
 
-pub kept_new_at : (admits : ℕ → ℕ → List Item → ℕ → Type 0) (start : Start) (b : BookView) (s : SeatView) (rs : List Recording) → b ≡ opened start → s ≡ first_view start.frame → rs ≡ []
-    → start.frame ≤ 1073741823 → 1 ≤ start.serial → 1 ≤ start.latency → start.latency ≤ 3 → IsCore admits start.views ⊤ (record (opened_core start) { book = b; seat = s; gathered = rs })
-kept_new_at admits start b s rs be se re frame serial some few =
-    subst (λ (p : BookView × SeatView × List Recording). IsCore admits start.views ⊤ (record (opened_core start) { book = p.0; seat = p.1; gathered = p.2 })) (λ j. (sym be j, sym se j, sym re j))
-    (kept_new admits start frame serial some few)
+pub kept_new_at : (admits : ℕ → ℕ → List Item → ℕ → Type 0) (start : Start) (b : BookView) (s : SeatView) (rs : List Recording) (made : Gathering) → b ≡ opened start → s ≡ first_view start.frame → rs ≡ []
+    → start.frame ≤ 1073741823 → 1 ≤ start.serial → 1 ≤ start.latency → start.latency ≤ 3 → IsCore admits start.views ⊤ (record (opened_core start) { book = b; seat = s; gathered = rs; last = made })
+kept_new_at admits start b s rs made be se re frame serial some few =
+    subst (λ (p : BookView × SeatView × List Recording). IsCore admits start.views ⊤ (record (opened_core start) { book = p.0; seat = p.1; gathered = p.2; last = made })) (λ j. (sym be j, sym se j, sym re j))
+    (with_last (kept_new admits start frame serial some few))
+  where
+    with_last : IsCore admits start.views ⊤ (opened_core start) → IsCore admits start.views ⊤ (record (opened_core start) { last = made })
+    with_last k = record { tied = k.tied; newest = k.newest; targets = k.targets; counted = k.counted; latency = k.latency; few = k.few; encoders = k.encoders; gathered = k.gathered; frames = k.frames }

@@ -16,7 +16,7 @@ use Rattle.frame_record.specs.Seen.{entry_seen, recordings_seen}
 use Rattle.context_core.specs.declared.ending.Prepared.{Prepared}
 use Rattle.context_core.specs.declared.ending.NotReady.{NotReady}
 use Rattle.context_core.specs.declared.ending.NotReady.TheVariants as causes
-use Rattle.context_core.specs.States.{CoreView, state_of}
+use Rattle.context_core.specs.States.{CoreState, CoreView, Gathering, state_of}
 
 -- ---- gathering
 
@@ -81,11 +81,15 @@ with_work w b = record b { pre = w.pre; post = w.post; payloads = payloads_seen 
 abbrev pub started : BookView → BookView
 started b = record { resources = model.start_frame (b.resources.frame + 1) b.resources; pre = []; post = []; payloads = [] }
 
+-- what a frame that is made now is made of
+abbrev pub gathering_of : CoreState → Gathering
+gathering_of s = record { seat = s.seat; recordings = s.gathered }
+
 -- a frame of the work and of what was gathered is made, and is given and out from then on; its numbers are those that the seat gathered
 pub record MakesFrame (work : Work) (f : Frame) (old new : CoreView) : Type 0 where
   pub is_of : IsFrameOf (with_work work old.state.book) old.state.gathered f
   pub numbers : old.state.seat.numbers ≡ numbers_in old.state.gathered
-  pub same : new ≡ record old { state = record old.state { gathered = []; is_given = true; out = old.state.out + 1 } }
+  pub same : new ≡ record old { state = record old.state { gathered = []; last = gathering_of old.state; is_given = true; out = old.state.out + 1 } }
 
 -- the frame after the one that was given starts, with none of its encoders begun
 pub record StartsNext (old new : CoreView) : Type 0 where
@@ -103,6 +107,7 @@ pub record StartsNext (old new : CoreView) : Type 0 where
 -- both together: a frame of the work and of what was gathered is made and is out, and the next one starts with nothing written, begun or gathered
 pub record Gives (work : Work) (f : Frame) (old new : CoreView) : Type 0 where
   pub is_of : IsFrameOf (with_work work old.state.book) old.state.gathered f
+  pub numbers : old.state.seat.numbers ≡ numbers_in old.state.gathered
   pub numbered : AreNumbered old.state.seat.base new.state.seat.base (numbers_in old.state.gathered)
   pub seat : new.state.seat ≡ record (advanced new.state.seat.base old.state.seat) { places = new.state.seat.places }
   pub same : new ≡ record old {
@@ -111,6 +116,7 @@ pub record Gives (work : Work) (f : Frame) (old new : CoreView) : Type 0 where
       seat = new.state.seat;
       begun = 0;
       gathered = [];
+      last = gathering_of old.state;
       is_given = false;
       out = old.state.out + 1;
     };

@@ -8,13 +8,20 @@ use Rattle.resource_book.specs.declared.opening.Start.{Start}
 use Rattle.resource_book.specs.Written.{BookView}
 use Rattle.resource_book.specs.Opened.{opened}
 
+-- what a frame was made of: what the seat knew then, the numbers that it had gathered among it, and the recordings that were gathered
+pub record Gathering : Type 0 where
+  pub seat : SeatView
+  pub recordings : List Recording
+
 -- the state of the calls without contents and what they wrote in this frame, what the seat knows, how many encoders were begun in this frame, the recordings
--- that were gathered in it, whether the frame was given, how many frames are out, whether no frame follows, and the serial of the first thing
+-- that were gathered in it, of what the frame that was made last was made, whether this frame was given, how many frames are out, whether no frame follows, and the serial
+-- of the first thing
 pub record CoreState : Type 0 where
   pub book : BookView
   pub seat : SeatView
   pub begun : ℕ
   pub gathered : List Recording
+  pub last : Gathering
   pub is_given : Bool
   pub out : ℕ
   pub is_ended : Bool
@@ -46,13 +53,14 @@ state_of v = record { resources = v.book.resources; encoders = v.begun; out = v.
 abbrev pub frames_end : CoreState → ℕ
 frames_end v = if v.is_given then v.book.resources.frame + 1 else v.book.resources.frame
 
--- nothing is made, begun or out
+-- nothing is made, begun or out, and no frame was made
 abbrev pub opened_core : Start → CoreState
 opened_core start = record {
   book = opened start;
   seat = first_view start.frame;
   begun = 0;
   gathered = [];
+  last = record { seat = first_view start.frame; recordings = [] };
   is_given = false;
   out = 0;
   is_ended = false;

@@ -8,10 +8,12 @@ ghost use Rattle.hold_table.specs.Seats.{api_table, api_view};
 ghost use Rattle.hold_table.specs.Views.{first_view};
 ghost use Rattle.resource_laws.specs.Lawful.{IsLawful};
 ghost use Rattle.resource_book.specs.Opened.{opened};
+ghost use Rattle.frame_record.specs.Kept.{numbers_in};
 ghost use Rattle.context_core.specs.Gathered.{anything};
 ghost use Rattle.context_core.specs.Kept.{IsCore};
 ghost use Rattle.context_core.specs.States.{opened_core, frames_end};
 
+use crate::last::Last;
 use draw_encoder::Recording;
 use frame_record::Frame;
 use gfx_words::{Handle, Kind};
@@ -44,6 +46,7 @@ pub struct ContextCore {
     pub(crate) views: u16,
     pub(crate) begun: u8,
     pub(crate) gathered: Vec<Recording>,
+    pub(crate) last: Last,
     pub(crate) is_given: bool,
     pub(crate) out: u8,
     pub(crate) is_ended: bool,
@@ -68,6 +71,7 @@ impl Model for ContextCore {
         seat = api_view c.api;
         begun = c.begun;
         gathered = c.gathered.items;
+        last = record { seat = api_view c.last.seat.value; recordings = c.last.recordings.value.items };
         is_given = c.is_given;
         out = c.out;
         is_ended = c.is_ended;
@@ -80,6 +84,7 @@ impl Model for ContextCore {
       seat = api_view c.api;
       begun = c.begun;
       gathered = c.gathered.items;
+      last = record { seat = api_view c.last.seat.value; recordings = c.last.recordings.value.items };
       is_given = c.is_given;
       out = c.out;
       is_ended = c.is_ended;
@@ -112,18 +117,22 @@ impl ContextCore {
         ensures comes_back { IfErr result (λ s. s ≡ seat) }
     {
         match parts(alloc, start) {
-            Ok((book, gathered)) => Ok(ContextCore {
-                alloc,
-                api: seat,
-                book,
-                views: start.views,
-                begun: 0,
-                gathered,
-                is_given: false,
-                out: 0,
-                is_ended: false,
-                first: start.serial,
-            }),
+            Ok((book, gathered)) => {
+                let last = Last::of(&seat, &gathered);
+                Ok(ContextCore {
+                    alloc,
+                    api: seat,
+                    book,
+                    views: start.views,
+                    begun: 0,
+                    gathered,
+                    last,
+                    is_given: false,
+                    out: 0,
+                    is_ended: false,
+                    first: start.serial,
+                })
+            }
             Err(_) => Err(seat),
         }
     }
@@ -194,6 +203,7 @@ impl ContextCore {
         ensures lawful { IsLawful self.now.state.book.resources }
         ensures views { IsViewCount (view_count self.now.state.book.resources.views) }
         ensures keeps { IsCore anything (view_count self.now.state.book.resources.views) ⊤ self.now.state }
+        ensures drawn { self.now.state.last.seat.numbers ≡ numbers_in self.now.state.last.recordings }
     {
         self.book.tell_facts();
     }

@@ -16,6 +16,7 @@ ghost use Rattle.context_core.specs.Ended.{IsPrepared};
 
 use crate::context::{ContextCore, MOST_ENCODERS};
 use crate::freeing::free_words;
+use crate::last::Last;
 use draw_encoder::Recording;
 use frame_record::{Frame, JournalEntry, collect};
 use hold_table::{ApiSeat, HoldTable};
@@ -139,9 +140,11 @@ impl ContextCore {
             post,
             payloads,
         } = work;
+        let last = Last::of(&self.api, &self.gathered);
         let recordings = mem::replace(&mut self.gathered, room);
         let number = self.book.frame();
         let frame = Frame::new(number, views, pre, post, payloads, recordings, journal);
+        self.last = last;
         self.is_given = true;
         self.out += 1;
         frame

@@ -5,9 +5,11 @@
 mod begin;
 mod context;
 mod creates;
+mod crossing;
 mod ending;
 mod freeing;
 mod gathering;
+mod last;
 mod marks;
 mod updates;
 mod views;

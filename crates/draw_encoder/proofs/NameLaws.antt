@@ -13,7 +13,7 @@ use Rattle.gfx_words.specs.declared.refusals.Refusal.TheVariants as refusals
 use Rattle.hold_table.specs.Views.{SeatView, Asked, asks, drawn, HasAsked, IsNamedIn, HasNamed, IsWordSince}
 use Rattle.draw_encoder.specs.Calls.{EncoderView, Answers}
 use Rattle.draw_encoder.specs.Names.{FitsVertices, FitsIndices, FitsTexture, FitsUniform, FitsItem, FitsRecorder}
-use Rattle.draw_encoder.specs.TapeViews.{TapeView, with_call, with_set, with_item}
+use Rattle.draw_encoder.specs.TapeViews.{TapeView, with_call, with_set, with_item, without}
 use Rattle.draw_encoder.specs.Encoders.{IsOf}
 
 -- ---- names
@@ -115,6 +115,15 @@ module _ (N : Handle → Type 0) where
     items = all-snoc (FitsItem N e.view_count) e.items i f.items fits;
   }
 
+  fits_discarded : (e : calls.Recorder) (flags : ℕ) → FitsRecorder N e → FitsRecorder N (calls.with_current (calls.discarded flags e.current) e)
+  fits_discarded e flags f = record {
+    vertices = vertices_left (is_bit_set flags 5) e.current.vertices f.vertices;
+    indices = indices_left (is_bit_set flags 1) e.current.indices f.indices;
+    textures = textures_left (is_bit_set flags 0) e.current.textures f.textures;
+    pending = f.pending;
+    items = f.items;
+  }
+
   fits_after : (e : calls.Recorder) (c : calls.EncoderCall) → FitsRecorder N e → FitsCall N e c → FitsRecorder N (calls.after e c)
   fits_after e (calls.set_state word) f k = record { vertices = f.vertices; indices = f.indices; textures = f.textures; pending = f.pending; items = f.items }
   fits_after e (calls.set_stencil front back) f k = record { vertices = f.vertices; indices = f.indices; textures = f.textures; pending = f.pending; items = f.items }
@@ -172,6 +181,18 @@ module _ (v : SeatView) (t : TapeView) (o : IsOf v t) where
         fits = fits_after (HasNamed v) t.recorder c o.fits fits;
         sets = o.sets;
       })
+
+  pub of_discard : (flags : ℕ) (u : TapeView) → u ≡ without flags t → IsOf v u
+  of_discard flags u e = subst (IsOf v) (sym e) (record {
+    frame = o.frame;
+    views = o.views;
+    ascends = o.ascends;
+    numbers = o.numbers;
+    count = o.count;
+    most = o.most;
+    fits = fits_discarded (HasNamed v) t.recorder flags o.fits;
+    sets = o.sets;
+  })
 
   pub of_set : (h : Handle) (x : UniformSet) (u : TapeView) → u ≡ with_set x (calls.set_uniform x.uniform x.value) t → FitsUniform (HasNamed v) x → IsOf v u
   of_set h x u e fits = subst (IsOf v) (sym e) (record {

@@ -3,7 +3,7 @@ use Rattle.std.specs.Prelude.{◌≡◌, ℕ, ◌+◌, Bool, true, false, if◌t
 use Rattle.atomic_table.specs.Seated.{TableId}
 use Rattle.gfx_model.specs.Words.{Handle, place_of_handle}
 use Rattle.gfx_model.specs.Resources.{Refusal as ModelRefusal, stale}
-use Rattle.gfx_model.specs.Recorder.{Recorder, EncoderCall, submit, touch, blit, refusals, asked, answer}
+use Rattle.gfx_model.specs.Recorder.{Recorder, EncoderCall, submit, touch, blit, refusals, asked, answer, discarded, with_current}
 use Rattle.gfx_words.specs.declared.refusals.Refusal.{Refusal}
 use Rattle.gfx_words.specs.Seen.{IsRefused}
 use Rattle.hold_table.specs.Views.{SeatView, asks, drawn, IsWordSince}
@@ -59,3 +59,7 @@ pub record Answers (old new : EncoderView) (call : EncoderCall) (result : Result
   pub outcome : MatchResult result
       (λ _. (answer old.recorder words call ≡ Ok new.recorder) × IsSeatAfter call (asks_all (asked call) words old.seat) new.seat)
       (λ r. IsRefused (answer old.recorder words call) r × (new.recorder ≡ old.recorder) × (new.seat ≡ asks_all (asked call) words old.seat))
+
+-- the parts of the state for the next draw that flags name are as at the begin of an encoder; all else is as it was, and no word is asked
+abbrev pub Discards : (old new : EncoderView) → (flags : ℕ) → Type 0
+Discards old new flags = new ≡ record old { recorder = with_current (discarded flags old.recorder.current) old.recorder }

@@ -6,5 +6,7 @@ pub mod Tapes
 pub mod Names
 pub mod Calls
 pub mod Bundles
+pub mod Posts
+pub mod QueueEvents
 pub mod Encoders
 pub mod Begins

@@ -3,7 +3,7 @@ use Rattle.std.specs.Prelude.{◌≡◌, ℕ, ◌≤◌, List, [], ◌∷◌, �
 use Rattle.std.specs.List.{AllByRecursion}
 use Rattle.gfx_model.specs.FrameCalls.{most_items}
 use Rattle.gfx_model.specs.World.{UniformSet}
-use Rattle.gfx_model.specs.Recorder.{Recorder, EncoderCall, Room as ModelRoom, begun, after}
+use Rattle.gfx_model.specs.Recorder.{Recorder, EncoderCall, Room as ModelRoom, begun, after, discarded, with_current}
 use Rattle.draw_encoder.specs.declared.items.Recording.{Recording}
 use Rattle.draw_encoder.specs.Seen.{items_seen, uniforms_seen, numbers_of, HasRangesWithin}
 
@@ -20,6 +20,10 @@ new_tape frame views room = record { recorder = begun frame views room; sets = [
 -- an accepted call that adds no item and no uniform value
 abbrev pub with_call : EncoderCall → TapeView → TapeView
 with_call c t = record t { recorder = after t.recorder c }
+
+-- the parts of the state that flags name are as at the begin
+abbrev pub without : ℕ → TapeView → TapeView
+without flags t = record t { recorder = with_current (discarded flags t.recorder.current) t.recorder }
 
 -- an accepted call that sets a uniform value
 abbrev pub with_set : UniformSet → EncoderCall → TapeView → TapeView

@@ -7,7 +7,7 @@ ghost use Rattle.hold_table.specs.Seats.{enc_table, enc_view};
 ghost use Rattle.draw_encoder.specs.Bundles.{items_of};
 ghost use Rattle.draw_encoder.specs.Seen.{room_seen, copy_seen};
 ghost use Rattle.gfx_model.specs.FrameCalls.{IsRoom};
-ghost use Rattle.draw_encoder.specs.Calls.{EncoderView, Answers};
+ghost use Rattle.draw_encoder.specs.Calls.{EncoderView, Answers, Discards};
 
 use crate::bundle::Bundle;
 use crate::items::BlitCall;
@@ -180,6 +180,13 @@ impl<'t, C: Naming> Encoder<'t, C> {
         ensures { Answers self.old self.new (calls.touch view) result }
     {
         self.recorder.touch(self.shared.table(), view)
+    }
+
+    /// Resets the parts of the state for the next draw that the flags name, as they are where an encoder begins.
+    pub fn discard(&mut self, flags: u8)
+        ensures { Discards self.old self.new flags }
+    {
+        self.recorder.discard(flags);
     }
 
     /// Puts down a copy of a region between textures.

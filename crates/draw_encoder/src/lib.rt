@@ -7,6 +7,7 @@ mod items;
 pub mod laws;
 mod lists;
 mod naming;
+mod posting;
 mod recorder;
 mod shared;
 mod states;

@@ -10,7 +10,7 @@ ghost use Rattle.hold_table.specs.Views.{SeatView, HasAsked, drawn, recorder};
 ghost use Rattle.hold_table.specs.Seats.{table_of, enc_table, enc_view};
 ghost use Rattle.draw_encoder.specs.Seen.{room_seen, copy_seen};
 ghost use Rattle.gfx_model.specs.FrameCalls.{IsRoom};
-ghost use Rattle.draw_encoder.specs.Calls.{Answers};
+ghost use Rattle.draw_encoder.specs.Calls.{Answers, Discards};
 
 use crate::items::{BlitCall, Recording, UniformSet};
 use crate::tape::Tape;
@@ -388,6 +388,15 @@ impl Recorder {
         let number = table.draw_number(&mut self.seat);
         self.tape.blit(view, number, copy);
         Ok(())
+    }
+
+    /// Resets the parts of the state for the next draw that the flags name, as they are where an encoder begins: 1 both stages, 2 the
+    /// indices, 8 the state words and the scissor, 16 the transform, 32 the vertices. Pending uniform values stay.
+    pub fn discard(&mut self, flags: u8)
+        ensures answer { Discards self.old.state self.new.state flags }
+        ensures table { self.new.table ≡ self.old.table }
+    {
+        self.tape.discard(flags);
     }
 
     /// Ends the recording, and gives it with the seat. `dropped` is the caller's own number. Uniform values that no draw or

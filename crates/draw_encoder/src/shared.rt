@@ -4,20 +4,51 @@ ghost use Rattle.hold_table.specs.Seats.{table_of};
 
 use crate::bundle::Bundle;
 use crate::naming::Naming;
-use crossbeam_queue::ArrayQueue;
+use crate::posting::BundleQueue;
 use crossbeam_utils::Backoff;
 use crossbeam_utils::sync::EventCount;
 use hold_table::HoldTable;
 use std::alloc::Global;
+use std::marker::PhantomData;
 use std::sync::Wait;
+
+/// The named table.
+#[derive(Drop)]
+struct NamedTable<C: Naming> {
+    table: HoldTable,
+    of: PhantomData<C>,
+    ghost named: { table_of table ≡ C.table },
+}
+
+impl<C: Naming> NamedTable<C> {
+    fn new(table: HoldTable) -> NamedTable<C>
+        requires { table_of table ≡ C.table }
+    {
+        NamedTable {
+            table,
+            of: PhantomData,
+        }
+    }
+
+    fn get(&self) -> &HoldTable
+        ensures { table_of result.now ≡ C.table }
+    {
+        &self.table
+    }
+
+    fn into_table(self) -> HoldTable
+        ensures { table_of result ≡ C.table }
+    {
+        self.table
+    }
+}
 
 /// The hold table, and the queue of the bundles that wait, with 8 places. Who waits for a bundle sleeps.
 #[derive(Drop)]
 pub struct Shared<C: Naming> {
-    table: HoldTable,
-    queue: ArrayQueue<Bundle<C>>,
+    table: NamedTable<C>,
+    queue: BundleQueue<C>,
     bundle_came: EventCount,
-    ghost named: { table_of table ≡ C.table },
 }
 
 impl<C: Naming> Shared<C> {
@@ -26,9 +57,9 @@ impl<C: Naming> Shared<C> {
         requires { table_of table ≡ C.table }
         ensures { IfErr result (λ t. t ≡ table) }
     {
-        match ArrayQueue::new(alloc, 8) {
+        match BundleQueue::new(alloc) {
             Ok(queue) => Ok(Shared {
-                table,
+                table: NamedTable::new(table),
                 queue,
                 bundle_came: EventCount::new(),
             }),
@@ -40,7 +71,7 @@ impl<C: Naming> Shared<C> {
     pub fn table(&self) -> &HoldTable
         ensures { table_of result.now ≡ C.table }
     {
-        &self.table
+        self.table.get()
     }
 
     /// The hold table, at the end. What waits in the queue is given up, and the seats in it stay off.
@@ -48,7 +79,7 @@ impl<C: Naming> Shared<C> {
         ensures { table_of result ≡ C.table }
     {
         let Shared { table, .. } = self;
-        table
+        table.into_table()
     }
 
     /// Takes a bundle out of the queue, and waits until there is one.

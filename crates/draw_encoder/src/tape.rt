@@ -4,7 +4,7 @@ ghost use Rattle.gfx_model.specs.Recorder as calls;
 ghost use Rattle.gfx_words.specs.Seen.{value_seen};
 ghost use Rattle.fix_math.specs.Seen.{rect_seen, affine_seen};
 ghost use Rattle.draw_encoder.specs.Seen.{room_seen, uniform_seen, copy_seen};
-ghost use Rattle.draw_encoder.specs.TapeViews.{new_tape, with_call, with_set, with_item, IsRecordingOf};
+ghost use Rattle.draw_encoder.specs.TapeViews.{new_tape, with_call, with_set, with_item, without, IsRecordingOf};
 ghost use Rattle.gfx_model.specs.FrameCalls.{IsRoom};
 
 use crate::items::{
@@ -226,6 +226,13 @@ impl Tape {
     {
         let item = BlitItem { view, number, copy };
         put_item(&mut self.items, Item::Blit(item));
+    }
+
+    /// Resets the parts of the state that the flags name.
+    pub fn discard(&mut self, flags: u8)
+        ensures { self.new ≡ without flags self.old }
+    {
+        self.current.discard(flags);
     }
 
     /// All that was recorded, as plain data.

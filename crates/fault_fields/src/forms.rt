@@ -3,7 +3,7 @@ ghost use Rattle.std.specs.Prelude.{◌≡◌};
 ghost use Rattle.fault_fields.specs.Forms.{order_kinds, create_kinds, resource_kinds, state_kinds, encoder_kinds, view_kinds, line_kinds};
 
 use crate::kind::Kind;
-use crate::words::is;
+use text_fields::is;
 
 /// A line of the order of lines.
 fn order_kinds(word: &[u8]) -> &'static [Kind]

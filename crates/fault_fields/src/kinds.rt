@@ -7,12 +7,12 @@ ghost use Rattle.fault_fields.specs.Kinds.{is_right, first_kind, later_kinds, fi
 ghost use Rattle.fault_fields.specs.Fields.{lines_before};
 
 use crate::kind::Kind;
-use crate::lines::find;
 use crate::names::is_made;
 use crate::spelled::{
-    is_color, is_empty, is_hex, is_integer, is_name, is_number, is_part, is_source, is_text,
+    is_color, is_empty, is_hex, is_integer, is_number, is_part, is_source, is_text,
 };
-use crate::words::{is, is_destination, is_format, is_mode, is_program, is_setting, is_uniform};
+use crate::words::{is_destination, is_format, is_mode, is_program, is_setting, is_uniform};
+use text_fields::{find, is, is_name};
 
 /// A name that a line before makes.
 fn is_made_name(bytes: &[u8], line: u32, field: &[u8]) -> bool

@@ -1,20 +1,10 @@
 // The lines of a text, and the fields of a line.
-ghost use Rattle.std.specs.Prelude.{◌≡◌, ◌<◌, ◌≤◌, ◌+◌, ◌^◌, ◌-◌, [], ◌∷◌, length, take, drop, MatchOption, IfSome};
+ghost use Rattle.std.specs.Prelude.{◌≡◌, ◌<◌, ◌≤◌, ◌+◌, ◌-◌, [], ◌∷◌, length, take, drop};
 ghost use Rattle.scene_model.specs.Field.{split_at};
 ghost use Rattle.scene_model.specs.Grammar.{field};
 ghost use Rattle.fault_fields.specs.Fields.{line_at};
 
-use memchr::memchr;
-
-/// The place of the first separator.
-pub(crate) fn find(bytes: &[u8], separator: u8) -> Option<usize>
-    ensures cases { MatchOption result
-        (split_at separator bytes.now ≡ bytes.now ∷ [])
-        (λ n. (n < length bytes.now) × (split_at separator bytes.now ≡ take n bytes.now ∷ split_at separator (drop (n + 1) bytes.now))) }
-    ensures small { IfSome result (λ n. n < 2 ^ 63) }
-{
-    memchr(separator, bytes)
-}
+use text_fields::find;
 
 /// The first part of bytes that are split at a separator.
 fn first_part(bytes: &[u8], separator: u8) -> &[u8]

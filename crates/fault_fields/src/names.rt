@@ -4,8 +4,9 @@ ghost use Rattle.fault_fields.specs.Spelled.{is_one_of};
 ghost use Rattle.fault_fields.specs.Names.{create_words, makes, is_made, opens_behind, opens_after};
 ghost use Rattle.fault_fields.specs.Fields.{lines_before};
 
-use crate::lines::{find, part};
-use crate::words::{is, is_create_word};
+use crate::lines::part;
+use crate::words::is_create_word;
+use text_fields::{find, is};
 
 /// Whether a line with this word makes a name.
 fn is_making(uniforms: bool, word: &[u8]) -> bool

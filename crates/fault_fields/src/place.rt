@@ -8,7 +8,7 @@ use crate::kind::Kind;
 use crate::kinds::first_wrong;
 use crate::lines::{line_at, part};
 use crate::names::opens_before;
-use crate::words::is;
+use text_fields::is;
 
 const BAD_BYTE: u8 = 1;
 

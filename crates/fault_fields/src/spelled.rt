@@ -5,8 +5,8 @@ ghost use Rattle.scene_model.specs.Field.{is_digit, is_numeral, is_negative_nume
 ghost use Rattle.scene_model.specs.Grammar.{is_empty_field, is_text_byte};
 ghost use Rattle.fault_fields.specs.Spelled.{is_number, is_integer, is_hex_digit, is_hex, is_color, is_source, are_of_part, is_part};
 
-use crate::lines::find;
-use crate::words::{is, is_attribute, is_component};
+use crate::words::{is_attribute, is_component};
+use text_fields::{find, is, is_digit, is_numeral, value_to};
 
 pub(crate) fn is_empty(field: &[u8]) -> bool
     ensures { result ≡ is_empty_field field.now }
@@ -29,29 +29,6 @@ pub(crate) fn is_text(field: &[u8]) -> bool
     field.iter().all(|b| is_text_byte(*b))
 }
 
-fn is_digit(byte: u8) -> bool
-    ensures { result ≡ is_digit byte }
-{
-    byte >= b'0' && byte <= b'9'
-}
-
-fn are_digits(bytes: &[u8]) -> bool
-    ensures { result ≡ list_all is_digit bytes.now }
-{
-    bytes.iter().all(|b| is_digit(*b))
-}
-
-/// Digits without a leading zero.
-fn is_numeral(field: &[u8]) -> bool
-    ensures { result ≡ is_numeral field.now }
-{
-    match field {
-        [] => false,
-        [only] => is_digit(*only),
-        [first, rest @ ..] => is_digit(*first) && *first != b'0' && are_digits(rest),
-    }
-}
-
 /// The same behind a `-`, but not 0.
 fn is_negative_numeral(field: &[u8]) -> bool
     ensures { result ≡ is_negative_numeral field.now }
@@ -68,20 +45,6 @@ fn is_negative_numeral(field: &[u8]) -> bool
             rest[0] != b'0'
         }
     }
-}
-
-/// The value of digits, up to `high`.
-fn value_to(digits: &[u8], high: u64) -> Option<u64>
-    ensures { MatchOption result (high < value_onto 0 digits.now) (λ n. n ≡ value_onto 0 digits.now) }
-{
-    let mut value: u128 = 0;
-    for digit in digits {
-        value = value * 10 + u128::from(digit.saturating_sub(b'0'));
-        if value > u128::from(high) {
-            return None;
-        }
-    }
-    Some(value as u64)
 }
 
 /// Whether the value of digits is at most `high`.
@@ -123,41 +86,6 @@ pub(crate) fn is_integer(field: &[u8]) -> bool
         return false;
     }
     is_most(&field[1..], 2_147_483_648)
-}
-
-fn is_lower(byte: u8) -> bool
-    ensures { result ≡ is_lower byte }
-{
-    byte >= b'a' && byte <= b'z'
-}
-
-fn is_name_byte(byte: u8) -> bool
-    ensures { result ≡ is_name_byte byte }
-{
-    is_lower(byte) || (byte >= b'0' && byte <= b'9') || byte == b'_'
-}
-
-fn are_name_bytes(bytes: &[u8]) -> bool
-    ensures { result ≡ list_all is_name_byte bytes.now }
-{
-    bytes.iter().all(|b| is_name_byte(*b))
-}
-
-pub(crate) fn is_name(field: &[u8]) -> bool
-    ensures { result ≡ is_name field.now }
-{
-    match field {
-        [] => false,
-        [first, rest @ ..] => {
-            if !is_lower(*first) {
-                return false;
-            }
-            if !are_name_bytes(rest) {
-                return false;
-            }
-            rest.len() <= 31
-        }
-    }
 }
 
 fn is_hex_digit(byte: u8) -> bool

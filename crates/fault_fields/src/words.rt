@@ -1,14 +1,9 @@
 // Words.
-ghost use Rattle.std.specs.Prelude.{◌≡◌, [], ◌∷◌, bytes_eq, codes};
+ghost use Rattle.std.specs.Prelude.{◌≡◌, [], ◌∷◌, codes};
 ghost use Rattle.fault_fields.specs.Spelled.{is_one_of, attribute_words, component_words};
 ghost use Rattle.fault_fields.specs.Names.{create_words};
 
-/// Whether a field is a word.
-pub(crate) fn is(word: &[u8], field: &[u8]) -> bool
-    ensures { result ≡ bytes_eq word.now field.now }
-{
-    word == field
-}
+use text_fields::is;
 
 pub(crate) fn is_format(field: &[u8]) -> bool
     ensures { result ≡ is_one_of (codes "rgba8" ∷ codes "d24s8" ∷ []) field.now }

@@ -12,7 +12,7 @@ use Rattle.scene_player.proofs.Refused.{plays}
 use Rattle.scene_player.specs.declared.status.Status.{Status}
 use Rattle.scene_player.specs.declared.status.Status.TheVariants as status
 use Rattle.scene_player.specs.Ended.{IsAnswered, IsRefused, answer_of}
-use Rattle.scene_player.specs.Io.{Putting, putting}
+use Rattle.io_whole.specs.Runs.{Putting, putting}
 use Rattle.scene_player.specs.Numbers.{ending_of}
 use Rattle.scene_player.specs.Parts.{showing_command}
 use Rattle.gfx_c.specs.declared.playing.PlayEnd.{PlayEnd}

@@ -12,7 +12,7 @@ use Rattle.gfx_words.specs.declared.refusals.Refusal.TheVariants as refusals
 use Rattle.gfx_words.specs.Names.{handle_word}
 use Rattle.gfx_words.specs.Seen.{refusal_seen}
 use Rattle.hold_table.specs.Views.{SeatView}
-use Rattle.draw_encoder.specs.Calls.{Answers, RecorderView}
+use Rattle.draw_encoder.specs.Calls.{Answers, Discards, RecorderView}
 use Rattle.draw_encoder.specs.declared.items.Recording.{Recording}
 use Rattle.resource_book.specs.Answered.{IsFirstRefusalOrOutOfMemory}
 use Rattle.context_core.specs.Calls.{Creates, Updates, Changes, Destroys, Begins}
@@ -120,6 +120,10 @@ MakesLayout (Some parts) result old new =
 -- a record call is the recorder's
 abbrev pub Records : Result (Unit {0}) Fault → EncoderCall → (old new : EncoderView) → Type 0
 Records result call old new = (r : Result (Unit {0}) Refusal) × (result ≡ told_of r) × Answers old.recorder.state new.recorder.state call r × (new ≡ record old { recorder = record old.recorder { state = new.recorder.state } })
+
+-- the parts of the state for the next draw that flags name are as at the begin
+abbrev pub DiscardsHere : Result (Unit {0}) Fault → (flags : ℕ) → (old new : EncoderView) → Type 0
+DiscardsHere result flags old new = (result ≡ Ok (tt {0})) × Discards old.recorder.state new.recorder.state flags × (new ≡ record old { recorder = record old.recorder { state = new.recorder.state } })
 
 -- ---- encoders begin and come back
 

@@ -2,7 +2,7 @@
 ghost use Rattle.std.specs.Prelude.{◌≡◌, ◌∷◌, []};
 ghost use Rattle.gfx_model.specs.Recorder as calls;
 ghost use Rattle.gfx_model.specs.Words.{vec4_value, int_value};
-ghost use Rattle.gfx_c.specs.Calls.{Records, OnThing, OnMaybe};
+ghost use Rattle.gfx_c.specs.Calls.{Records, DiscardsHere, OnThing, OnMaybe};
 ghost use Rattle.gfx_c.specs.Exports.{OnEncoder};
 
 use crate::objects::Object;
@@ -318,6 +318,27 @@ pub extern "C" fn vgfx_encoder_submit(
     match &mut *object {
         Object::Recording(recording) => {
             let answer = recording.submit(view, program, depth, discard);
+            put(encoder, object);
+            status(answer)
+        }
+        _ => {
+            put(encoder, object);
+            NO_OBJECT
+        }
+    }
+}
+
+/// Resets the parts of the state for the next draw that the flags name, as they are where an encoder begins.
+#[unsafe(no_mangle)]
+pub extern "C" fn vgfx_encoder_discard(alloc: Global, encoder: &mut Slot, discard: u8) -> u32
+    ensures { OnEncoder encoder.old.value encoder.new.value result (λ r c d. DiscardsHere r discard c d) }
+{
+    let Some(mut object) = take(encoder, alloc) else {
+        return NO_OBJECT;
+    };
+    match &mut *object {
+        Object::Recording(recording) => {
+            let answer = recording.discard(discard);
             put(encoder, object);
             status(answer)
         }

@@ -4,7 +4,7 @@ ghost use Rattle.fix_math.specs.Seen.{rect_seen, affine_seen};
 ghost use Rattle.gfx_model.specs.Recorder as calls;
 ghost use Rattle.gfx_words.specs.Seen.{value_seen};
 ghost use Rattle.draw_encoder.specs.Seen.{copy_seen};
-ghost use Rattle.gfx_c.specs.Calls.{Records, OnThing, OnMaybe};
+ghost use Rattle.gfx_c.specs.Calls.{Records, DiscardsHere, OnThing, OnMaybe};
 ghost use Rattle.gfx_c.specs.Blits.{blit_of};
 
 use crate::encoder::Encoder;
@@ -195,6 +195,14 @@ impl Encoder {
             None => Err(Fault::Unknown),
             Some(h) => self.submit_by(view, h, depth, discard),
         }
+    }
+
+    /// Resets the parts of the state for the next draw that the flags name.
+    pub(crate) fn discard(&mut self, flags: u8) -> Result<(), Fault>
+        ensures { DiscardsHere result flags self.old self.new }
+    {
+        self.recorder.discard(flags);
+        told(Ok(()))
     }
 
     /// Puts down an empty primitive. `BadView`, `RoomFull`.

@@ -7,7 +7,8 @@ use Rattle.scene_model.specs.Scene.{Scene}
 use Rattle.scene_model.specs.Grammar.{scene_of, whole_language}
 use Rattle.scene_model.specs.Journal.{Journal}
 use Rattle.scene_model.specs.Run.{longest_input}
-use Rattle.scene_player.specs.Io.{Reading, HasFailedToGive, AreLeft, HasMoreThan, Putting, HasFailedToTake}
+use Rattle.io_whole.specs.Whole.{HasMoreThan}
+use Rattle.io_whole.specs.Runs.{Reading, HasFailedToGive, AreLeft, Putting, HasFailedToTake}
 use Rattle.frame_capture.specs.Film.{Film}
 use Rattle.frame_capture.specs.Capture.{IsCapture}
 use Rattle.frame_capture.specs.Fault.{shown}
@@ -26,7 +27,7 @@ told-is : (before : Option (List ℕ)) (bytes other : List ℕ) → before ≡ S
 told-is before bytes other e left = subst (λ (o : Option (List ℕ)). AreLeft o other) e left
 
 many-told : (most : ℕ) (bytes : List ℕ) (before : Option (List ℕ)) → before ≡ Some bytes → HasMoreThan most before → most < length bytes
-many-told most bytes before e h = go h.rest (sym e ∙ h.left_is)
+many-told most bytes before e h = go h.rest (sym e ∙ h.given)
   where
     go : (rest : Option (List ℕ)) → Some bytes ≡ with_front h.bytes rest → most < length bytes
     go None e = absurd cc

@@ -1,4 +1,3 @@
-pub mod Pieces
 pub mod Filmed
 pub mod Captures
 pub mod Sinks

@@ -14,7 +14,7 @@ use Rattle.spelling_model.specs.Readable.{IsReadable}
 use Rattle.command_line_model.specs.Taken.{Command, play, taken}
 use Rattle.scene_player.specs.declared.status.Status.{Status}
 use Rattle.scene_player.specs.declared.status.Status.TheVariants as status
-use Rattle.scene_player.specs.Io.{Reading, HasFailedToGive, AreLeft, Putting, HasFailedToTake, IsUntouched, HasPut, HasPutFront}
+use Rattle.io_whole.specs.Runs.{Reading, HasFailedToGive, AreLeft, Putting, HasFailedToTake, IsUntouched, HasPut, HasPutFront}
 use Rattle.scene_player.specs.Numbers.{ending_of}
 use Rattle.scene_player.specs.Ended.{Ends, IsAnswered, IsReadAndAnswered, IsRefused, answer_of}
 use Rattle.gfx_capture.specs.Filmed.{all_texts_length}

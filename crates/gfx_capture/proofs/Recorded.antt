@@ -8,7 +8,8 @@ use Rattle.scene_model.specs.Output.{pictures_text}
 use Rattle.scene_model.specs.Run.{longest_input}
 use Rattle.scene_player.specs.declared.status.Status.{Status}
 use Rattle.scene_player.specs.declared.status.Status.TheVariants as player
-use Rattle.scene_player.specs.Io.{Reading, HasFailedToGive, HasMoreThan, Putting, IsUntouched}
+use Rattle.io_whole.specs.Whole.{HasMoreThan}
+use Rattle.io_whole.specs.Runs.{Reading, HasFailedToGive, Putting, IsUntouched}
 use Rattle.scene_player.proofs.Ends.{are-left}
 use Rattle.frame_capture.specs.Film.{Film, CanBeCaptured, texts}
 use Rattle.frame_capture.specs.Spelling.{AreTextsOf, film}

@@ -7,7 +7,8 @@ use Rattle.scene_model.specs.Grammar.{scene_of, whole_language}
 use Rattle.scene_model.specs.Journal.{Journal, IsLawful, IsLawfulFront}
 use Rattle.scene_model.specs.Output.{notes}
 use Rattle.scene_model.specs.Run.{longest_input}
-use Rattle.scene_player.specs.Io.{Reading, HasFailedToGive, IsUnread, AreLeft, HasMoreThan, Putting, HasFailedToTake, IsUntouched, HasPut, HasPutFront}
+use Rattle.io_whole.specs.Whole.{HasMoreThan}
+use Rattle.io_whole.specs.Runs.{Reading, HasFailedToGive, IsUnread, AreLeft, Putting, HasFailedToTake, IsUntouched, HasPut, HasPutFront}
 use Rattle.frame_capture.specs.Film.{Film, texts}
 use Rattle.frame_capture.specs.Capture.{IsCapture}
 use Rattle.frame_capture.specs.Fault.{Fault, shown}

@@ -5,7 +5,7 @@ use Rattle.scene_model.specs.Journal.{Journal, IsLawful, IsLawfulFront}
 use Rattle.scene_model.specs.Output.{pictures_text, notes}
 use Rattle.scene_player.specs.declared.status.Status.{Status}
 use Rattle.scene_player.specs.declared.status.Status.TheVariants as played
-use Rattle.scene_player.specs.Io.{Putting, HasFailedToTake, IsUntouched, HasPut, HasPutFront}
+use Rattle.io_whole.specs.Runs.{Putting, HasFailedToTake, IsUntouched, HasPut, HasPutFront}
 use Rattle.frame_capture.specs.Film.{Film}
 use Rattle.frame_capture.specs.Capture.{IsCapture}
 use Rattle.gfx_capture.specs.declared.status.CaptureStatus.{CaptureStatus}

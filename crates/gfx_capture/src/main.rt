@@ -7,9 +7,7 @@
 
 mod captured;
 mod given;
-mod input;
 pub mod laws;
-mod output;
 mod recording;
 mod run;
 mod showing;

@@ -4,7 +4,7 @@ ghost use Rattle.io_edge.specs.Edge.{Rose};
 ghost use Rattle.scene_model.specs.Scene as model;
 ghost use Rattle.scene_model.specs.Grammar.{scene_of, whole_language};
 ghost use Rattle.scene_text.specs.Seen.{journal_seen};
-ghost use Rattle.scene_player.specs.Io.{Reading, putting, reading};
+ghost use Rattle.io_whole.specs.Runs.{Reading, putting, reading};
 ghost use Rattle.frame_capture.specs.Film.{Film};
 ghost use Rattle.frame_capture.specs.Spelling.{AreTexts, AreTextsOf, film};
 ghost use Rattle.gfx_capture.specs.Measured.{Measures};
@@ -13,19 +13,15 @@ ghost use Rattle.gfx_capture.specs.Ended.{EndsRecord, IsRead};
 
 use crate::captured::{Captured, blank};
 use crate::given::Given;
-use crate::input::{InputError, read_all};
-use crate::output::put_all;
 use crate::size::{Size, measure};
 use crate::status::CaptureStatus;
 use frame_capture::encode;
 use io_edge::{Gate, MemSink, Sink, Source};
+use io_whole::{InputError, LONGEST_INPUT, put_all, read_all};
 use scene_player::{Played, Status, play};
 use std::alloc::{AllocError, Global};
 use std::sync::Wait;
 use std::thread::Threads;
-
-/// The longest scene text that is read.
-const LONGEST_SCENE: usize = 16_777_216;
 
 /// The words with which a scene is played.
 fn play_words(alloc: Global) -> Result<Vec<String>, AllocError>
@@ -144,7 +140,7 @@ pub fn record<R: Threads + Wait + Sync, S: Source, P: Sink, N: Sink, G: Gate + S
     ensures sure { (P.sure sink.new ≡ P.sure sink.old) × (N.sure notes.new ≡ N.sure notes.old) }
     ensures no_fewer { (S.faults source.old ≤ S.faults source.new) × (P.faults sink.old ≤ P.faults sink.new) × (N.faults notes.old ≤ N.faults notes.new) }
 {
-    let text = match read_all(alloc, source, LONGEST_SCENE) {
+    let text = match read_all(alloc, source, LONGEST_INPUT) {
         Ok(text) => text,
         Err(InputError::Fault) => return blank(alloc, CaptureStatus::ReadFault),
         Err(InputError::TooLong) => return blank(alloc, CaptureStatus::TooLong),

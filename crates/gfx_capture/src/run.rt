@@ -1,7 +1,7 @@
 // The top call.
 ghost use Rattle.std.specs.Prelude.{◌≡◌, ◌≢◌, ◌≤◌, ℕ, List, map, string_bytes};
 ghost use Rattle.scene_text.specs.Seen.{journal_seen};
-ghost use Rattle.scene_player.specs.Io.{putting, reading};
+ghost use Rattle.io_whole.specs.Runs.{putting, reading};
 ghost use Rattle.gfx_capture.specs.Words.{mode_of};
 ghost use Rattle.gfx_capture.specs.Ended.{AreTaken, Ends, EndsAs, IsGiven, status_of};
 

@@ -1,13 +1,12 @@
 // Shows a capture.
 ghost use Rattle.std.specs.Prelude.{◌≡◌, ◌≤◌};
-ghost use Rattle.scene_player.specs.Io.{putting, reading};
+ghost use Rattle.io_whole.specs.Runs.{putting, reading};
 ghost use Rattle.gfx_capture.specs.Ended.{EndsShow};
 
-use crate::input::{InputError, read_all};
-use crate::output::put_all;
 use crate::status::CaptureStatus;
 use frame_capture::{CaptureFault, decode};
 use io_edge::{Sink, Source};
+use io_whole::{InputError, put_all, read_all};
 use std::alloc::Global;
 
 /// The longest capture that is read.

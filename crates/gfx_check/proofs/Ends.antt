@@ -12,7 +12,7 @@ use Rattle.scene_model.specs.Output.{frame_dropped, length_line}
 use Rattle.dropped_lines.specs.Dropped.{Dropped, dropped_line, dropped_lines, dropped_text}
 use Rattle.dropped_lines.specs.Laws.{CountLaw, SilentLaw}
 use Rattle.io_whole.specs.Whole.{HasMoreThan, HasFront}
-use Rattle.gfx_check.specs.Io.{longest, IsRead}
+use Rattle.io_whole.specs.Whole.{longest, IsRead}
 use Rattle.gfx_check.specs.Refusals.{told_fault}
 use Rattle.gfx_check.specs.Putting.{IsPut, IsTold, whole, cut, none}
 use Rattle.gfx_check.specs.Ended.{IsScene, IsNoScene, IsNote, Ended, EndsAs, HasCounted}

@@ -7,7 +7,7 @@ use Rattle.scene_model.specs.Fold.{FramePlan, plans}
 use Rattle.scene_model.specs.Output.{frame_dropped, length_line}
 use Rattle.dropped_lines.specs.Dropped.{Dropped, dropped_line, dropped_text}
 use Rattle.io_whole.specs.Whole.{HasMoreThan, HasFront}
-use Rattle.gfx_check.specs.Io.{longest, IsRead}
+use Rattle.io_whole.specs.Whole.{longest, IsRead}
 use Rattle.gfx_check.specs.Refusals.{told_fault}
 use Rattle.gfx_check.specs.declared.status.CheckStatus.{CheckStatus}
 use Rattle.gfx_check.specs.declared.status.CheckStatus.TheVariants as status

@@ -10,7 +10,7 @@ ghost use Rattle.spelling_model.specs.Readable.{IsReadable};
 ghost use Rattle.scene_text.specs.Bounds.{IsBounded};
 ghost use Rattle.scene_text.specs.Seen.{scene_seen};
 ghost use Rattle.dropped_lines.specs.Dropped.{dropped_text};
-ghost use Rattle.gfx_check.specs.Io.{longest};
+ghost use Rattle.io_whole.specs.Whole.{longest};
 ghost use Rattle.gfx_check.specs.Ended.{Ended, EndsAs, HasCounted};
 ghost use Rattle.gfx_check.specs.Refusals.{refusal_line};
 ghost use Rattle.gfx_check.specs.Putting.{IsPut, IsTold};
@@ -21,11 +21,9 @@ use crate::status::CheckStatus;
 use dropped_lines::{count_law, silent_law};
 use fault_fields::fault_field;
 use io_edge::{Sink, Source};
-use io_whole::{InputError, put_all, read_all};
+use io_whole::{InputError, LONGEST_INPUT, put_all, read_all};
 use scene_text::{Scene, SceneFault, read};
 use std::alloc::Global;
-
-const LONGEST: usize = 16_777_216;
 
 /// Puts the lines of a scene.
 fn put_scene<N: Sink>(alloc: Global, bytes: &[u8], scene: &Scene, lines: &mut N) -> CheckStatus
@@ -87,7 +85,7 @@ fn run<S: Source, N: Sink, E: Sink>(
     ensures sure { (N.sure lines.new ≡ N.sure lines.old) × (E.sure notes.new ≡ E.sure notes.old) }
     ensures no_fewer { (S.faults source.old ≤ S.faults source.new) × (N.faults lines.old ≤ N.faults lines.new) × (E.faults notes.old ≤ E.faults notes.new) }
 {
-    let bytes = match read_all(alloc, source, LONGEST) {
+    let bytes = match read_all(alloc, source, LONGEST_INPUT) {
         Ok(bytes) => bytes,
         Err(InputError::Fault) => return CheckStatus::ReadFault,
         Err(InputError::TooLong) => return tell_length(notes),

@@ -85,6 +85,7 @@ module _ {L : Type 0} (old : ContextView L) (out : ℕ) (back : List RenderedFra
               recordings = f.recordings;
               journal = f.journal;
             };
+            drawn = g.drawn;
             numbered = g.numbered;
             seat = g.seat;
             same = g.same;
@@ -160,6 +161,7 @@ module _ {L : Type 0} (given : Bool) (work : Work) (a b : CoreView) (old : Conte
           frame = frame;
           given = is;
           is_of = f.1.is_of;
+          drawn = f.1.numbers;
           numbered = f.1.numbered;
           seat = f.1.seat;
           same = ap (λ (c : CoreView). context_of c.state now new later) f.1.same ∙ out;
@@ -167,6 +169,6 @@ module _ {L : Type 0} (given : Bool) (work : Work) (a b : CoreView) (old : Conte
         ap (λ (c : CoreView). c.state.out) f.1.same,
         same,
       )) where
-        out : context_of (record a.state { book = started a.state.book; seat = b.state.seat; begun = 0; gathered = []; is_given = false; out = a.state.out + 1 }) now new later
-            ≡ record (with_written work (context_of a.state gone back link)) { book = started a.state.book; seat = b.state.seat; begun = 0; gathered = []; out = b.state.out; given = now; back = new; link = later }
-        out = λ j. context_of (record a.state { book = started a.state.book; seat = b.state.seat; begun = 0; gathered = []; is_given = false; out = sym (ap (λ (c : CoreView). c.state.out) f.1.same) j }) now new later
+        out : context_of (record a.state { book = started a.state.book; seat = b.state.seat; begun = 0; gathered = []; last = cores.gathering_of a.state; is_given = false; out = a.state.out + 1 }) now new later
+            ≡ record (with_written work (context_of a.state gone back link)) { book = started a.state.book; seat = b.state.seat; begun = 0; gathered = []; last = cores.gathering_of a.state; out = b.state.out; given = now; back = new; link = later }
+        out = λ j. context_of (record a.state { book = started a.state.book; seat = b.state.seat; begun = 0; gathered = []; last = cores.gathering_of a.state; is_given = false; out = sym (ap (λ (c : CoreView). c.state.out) f.1.same) j }) now new later

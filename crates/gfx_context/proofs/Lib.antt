@@ -7,4 +7,5 @@ pub mod Gathers
 pub mod Openings
 pub mod Entries
 pub mod Finish
+pub mod Drawn
 pub mod Closings

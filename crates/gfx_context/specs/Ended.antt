@@ -1,8 +1,9 @@
 -- How a frame ends, and how a context is shut down.
-use Rattle.std.specs.Prelude.{ℕ, ◌≡◌, ◌<◌, ◌+◌, Bool, true, false, List, [], ◌∷◌, ◌++◌, map, length, Option, Some, None, Result, MatchResult, MatchOption}
+use Rattle.std.specs.Prelude.{ℕ, ◌≡◌, ◌<◌, ◌+◌, Bool, true, false, List, [], ◌∷◌, ◌++◌, map, length, Option, Some, None, Result, IfOk, MatchResult, MatchOption}
 use Rattle.gfx_model.specs.World.{Item}
 use Rattle.gfx_model.specs.Frames.{collected}
 use Rattle.gfx_model.specs.FrameCalls.{end_frame, shut_down, frame_refusal, frame_effect, is_given}
+use Rattle.gfx_words.specs.declared.journal.JournalEntry.{JournalEntry}
 use Rattle.gfx_words.specs.declared.refusals.Refusal.{Refusal}
 use Rattle.gfx_words.specs.Seen.{refusal_seen}
 use Rattle.schedule_model.specs.Held.{count_of}
@@ -23,6 +24,7 @@ pub use Rattle.context_core.specs.Ended.{started}
 use Rattle.context_core.specs.Ended.{with_work}
 use Rattle.context_core.specs.Ended as cores
 use Rattle.context_core.specs.Gathered.{AreOfFrame, dropped_in, with_gathered}
+use Rattle.context_core.specs.States.{Gathering}
 use Rattle.gfx_context.specs.States.{ContextView, state_of}
 
 -- ---- the bundles of a frame
@@ -75,15 +77,20 @@ MakesWay note old back =
 abbrev pub IsFrameOf : {L : Type 0} → ContextView L → Frame → Type 0
 IsFrameOf old f = cores.IsFrameOf old.book old.gathered f
 
--- the frame is given, and the next one starts with nothing written, begun or gathered; the numbers of its items are those from its first to below the
--- next one's, each once
+-- what a frame that is given now is made of
+abbrev pub gathering_of : {L : Type 0} → ContextView L → Gathering
+gathering_of v = record { seat = v.seat; recordings = v.gathered }
+
+-- the frame is given, and the next one starts with nothing written, begun or gathered; the numbers of its items are those that the seat gathered: from its
+-- first to below the next one's, each once
 pub record Gives {L : Type 0} (old new : ContextView L) : Type 0 where
   pub frame : Frame
   pub given : new.given ≡ old.given ++ frame ∷ []
   pub is_of : IsFrameOf old frame
+  pub drawn : old.seat.numbers ≡ numbers_in old.gathered
   pub numbered : cores.AreNumbered old.seat.base new.seat.base (numbers_in old.gathered)
   pub seat : new.seat ≡ record (advanced new.seat.base old.seat) { places = new.seat.places }
-  pub same : new ≡ record old { book = started old.book; seat = new.seat; begun = 0; gathered = []; out = new.out; given = new.given; back = new.back; link = new.link }
+  pub same : new ≡ record old { book = started old.book; seat = new.seat; begun = 0; gathered = []; last = gathering_of old; out = new.out; given = new.given; back = new.back; link = new.link }
 
 -- the frame of this number was given last
 abbrev pub IsLast : ℕ → List Frame → Type 0
@@ -124,6 +131,21 @@ IsEnd result old new =
     (λ r. MatchOption (refusal_seen r)
     ((frame_refusal (state_of old) end_frame ≡ None) × (new ≡ record old { is_ended = true }))
     (λ x. (frame_refusal (state_of old) end_frame ≡ Some x) × (new ≡ old)))
+
+-- the journal of the frame that was given last is the order of the numbers that its encoders drew: its recordings are those that the core gathered for it, their
+-- numbers are those that the core's seat gathered from the encoders' seats, and the entries are theirs by number. The journal that is told is the frame's
+pub record IsOrderDrawn {L : Type 0} (journal : List JournalEntry) (new : ContextView L) : Type 0 where
+  pub before : List Frame
+  pub frame : Frame
+  pub given : new.given ≡ before ++ frame ∷ []
+  pub recordings : frame.recordings.items ≡ new.last.recordings
+  pub numbers : numbers_in frame.recordings.items ≡ new.last.seat.numbers
+  pub order : map entry_seen frame.journal.items ≡ collected (recordings_seen frame.recordings.items)
+  pub told : map entry_seen journal ≡ map entry_seen frame.journal.items
+
+-- where the frame was given, its journal is that order
+abbrev pub TellsOrderDrawn : {L : Type 0} → Result FrameReport Refusal → ContextView L → Type 0
+TellsOrderDrawn result new = IfOk result (λ report. report.given ≡ true → IsOrderDrawn report.journal.items new)
 
 -- the bundles are collected, and then the frame ends
 pub record CollectsAndEnds {L : Type 0} (admits : ℕ → ℕ → List Item → ℕ → Type 0) (views : ℕ) (result : Result FrameReport Refusal) (old new : ContextView L) : Type 0 where

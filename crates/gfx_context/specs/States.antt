@@ -7,17 +7,18 @@ use Rattle.draw_encoder.specs.declared.items.Recording.{Recording}
 use Rattle.resource_book.specs.Written.{BookView}
 use Rattle.frame_record.specs.declared.frame.Frame.{Frame}
 use Rattle.frame_record.specs.declared.frame.RenderedFrame.{RenderedFrame}
-use Rattle.context_core.specs.States.{CoreState, HasCore}
+use Rattle.context_core.specs.States.{CoreState, Gathering, HasCore}
 use Rattle.context_core.specs.States as cores
 
 -- the state of the calls without contents and what they wrote in this frame, what the seat knows, how many encoders were begun in this frame, the recordings
--- that were collected in it, how many frames are out, whether the context is ended, the serial of the first thing, the frames that were given and that came
--- back, and the link
+-- that were collected in it, of what the frame that was given last was made, how many frames are out, whether the context is ended, the serial of the first
+-- thing, the frames that were given and that came back, and the link
 pub record ContextView (L : Type 0) : Type 0 where
   pub book : BookView
   pub seat : SeatView
   pub begun : ℕ
   pub gathered : List Recording
+  pub last : Gathering
   pub out : ℕ
   pub is_ended : Bool
   pub first : ℕ
@@ -32,6 +33,7 @@ core_in v = record {
   seat = v.seat;
   begun = v.begun;
   gathered = v.gathered;
+  last = v.last;
   is_given = false;
   out = v.out;
   is_ended = v.is_ended;
@@ -45,6 +47,7 @@ context_of s given back link = record {
   seat = s.seat;
   begun = s.begun;
   gathered = s.gathered;
+  last = s.last;
   out = s.out;
   is_ended = s.is_ended;
   first = s.first;

@@ -7,6 +7,7 @@ ghost use Rattle.hold_table.specs.Seats.{api_table, api_view};
 ghost use Rattle.hold_table.specs.Views.{first_view};
 ghost use Rattle.resource_laws.specs.Lawful.{IsLawful};
 ghost use Rattle.resource_book.specs.Opened.{opened};
+ghost use Rattle.frame_record.specs.Kept.{numbers_in};
 ghost use Rattle.frame_record.specs.Links.{frames_of};
 ghost use Rattle.gfx_context.specs.Kept.{IsContext};
 
@@ -67,6 +68,7 @@ impl<'t, C: Naming, L: FrameLink + Drop> Context<'t, C, L> {
           seat = first_view start.frame;
           begun = 0;
           gathered = [];
+          last = record { seat = first_view start.frame; recordings = [] };
           out = 0;
           is_ended = false;
           first = start.serial;
@@ -135,6 +137,7 @@ impl<'t, C: Naming, L: FrameLink + Drop> Context<'t, C, L> {
     pub fn tell_facts(&self)
         ensures lawful { IsLawful self.now.book.resources }
         ensures keeps { IsContext C.admits C.views self.now }
+        ensures drawn { self.now.last.seat.numbers ≡ numbers_in self.now.last.recordings }
         ensures link { (L.given self.now.link ≡ self.now.given) × (L.back self.now.link ≡ self.now.back) × (L.latency self.now.link ≡ self.now.book.resources.latency) }
     {
         self.core.tell_facts();

@@ -19,7 +19,7 @@ use hold_table::HoldTable;
 use std::sync::Wait;
 
 impl<'t, C: Naming, L: FrameLink + Drop> Context<'t, C, L> {
-    ghost use Rattle.gfx_context.specs.Ended.{IsBack, MakesWay, FinishesWhere, IsEnd, CollectsAndEnds};
+    ghost use Rattle.gfx_context.specs.Ended.{IsBack, MakesWay, FinishesWhere, IsEnd, TellsOrderDrawn, CollectsAndEnds};
 
     /// Takes the oldest frame that is out back.
     pub(crate) fn take_one(&mut self) -> BackNote
@@ -87,6 +87,7 @@ impl<'t, C: Naming, L: FrameLink + Drop> Context<'t, C, L> {
         requires running { self.old.is_ended ≡ false }
         requires none_off { self.old.seat.off ≡ [] }
         ensures answer { IsEnd result self.old self.new }
+        ensures drawn { TellsOrderDrawn result self.new }
         ensures origin { L.origin self.new.link ≡ L.origin self.old.link }
     {
         let number = self.core.frame_number();
@@ -119,6 +120,7 @@ impl<'t, C: Naming, L: FrameLink + Drop> Context<'t, C, L> {
     pub fn frame<R: Wait>(&mut self, rt: &R) -> Result<FrameReport, Refusal>
         requires running { self.old.is_ended ≡ false }
         ensures answer { CollectsAndEnds C.admits C.views result self.old self.new }
+        ensures drawn { TellsOrderDrawn result self.new }
         ensures origin { L.origin self.new.link ≡ L.origin self.old.link }
     {
         self.collect(rt);

@@ -18,7 +18,7 @@ use Rattle.frame_record.specs.Links.{frames_of}
 use Rattle.render_core.specs.Ended.{TextsLaw, KeptLaw, HasTexts, pictures_seen}
 use Rattle.render_core.specs.Laws.{frames_seen}
 use Rattle.render_core.specs.Outcomes.{has_ended}
-use Rattle.render_core.specs.Put.{HasFront}
+use Rattle.io_whole.specs.Whole.{HasFront}
 use Rattle.render_core.specs.Rendered.{Rendering}
 use Rattle.render_core.specs.Seen.{frame_seen}
 use Rattle.gfx_example.specs.Turning.{AreOfTurn}

@@ -10,7 +10,7 @@ use Rattle.frame_record.specs.declared.frame.Frame.{Frame}
 use Rattle.frame_record.specs.declared.frame.Outcome.{Outcome}
 use Rattle.frame_record.specs.declared.frame.Outcome.TheVariants as outcomes
 use Rattle.frame_record.specs.declared.frame.RenderedFrame.{RenderedFrame}
-use Rattle.render_core.specs.Put.{HasFront}
+use Rattle.io_whole.specs.Whole.{HasFront}
 use Rattle.render_core.specs.Rendered.{Rendering, AreRendered}
 use Rattle.render_core.specs.Seen.{frame_seen}
 use Rattle.gfx_example.specs.declared.spinning.End.{End}

@@ -7,7 +7,7 @@ use Rattle.load_text.specs.Loads.{Block}
 use Rattle.load_text.specs.Text.{load_of}
 use Rattle.load_text.specs.Seen.{block_seen}
 use Rattle.load_text.specs.declared.load.Block as code
-use Rattle.gfx_load.specs.Io.{longest, IsRead, HasMoreThan}
+use Rattle.io_whole.specs.Whole.{longest, IsRead, HasMoreThan}
 use Rattle.gfx_load.specs.Ended.{IsLoad, Ended, EndsAs}
 use Rattle.std.specs.Option.{IfSome}
 use Rattle.res_lock.specs.Histories.{LockEntry}

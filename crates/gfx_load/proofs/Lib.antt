@@ -1,4 +1,3 @@
-pub mod Pieces
 pub mod Noting
 pub mod LineLaws
 pub mod JoinLaws

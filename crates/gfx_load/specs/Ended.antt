@@ -5,7 +5,7 @@ use Rattle.load_text.specs.Loads.{Block}
 use Rattle.load_text.specs.Text.{load_of}
 use Rattle.load_text.specs.Laws.{IsTextOf, AreBlocks}
 use Rattle.gfx_load.specs.LoadHistories.{AreNotesOf}
-use Rattle.gfx_load.specs.Io.{longest, IsRead, HasMoreThan, HasFront}
+use Rattle.io_whole.specs.Whole.{longest, IsRead, HasMoreThan, HasFront}
 use Rattle.gfx_load.specs.declared.status.LoadStatus.{LoadStatus}
 use Rattle.gfx_load.specs.declared.status.LoadStatus.TheVariants as status
 

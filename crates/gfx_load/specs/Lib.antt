@@ -2,7 +2,6 @@ pub mod BlockCalls
 pub mod Notes
 pub mod Pushed
 pub mod LoadHistories
-pub mod Io
 pub mod Ended
 pub mod Putting
 pub mod Numbers

@@ -2,7 +2,7 @@
 use Rattle.std.specs.Prelude.{◌≡◌, ℕ, List, Option}
 use Rattle.io_edge.specs.Edge.{with_back}
 use Rattle.load_text.specs.Loads.{Block}
-use Rattle.gfx_load.specs.Io.{HasFront}
+use Rattle.io_whole.specs.Whole.{HasFront}
 use Rattle.gfx_load.specs.LoadHistories.{AreNotesOf}
 use Rattle.gfx_load.specs.declared.status.LoadStatus.{LoadStatus}
 use Rattle.gfx_load.specs.declared.status.LoadStatus.TheVariants as status

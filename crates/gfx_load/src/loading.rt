@@ -4,17 +4,16 @@ ghost use Rattle.io_edge.specs.Edge.{Rose};
 ghost use Rattle.load_text.specs.Loads.{Block as TheBlock};
 ghost use Rattle.load_text.specs.Text.{load_of};
 ghost use Rattle.load_text.specs.Seen.{block_seen};
-ghost use Rattle.gfx_load.specs.Io.{longest};
+ghost use Rattle.io_whole.specs.Whole.{longest};
 ghost use Rattle.gfx_load.specs.Ended.{Ended, EndsAs};
 ghost use Rattle.gfx_load.specs.LoadHistories.{AreNotesOf};
 ghost use Rattle.gfx_load.specs.Putting.{IsNoted};
 
-use crate::input::{InputError, read_all};
 use crate::notes::history_notes;
-use crate::output::put_all;
 use crate::running::run_load;
 use crate::status::LoadStatus;
 use io_edge::{Gate, Sink, Source};
+use io_whole::{InputError, LONGEST_INPUT, put_all, read_all};
 use load_text::{Block, LoadFault, load_law, read_load};
 use std::alloc::{AllocError, Global};
 use std::sync::Wait;
@@ -69,7 +68,7 @@ fn run<R: Threads + Wait + Sync, S: Source, N: Sink, G: Gate + Sync>(
     ensures no_fewer { (S.faults source.old ≤ S.faults source.new) × (N.faults notes.old ≤ N.faults notes.new) }
 {
     load_law();
-    let bytes = match read_all(alloc, source) {
+    let bytes = match read_all(alloc, source, LONGEST_INPUT) {
         Ok(bytes) => bytes,
         Err(InputError::Fault) => return LoadStatus::ReadFault,
         Err(InputError::TooLong) => return LoadStatus::TooLong,

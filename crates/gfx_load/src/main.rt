@@ -9,11 +9,8 @@ mod block_lock;
 mod blocks;
 mod callers;
 mod calls;
-mod input;
-mod link;
 mod loading;
 mod notes;
-mod output;
 mod running;
 mod status;
 #[cfg(test)]

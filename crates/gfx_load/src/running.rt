@@ -12,14 +12,14 @@ ghost use Rattle.gfx_load.specs.Runs.{IsFirstOf};
 
 use crate::blocks::Ran;
 use crate::callers::run_blocks;
-use crate::link::HereLink;
 use draw_encoder::{Naming, Shared};
 use frame_record::FrameLink;
 use gfx_context::Context;
 use gfx_words::FEWEST_VIEWS;
 use hold_table::{ApiSeat, HoldTable};
-use io_edge::Gate;
+use io_edge::{Gate, SureSink};
 use load_text::Block;
+use render_core::{InPlaceLink, Renderer, SerialRasterizer};
 use res_lock::{Entry, HistoryNaming, HistoryTable, ResLock, ResPass};
 use resource_book::Start;
 use std::alloc::{AllocError, Global};
@@ -111,7 +111,24 @@ where
     run_locked(rt, gate, alloc, lock, first, blocks)
 }
 
-/// Makes what the context stands on: the frames are rendered in place on one pixel, and their pictures are only counted.
+/// A link that renders each frame where it is given, on one pixel, and whose pictures are only counted.
+type CountingLink = InPlaceLink<SureSink, SerialRasterizer>;
+
+/// Such a link, at which one frame may be out. `Err` for want of memory alone.
+fn counting_link(alloc: Global) -> Result<CountingLink, AllocError>
+    ensures none { IfOk result (λ l. (⟦<CountingLink as FrameLink>⟧.given l ≡ []) × (⟦<CountingLink as FrameLink>⟧.back l ≡ [])) }
+    ensures latency { IfOk result (λ l. ⟦<CountingLink as FrameLink>⟧.latency l ≡ 1) }
+{
+    let Ok(renderer) = Renderer::new(alloc, 1, 1, SureSink::new()) else {
+        return Err(AllocError);
+    };
+    match InPlaceLink::new(alloc, renderer, SerialRasterizer, 1) {
+        Ok(link) => Ok(link),
+        Err(_) => Err(AllocError),
+    }
+}
+
+/// Makes what the context stands on.
 fn run_tables<C, H, R, G>(
     rt: &R,
     gate: &G,
@@ -138,8 +155,8 @@ where
     let Ok(shared) = Shared::<C>::new(alloc, hold) else {
         return Err(AllocError);
     };
-    let link = HereLink::new(rt, alloc)?;
-    run_context::<C, HereLink<'_, R>, H, R, G>(
+    let link = counting_link(alloc)?;
+    run_context::<C, CountingLink, H, R, G>(
         rt, gate, alloc, &shared, seat, link, table, first, blocks,
     )
 }

@@ -5,7 +5,7 @@ use Rattle.std.proofs.lemmas.Option.{none-some, same_Some}
 use Rattle.io_edge.specs.Edge.{with_front, IsSpent}
 use Rattle.gfx_query.specs.Queries.{Script, notes_of}
 use Rattle.gfx_query.specs.Text.{script_of}
-use Rattle.gfx_query.specs.Io.{longest, IsRead, HasMoreThan}
+use Rattle.io_whole.specs.Whole.{longest, IsRead, HasMoreThan}
 use Rattle.gfx_query.specs.Ended.{IsScript, Ended, EndsAs}
 use Rattle.gfx_query.specs.Putting.{IsNoted}
 use Rattle.gfx_query.specs.declared.status.QueryStatus.{QueryStatus}

@@ -1,10 +1,8 @@
 pub mod Places
 pub mod Triangles
 pub mod Counts
-pub mod Splits
 pub mod Hex
 pub mod Lines
 pub mod Sums
 pub mod Noting
-pub mod Pieces
 pub mod Ends

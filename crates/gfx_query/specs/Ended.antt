@@ -3,7 +3,7 @@ use Rattle.std.specs.Prelude.{◌≡◌, ◌⊎◌, ℕ, List, Option, Ok, Err}
 use Rattle.io_edge.specs.Edge.{with_back}
 use Rattle.gfx_query.specs.Queries.{Script, notes_of}
 use Rattle.gfx_query.specs.Text.{script_of}
-use Rattle.gfx_query.specs.Io.{longest, IsRead, HasMoreThan, HasFront}
+use Rattle.io_whole.specs.Whole.{longest, IsRead, HasMoreThan, HasFront}
 use Rattle.gfx_query.specs.declared.status.QueryStatus.{QueryStatus}
 use Rattle.gfx_query.specs.declared.status.QueryStatus.TheVariants as status
 

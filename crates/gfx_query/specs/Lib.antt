@@ -3,11 +3,9 @@ pub mod Draws
 pub mod Standing
 pub mod Queries
 pub mod Text
-pub mod Fields
 pub mod Seen
 pub mod SeenReading
 pub mod SeenFrames
-pub mod Io
 pub mod Ended
 pub mod Numbers
 pub mod Putting

@@ -1,7 +1,7 @@
 -- How the notes of a script are put.
 use Rattle.std.specs.Prelude.{◌≡◌, ℕ, List, Option}
 use Rattle.io_edge.specs.Edge.{with_back}
-use Rattle.gfx_query.specs.Io.{HasFront}
+use Rattle.io_whole.specs.Whole.{HasFront}
 use Rattle.gfx_query.specs.declared.status.QueryStatus.{QueryStatus}
 use Rattle.gfx_query.specs.declared.status.QueryStatus.TheVariants as status
 

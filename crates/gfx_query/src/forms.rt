@@ -1,14 +1,15 @@
 // The forms of lines.
 ghost use Rattle.std.specs.Prelude.{◌≡◌, ◌≤◌, ◌+◌, ◌*◌, ◌<◌, ◌^◌, length, option_map, IfOk, IfSome};
 ghost use Rattle.gfx_query.specs.Text as text;
-ghost use Rattle.gfx_query.specs.Fields.{texts};
+ghost use Rattle.text_fields.specs.Fields.{texts};
 ghost use Rattle.gfx_query.specs.Seen.{query_seen, condition_seen, draw_seen, step_seen, AreShort};
 
-use crate::fields::{field, has_count, is, is_word, number, packed, when};
+use crate::fields::{has_count, is_word, number, packed, when};
 use crate::script::{Condition, Draw, Query, Step};
 use crate::sides::TargetSides;
 use gfx_words::{StateWord, StencilWord};
 use std::alloc::{AllocError, Global};
+use text_fields::{field, is};
 
 /// A query's number.
 fn query_number(field: &[u8]) -> Option<Query>

@@ -3,17 +3,18 @@ ghost use Rattle.std.specs.Prelude.{◌≡◌, ◌≤◌, ◌++◌, ◌∷◌, [
 ghost use Rattle.scene_model.specs.Field.{split_at};
 ghost use Rattle.scene_model.specs.Grammar.{on_last, is_skipped};
 ghost use Rattle.gfx_query.specs.Text as text;
-ghost use Rattle.gfx_query.specs.Fields.{texts};
+ghost use Rattle.text_fields.specs.Fields.{texts};
 ghost use Rattle.gfx_query.specs.Seen.{step_seen, frame_seen, AreShort};
 ghost use Rattle.gfx_query.specs.SeenReading.{stage_seen, reading_seen, Reads};
 
-use crate::fields::{has_count, is_word, split_fields, when};
+use crate::fields::{has_count, is_word, when};
 use crate::forms::{draw_form, instances_form, setting_form, size_form, version_form};
 use crate::script::Step;
 use crate::sides::TargetSides;
 use crate::stages::{Reading, Stage};
 use std::alloc::{AllocError, Global};
 use std::mem::replace;
+use text_fields::split_fields;
 
 /// A frame more, without lines.
 fn add_frame(alloc: Global, frames: &mut Vec<Vec<Step>>) -> Result<(), AllocError>
@@ -243,7 +244,7 @@ impl Reading {
         requires { length line.now ≤ 16777216 }
         ensures { IfOk result (λ ok. Reads ok (reading_seen self.new) (text.after_fields (stage_seen self.old.stage) (reading_seen self.old) (split_at 32 line.now))) }
     {
-        split_fields(line, fields)?;
+        split_fields(line, b' ', fields)?;
         let stands = self.after_fields(alloc, fields)?;
         Ok(stands)
     }

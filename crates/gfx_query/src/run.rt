@@ -4,17 +4,16 @@ ghost use Rattle.io_edge.specs.Edge.{Rose};
 ghost use Rattle.gfx_query.specs.Queries.{Script as TheScript, notes_of as notes_of_script};
 ghost use Rattle.gfx_query.specs.Text.{script_of};
 ghost use Rattle.gfx_query.specs.Seen.{script_seen};
-ghost use Rattle.gfx_query.specs.Io.{longest, HasFront};
+ghost use Rattle.io_whole.specs.Whole.{longest, HasFront};
 ghost use Rattle.gfx_query.specs.Ended.{Ended, EndsAs};
 ghost use Rattle.gfx_query.specs.Putting.{IsNoted};
 
-use crate::input::{InputError, read_all};
 use crate::notes::notes_of;
-use crate::output::put_all;
 use crate::script::Script;
 use crate::status::QueryStatus;
 use crate::text::{TextFault, read_script};
 use io_edge::{Sink, Source};
+use io_whole::{InputError, LONGEST_INPUT, put_all, read_all};
 use std::alloc::Global;
 
 /// Puts the notes of a script.
@@ -38,7 +37,7 @@ fn run<S: Source, N: Sink>(alloc: Global, source: &mut S, notes: &mut N) -> Quer
     ensures sure { N.sure notes.new ≡ N.sure notes.old }
     ensures no_fewer { (S.faults source.old ≤ S.faults source.new) × (N.faults notes.old ≤ N.faults notes.new) }
 {
-    let bytes = match read_all(alloc, source) {
+    let bytes = match read_all(alloc, source, LONGEST_INPUT) {
         Ok(bytes) => bytes,
         Err(InputError::Fault) => return QueryStatus::ReadFault,
         Err(InputError::TooLong) => return QueryStatus::TooLong,

@@ -4,10 +4,10 @@ ghost use Rattle.gfx_query.specs.Text as text;
 ghost use Rattle.gfx_query.specs.SeenReading.{reading_seen, ReadsScript};
 ghost use Rattle.gfx_query.specs.declared.text.TextFault.TheVariants.{OutOfMemory};
 
-use crate::fields::find;
 use crate::script::Script;
 use crate::stages::{Reading, Stage};
 use std::alloc::{AllocError, Global};
+use text_fields::find;
 
 /// Why bytes are no script: the first line that fails, counted from 1, or want of memory.
 #[derive(Clone, Copy, Debug, PartialEq, Eq, Drop)]

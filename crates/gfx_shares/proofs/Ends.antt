@@ -6,7 +6,7 @@ use Rattle.io_edge.specs.Edge.{with_front, IsSpent}
 use Rattle.scene_model.specs.Scene.{Scene}
 use Rattle.scene_model.specs.Grammar.{Fault, whole_language, scene_of}
 use Rattle.shared_keys.specs.Lines.{shared_lines}
-use Rattle.gfx_shares.specs.Io.{longest, IsRead, HasMoreThan}
+use Rattle.io_whole.specs.Whole.{longest, IsRead, HasMoreThan}
 use Rattle.gfx_shares.specs.Ended.{IsScene, Ended, EndsAs}
 use Rattle.gfx_shares.specs.Putting.{IsNoted}
 use Rattle.gfx_shares.specs.declared.status.SharesStatus.{SharesStatus}

@@ -1,4 +1,3 @@
-mod Pieces
 mod Ends
 mod Lists
 mod Free

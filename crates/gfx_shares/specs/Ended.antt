@@ -4,7 +4,7 @@ use Rattle.io_edge.specs.Edge.{with_back}
 use Rattle.scene_model.specs.Scene.{Scene}
 use Rattle.scene_model.specs.Grammar.{whole_language, scene_of}
 use Rattle.shared_keys.specs.Lines.{shared_lines}
-use Rattle.gfx_shares.specs.Io.{longest, IsRead, HasMoreThan, HasFront}
+use Rattle.io_whole.specs.Whole.{longest, IsRead, HasMoreThan, HasFront}
 use Rattle.gfx_shares.specs.declared.status.SharesStatus.{SharesStatus}
 use Rattle.gfx_shares.specs.declared.status.SharesStatus.TheVariants as status
 

@@ -1,4 +1,3 @@
-pub mod Io
 pub mod Numbers
 pub mod Listed
 pub mod Ended

@@ -1,7 +1,7 @@
 -- How the lines of a scene are put.
 use Rattle.std.specs.Prelude.{◌≡◌, ℕ, List, Option}
 use Rattle.io_edge.specs.Edge.{with_back}
-use Rattle.gfx_shares.specs.Io.{HasFront}
+use Rattle.io_whole.specs.Whole.{HasFront}
 use Rattle.gfx_shares.specs.declared.status.SharesStatus.{SharesStatus}
 use Rattle.gfx_shares.specs.declared.status.SharesStatus.TheVariants as status
 

@@ -5,10 +5,8 @@
 //! that is too long, 8 memory ran out.
 #![tactic(auto)]
 
-mod input;
 mod lines;
 mod listing;
-mod output;
 mod sharing;
 mod status;
 #[cfg(test)]

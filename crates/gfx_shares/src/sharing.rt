@@ -8,16 +8,15 @@ ghost use Rattle.spelling_model.specs.Readable.{IsReadable};
 ghost use Rattle.scene_text.specs.Bounds.{IsBounded};
 ghost use Rattle.scene_text.specs.Seen.{scene_seen};
 ghost use Rattle.shared_keys.specs.Lines.{shared_lines};
-ghost use Rattle.gfx_shares.specs.Io.{longest};
+ghost use Rattle.io_whole.specs.Whole.{longest};
 ghost use Rattle.gfx_shares.specs.Ended.{Ended, EndsAs};
 ghost use Rattle.gfx_shares.specs.Putting.{IsNoted};
 
-use crate::input::{InputError, read_all};
 use crate::lines::lines_of;
-use crate::output::put_all;
 use crate::status::SharesStatus;
 use crate::views::scene_views;
 use io_edge::{Sink, Source};
+use io_whole::{InputError, LONGEST_INPUT, put_all, read_all};
 use scene_text::{Scene, SceneFault, read};
 use shared_keys::laws::{free_law, no_line_law};
 use std::alloc::{AllocError, Global};
@@ -72,7 +71,7 @@ fn run<R: Threads + Wait + Sync, S: Source, N: Sink>(
     ensures sure { N.sure notes.new ≡ N.sure notes.old }
     ensures no_fewer { (S.faults source.old ≤ S.faults source.new) × (N.faults notes.old ≤ N.faults notes.new) }
 {
-    let bytes = match read_all(alloc, source) {
+    let bytes = match read_all(alloc, source, LONGEST_INPUT) {
         Ok(bytes) => bytes,
         Err(InputError::Fault) => return SharesStatus::ReadFault,
         Err(InputError::TooLong) => return SharesStatus::TooLong,

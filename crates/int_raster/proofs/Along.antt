@@ -15,7 +15,7 @@ use Rattle.int_raster.specs.Painted.{IsOpaque, bytes_of}
 use Rattle.int_raster.proofs.Changes.{span_more}
 
 -- the step of a column of a row is that of its place
-at_place : {A : Type 0} (f : ℕ → ℕ → A → A) (start y x : ℕ) (p : A) → f x y p ≡ in_row start y f (start + x) p
+pub at_place : {A : Type 0} (f : ℕ → ℕ → A → A) (start y x : ℕ) (p : A) → f x y p ≡ in_row start y f (start + x) p
 at_place f start y x p =
     let column : x ≡ start + x - start = omega arith in
     (λ i. f (column i) y p)

@@ -10,4 +10,8 @@ pub mod Grown
 pub mod Held
 pub mod Colored
 pub mod Level
+pub mod Vectors
+pub mod Tiled
+pub mod Windows
+pub mod Spread
 pub mod Rowed

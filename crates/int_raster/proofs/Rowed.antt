@@ -1,6 +1,8 @@
 -- Rows whose columns a list has.
 use Rattle.std.proofs.Common.{◌≡◌, ℕ, ◌+◌, ◌*◌, ◌<◌, ◌≤◌, ◌&&◌, nat_le, nat_lt, List, slice_index_or, ap, sym, subst, ◌∙◌, arith}
 use Rattle.std.proofs.Math.Nat.{mul-le-mul_left}
+use Rattle.std.proofs.lemmas.Nat.{mul-le}
+use native.Mathlib.Nat.{add-mul}
 use Rattle.gfx_model.specs.Raster.{contains, covers}
 use Rattle.fix_math.specs.Seen.{rect_seen}
 use Rattle.fix_math.specs.declared.geometry.Rect.{Rect}
@@ -23,3 +25,13 @@ span_here spans s limits top from k count h l =
 -- a row of a surface ends within it
 pub row_inside : (row count width last size : ℕ) → row < count → last ≤ width → size ≡ width * count → row * width + last ≤ size
 row_inside row count width last size h l e = let k : row + 1 ≤ count = omega (arith, h) in omega (arith, mul-le-mul_left width k, l, e)
+
+-- where the next row begins
+pub next_start : (from k width start : ℕ) → start ≡ (from + k) * width → start + width ≡ (from + (k + 1)) * width
+next_start from k width start e =
+    let one_more : from + (k + 1) ≡ from + k + 1 = omega arith in
+    let more : (from + (k + 1)) * width ≡ (from + k) * width + 1 * width = ap (λ n. n * width) one_more ∙ add-mul (from + k) 1 width in
+    omega (arith, e, more)
+
+pub start_small : (row width : ℕ) → row ≤ 65535 → width ≤ 65535 → row * width ≤ 4294836225
+start_small row width h l = mul-le row width 65535 65535 h l

@@ -2,6 +2,7 @@ pub mod Drawing
 pub mod Seen
 pub mod Places
 pub mod Painted
+pub mod Tiled
 pub mod Rules
 pub mod Bands
 pub mod Sharing

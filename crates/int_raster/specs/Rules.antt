@@ -1,5 +1,6 @@
 -- The depth test of a state word by the order of two depths.
-use Rattle.std.specs.Prelude.{◌≡◌, ◌≤◌, ℕ, ◌==◌, nat_lt, Bool, true, false, if◌then◌else◌}
+use Rattle.std.specs.Prelude.{◌≡◌, ◌≤◌, ◌<◌, ◌+◌, ◌*◌, ◌/◌, ◌%◌, ◌^◌, ℕ, ◌==◌, ◌&&◌, nat_lt, Bool, true, false, if◌then◌else◌, IfSome}
+use Rattle.gfx_model.specs.Number.{u32_at}
 use Rattle.gfx_model.specs.Words.{depth_test_of, writes_depth}
 use Rattle.gfx_model.specs.Pixel.{passes_depth}
 use Rattle.tri_cover.specs.declared.triangles.Setup.{Setup}
@@ -15,6 +16,8 @@ use Rattle.pixel_ops.specs.Blended.{IsBlending}
 use Rattle.int_raster.specs.declared.opaque.Rule.{Rule}
 use Rattle.int_raster.specs.declared.opaque.Mix.{Mix}
 use Rattle.int_raster.specs.declared.opaque.Level.{Level}
+use Rattle.int_raster.specs.declared.opaque.Tile.{Tile}
+use Rattle.int_raster.specs.Tiled.{word_bytes, deep_word, is_among}
 
 -- the answer for less, equal or greater
 abbrev pub by_order : Rule → ℕ → ℕ → Bool
@@ -48,9 +51,24 @@ pub record IsMix (m : Mix) (d : Prepared) (s : Setup) : Type 0 where
 abbrev pub IsFree : Prepared → Setup → Type 0
 IsFree d s = (x y : ℕ) (c z : Color) → deep_pixel (color_seen d s x y c) z ≡ step_seen d s x y (deep_pixel c z)
 
+-- a tile has this colour, goes over the stored depths that this depth passes by a rule, and stores it where the rule does
+pub record IsTile (t : Tile) (c : Color) (z : ℕ) (r : Rule) : Type 0 where
+  pub color : word_bytes t.color ≡ c
+  pub low : t.least ≤ 16777216
+  pub few : t.more ≤ 16777215
+  pub test : (stored : ℕ) → stored < 16777216 → by_order r z stored ≡ is_among t.least t.more stored
+  pub stores : (word : ℕ) → word < 2 ^ 32 → deep_word t.bits t.depth word ≡ (if r.writes then z else word % 2 ^ 24) + 2 ^ 24 * (word / 2 ^ 24)
+
+-- the texels of a pixel's colour and depth after a tile is stored over others
+abbrev pub IsStored : Tile → (old deep color z : Color) → Type 0
+IsStored t old deep color z =
+    (color ≡ (if is_among t.least t.more (u32_at deep 0 % 2 ^ 24) then word_bytes t.color else old))
+    × (u32_at z 0 ≡ (if is_among t.least t.more (u32_at deep 0 % 2 ^ 24) then deep_word t.bits t.depth (u32_at deep 0) else u32_at deep 0))
+
 -- all covered pixels of a triangle without a stencil word have this colour and this depth, and are stored as painted
 pub record IsLevel (l : Level) (d : Prepared) (s : Setup) : Type 0 where
   pub plain : IsPlain l.rule d s
   pub few : l.depth ≤ 16777215
   pub paints : (x y : ℕ) → covers (setup_seen s).triangle x y ≡ true → l.color ≡ painted (paint_seen d.paint) (fragment_at (setup_seen s).triangle x y)
   pub depths : (x y : ℕ) → covers (setup_seen s).triangle x y ≡ true → l.depth ≡ (fragment_at (setup_seen s).triangle x y).depth
+  pub tile : IfSome l.tile (λ t. IsTile t l.color l.depth l.rule)

@@ -10,20 +10,21 @@ ghost use Rattle.int_raster.specs.Drawing.{prepared_step};
 ghost use Rattle.int_raster.specs.Places.{above, deep_pixels, spanned, by_place, below, in_row};
 ghost use Rattle.int_raster.specs.Filled.{AreLimits, AreInCut};
 ghost use Rattle.int_raster.specs.Painted.{PaintsSpan, Paints, HoldsPiece, HoldsDepths, AreDepths, HasDepths, HasWideDepths, HasSpanDepths, HasWideSpanDepths};
-ghost use Rattle.int_raster.specs.Rules.{IsPlain, IsMix, IsLevel, IsOver, IsFree};
+ghost use Rattle.int_raster.specs.Rules.{IsPlain, IsMix, IsLevel, IsTile, IsOver, IsFree};
 ghost use Rattle.int_raster.specs.Seen.{paint_seen, prepared_seen, step_seen, change_seen};
 
 use crate::colors::triangle_colors;
 use crate::columns::{drawn_columns, drawn_limits, drawn_rows, meets};
 use crate::deep_spans::{fill, step, step_exactly, store, store_level, store_shade};
 use crate::lists::Prepared;
-use crate::opaque::{Level, Mix, Rule, rule_of};
+use crate::opaque::{Level, Mix, Rule, Tile, rule_of};
 use crate::painters::{Brush, Painter, brush_of, is_opaque, one_color, one_depth, painter_of};
 use crate::painting::stencil_of;
 use crate::pieces::{depth_piece, paint_piece};
 use crate::rows::Rows;
 use crate::spans::Span;
 use crate::stores::{Laid, Opaque};
+use crate::tiles::{draw_tile, tile_of};
 use pixel_ops::Blending;
 use tri_cover::{Ramp, Setup};
 
@@ -258,6 +259,7 @@ fn level_of(setup: &Setup, draw: &Prepared, rule: &Option<Rule>) -> Option<Level
                 color,
                 depth,
                 rule: *rule,
+                tile: tile_of(color, depth, rule),
             })
         }
         None => None,
@@ -329,6 +331,93 @@ fn rows_tested(
     }
 }
 
+/// Stores a tile in so many rows of its triangle, whose columns a list has.
+#[inline(never)]
+fn rows_tiled(
+    colors: &mut [[u8; 4]],
+    depths: &mut [[u8; 4]],
+    rows: &Rows,
+    from: u16,
+    count: u16,
+    spans: &[(u16, u16)],
+    limits: (u16, u16),
+    tile: &Tile,
+    level: &Level,
+    setup: &Setup,
+    draw: &Prepared,
+)
+    requires whole { length colors.old ≡ rows.now.width * rows.now.count }
+    requires same { length depths.old ≡ length colors.old }
+    requires level { IsLevel level.now draw.now setup.now }
+    requires tile { IsTile tile.now level.now.color level.now.depth level.now.rule }
+    requires inside { from + count ≤ rows.now.count }
+    requires cut { AreInCut rows.now draw.now.cut from (from + count) }
+    requires limits { AreLimits limits draw.now.cut rows.now.width }
+    requires room { count ≤ length spans.now }
+    requires held { HoldsSpans spans.now (setup_seen setup.now).triangle limits.0 limits.1 (rows.now.top + from) count }
+    ensures { (start : List Pixel) → deep_pixels colors.old depths.old ≡ map_from (above rows.now.width from (below rows.now.top (change_seen draw.now setup.now))) 0 start → deep_pixels colors.new depths.new ≡ map_from (above rows.now.width (from + count) (below rows.now.top (change_seen draw.now setup.now))) 0 start }
+{
+    let tile = *tile;
+    let width = rows.width as usize;
+    let mut start = from as usize * width;
+    for k in 0..count {
+        let y = rows.top + (from + k);
+        let (first, after) = drawn_columns(spans, k, limits, setup, &draw.cut, y, rows.width);
+        let span = Span {
+            start,
+            y,
+            first,
+            after,
+        };
+        draw_tile(colors, depths, &span, &tile, level, setup, draw);
+        start += width;
+    }
+}
+
+/// Draws a triangle with its depth in so many rows, whose columns a list has: as a tile where it is one.
+fn rows_drawn(
+    colors: &mut [[u8; 4]],
+    depths: &mut [[u8; 4]],
+    rows: &Rows,
+    from: u16,
+    count: u16,
+    spans: &[(u16, u16)],
+    limits: (u16, u16),
+    level: &Option<Level>,
+    brush: &Option<Brush>,
+    rule: &Option<Rule>,
+    mixing: &Option<Mix>,
+    setup: &Setup,
+    draw: &Prepared,
+)
+    requires whole { length colors.old ≡ rows.now.width * rows.now.count }
+    requires same { length depths.old ≡ length colors.old }
+    requires level { IfSome level.now (λ l. IsLevel l draw.now setup.now) }
+    requires paints { IfSome brush.now (λ b. Paints b.painter draw.now setup.now rows.now.width (rows.now.top + rows.now.count)) }
+    requires depths { IfSome brush.now (λ b. HasWideDepths b.depth setup.now rows.now.width (rows.now.top + rows.now.count)) }
+    requires short { IfSome brush.now (λ b. IfSome b.short (λ r. HasDepths r setup.now rows.now.width (rows.now.top + rows.now.count))) }
+    requires rule { IfSome rule.now (λ r. IsPlain r draw.now setup.now) }
+    requires mixing { IfSome mixing.now (λ m. IsMix m draw.now setup.now) }
+    requires inside { from + count ≤ rows.now.count }
+    requires cut { AreInCut rows.now draw.now.cut from (from + count) }
+    requires limits { AreLimits limits draw.now.cut rows.now.width }
+    requires room { count ≤ length spans.now }
+    requires held { HoldsSpans spans.now (setup_seen setup.now).triangle limits.0 limits.1 (rows.now.top + from) count }
+    ensures { (start : List Pixel) → deep_pixels colors.old depths.old ≡ map_from (above rows.now.width from (below rows.now.top (change_seen draw.now setup.now))) 0 start → deep_pixels colors.new depths.new ≡ map_from (above rows.now.width (from + count) (below rows.now.top (change_seen draw.now setup.now))) 0 start }
+{
+    if let Some(level) = level {
+        if let Some(tile) = &level.tile {
+            rows_tiled(
+                colors, depths, rows, from, count, spans, limits, tile, level, setup, draw,
+            );
+            return;
+        }
+    }
+    rows_tested(
+        colors, depths, rows, from, count, spans, limits, level, brush, rule, mixing, setup, draw,
+    );
+}
+
 /// Draws a triangle pixel by pixel with its depth.
 fn triangle_tested(
     colors: &mut [[u8; 4]],
@@ -352,7 +441,7 @@ fn triangle_tested(
     while row < bottom {
         let count = (bottom - row).min(32);
         setup.spans(&mut spans, rows.top + row, count, limits.0, limits.1);
-        rows_tested(
+        rows_drawn(
             colors, depths, rows, row, count, &spans, limits, &level, &brush, &rule, &mixing,
             setup, draw,
         );

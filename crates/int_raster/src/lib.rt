@@ -10,6 +10,7 @@ mod deep;
 mod deep_spans;
 mod drawing;
 mod flat;
+mod lanes;
 mod listed;
 mod lists;
 mod opaque;
@@ -23,6 +24,7 @@ mod sampling;
 mod spans;
 mod stores;
 mod surfaces;
+mod tiles;
 
 pub use cuts::{draw_cut, view_rect};
 pub use drawing::{draw_bands, draw_view};

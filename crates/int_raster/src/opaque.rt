@@ -30,12 +30,25 @@ pub(crate) struct Mix {
     pub blending: Blending,
 }
 
-/// A triangle of one colour and one depth that is stored as it is painted, where its depth test passes.
+/// A colour as a word, the bits of a depth word that stay under it and what comes to them, the least of the stored depths over which
+/// it goes, and how many more there are.
+#[derive(Clone, Copy)]
+pub(crate) struct Tile {
+    pub color: u32,
+    pub bits: u32,
+    pub depth: u32,
+    pub least: u32,
+    pub more: u32,
+}
+
+/// A triangle of one colour and one depth that is stored as it is painted, where its depth test passes: also as a tile, where the
+/// stored depths that it passes lie side by side.
 #[derive(Clone, Copy)]
 pub(crate) struct Level {
     pub color: [u8; 4],
     pub depth: u32,
     pub rule: Rule,
+    pub tile: Option<Tile>,
 }
 
 pub(crate) fn rule_of(state: &StateWord) -> Rule

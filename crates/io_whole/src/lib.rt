@@ -5,4 +5,4 @@ mod putting;
 mod reading;
 
 pub use putting::put_all;
-pub use reading::{InputError, read_all};
+pub use reading::{InputError, LONGEST_INPUT, read_all};

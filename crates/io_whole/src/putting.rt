@@ -1,6 +1,6 @@
 // Writes a text to a sink.
-ghost use Rattle.std.specs.Prelude.{◌≡◌, ◌≤◌, OnOk, OnErr};
-ghost use Rattle.io_edge.specs.Edge.{with_back, Rose};
+ghost use Rattle.std.specs.Prelude.{◌≡◌, ◌≤◌, ◌<◌, length, OnOk, OnErr};
+ghost use Rattle.io_edge.specs.Edge.{with_back, counted, Rose};
 ghost use Rattle.io_whole.specs.Whole.{HasFront};
 
 use io_edge::{Failed, Sink};
@@ -12,6 +12,7 @@ use io_edge::{Failed, Sink};
 /// `Failed` only where the sink's count of faults rose; a front of the text was put.
 pub fn put_all<P: Sink>(sink: &mut P, text: &[u8]) -> Result<(), Failed>
     ensures whole { OnOk result (P.held sink.new ≡ with_back (P.held sink.old) text.now) }
+    ensures tally { OnOk result (0 < length text.now → P.tally sink.new ≡ counted (P.tally sink.old) text.now) }
     ensures front { HasFront (P.held sink.old) text.now (P.held sink.new) }
     ensures failed { OnErr result (Rose (P.faults sink.old) (P.faults sink.new)) }
     ensures sure { P.sure sink.new ≡ P.sure sink.old }

@@ -7,6 +7,9 @@ ghost use Rattle.io_whole.specs.declared.reading.InputError.TheVariants.{OutOfMe
 use io_edge::{Failed, Source};
 use std::alloc::{AllocError, Global};
 
+/// The longest scene, journal, list of calls or script that is read: 16,777,216 bytes.
+pub const LONGEST_INPUT: usize = 16_777_216;
+
 /// Why a source was not read to its end.
 #[derive(Clone, Copy, Debug, PartialEq, Eq, Drop)]
 pub enum InputError {
@@ -53,7 +56,7 @@ pub fn read_all<S: Source>(
     ensures no_fewer { S.faults source.old ≤ S.faults source.new }
 {
     let mut all = Vec::new(alloc);
-    let mut room = [0u8; 4096];
+    let mut room = [0u8; 65_536];
     loop {
         let n = source.take(&mut room)?;
         if n == 0 {

@@ -1,4 +1,3 @@
-pub mod Splits
 pub mod Found
 pub mod Lines
 pub mod LoadLaws

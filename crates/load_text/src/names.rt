@@ -1,13 +1,12 @@
 // The names of a block, in the order in which they were bound.
 ghost use Rattle.std.specs.Prelude.{◌≡◌, [], IfOk};
-ghost use Rattle.std.specs.List.{list_all};
-ghost use Rattle.scene_model.specs.Field.{is_name, is_name_byte, is_lower};
 ghost use Rattle.load_text.specs.Text.{with_name, place_of};
 ghost use Rattle.load_text.specs.SeenReading.{Binds};
 
 use indexmap::IndexSet;
 use std::alloc::{AllocError, Global};
 use std::marker::Model;
+use text_fields::is_name;
 
 /// The names of a block. Each was bound by a create line, the first by the first.
 #[derive(Drop)]
@@ -23,42 +22,6 @@ impl Model for Names {
     ghost Value = { List BoundName };
 
     ghost view = { λ n. map name_seen n.bound.keys };
-}
-
-fn is_lower(byte: u8) -> bool
-    ensures { result ≡ is_lower byte }
-{
-    byte >= b'a' && byte <= b'z'
-}
-
-fn is_name_byte(byte: u8) -> bool
-    ensures { result ≡ is_name_byte byte }
-{
-    is_lower(byte) || (byte >= b'0' && byte <= b'9') || byte == b'_'
-}
-
-fn all_name_bytes(bytes: &[u8]) -> bool
-    ensures { result ≡ list_all is_name_byte bytes.now }
-{
-    bytes.iter().all(|b| is_name_byte(*b))
-}
-
-/// One to 32 bytes: a letter a to z, then letters, digits or `_`.
-fn is_name(field: &[u8]) -> bool
-    ensures { result ≡ is_name field.now }
-{
-    match field {
-        [] => false,
-        [first, rest @ ..] => {
-            if !is_lower(*first) {
-                return false;
-            }
-            if !all_name_bytes(rest) {
-                return false;
-            }
-            rest.len() <= 31
-        }
-    }
 }
 
 impl Names {

@@ -3,16 +3,17 @@ ghost use Rattle.std.specs.Prelude.{◌≡◌, ◌≤◌, ◌<◌, ◌++◌, ◌
 ghost use Rattle.scene_model.specs.Field.{split_at};
 ghost use Rattle.scene_model.specs.Grammar.{on_last, is_skipped};
 ghost use Rattle.load_text.specs.Text as text;
-ghost use Rattle.load_text.specs.Fields.{texts};
+ghost use Rattle.text_fields.specs.Fields.{texts};
 ghost use Rattle.load_text.specs.Seen.{line_seen, block_seen};
 ghost use Rattle.load_text.specs.SeenReading.{stage_seen, reading_seen, Reads};
 
-use crate::fields::{field, has_count, is_word, number, split_fields, when};
+use crate::fields::{has_count, is_word, number, when};
 use crate::load::{Block, BlockLine};
 use crate::names::Names;
 use crate::stages::{Reading, Stage};
 use crate::words::{program_word, uniform_word};
 use std::alloc::{AllocError, Global};
+use text_fields::{field, split_fields};
 
 // A text of at most 16,777,216 bytes has fewer lines.
 const MOST_LINES: usize = 16_777_216;
@@ -316,7 +317,7 @@ impl Reading {
     ) -> Result<bool, AllocError>
         ensures { IfOk result (λ ok. Reads ok (reading_seen self.new) (text.after_fields (stage_seen self.old.stage) (reading_seen self.old) (split_at 32 line.now))) }
     {
-        split_fields(line, fields)?;
+        split_fields(line, b' ', fields)?;
         let stands = self.after_fields(alloc, fields)?;
         Ok(stands)
     }

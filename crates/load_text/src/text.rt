@@ -5,10 +5,10 @@ ghost use Rattle.load_text.specs.Seen.{ReadsLoad};
 ghost use Rattle.load_text.specs.SeenReading.{reading_seen};
 ghost use Rattle.load_text.specs.declared.text.LoadFault.TheVariants.{OutOfMemory};
 
-use crate::fields::find;
 use crate::load::Block;
 use crate::stages::{Reading, Stage};
 use std::alloc::{AllocError, Global};
+use text_fields::find;
 
 /// Why bytes are no load.
 #[derive(Clone, Copy, Debug, PartialEq, Eq, Drop)]

@@ -3,8 +3,8 @@ ghost use Rattle.std.specs.Prelude.{◌≡◌, option_map};
 ghost use Rattle.gfx_words.specs.Kinds.{program_seen, uniform_seen};
 ghost use Rattle.load_text.specs.Text.{program_word, uniform_word};
 
-use crate::fields::is;
 use gfx_words::{ProgramKind, UniformKind};
+use text_fields::is;
 
 /// The kind of a program.
 #[tactic(auto, unfolding(crate::specs::Text::program_word, scene_model::specs::Field::word_in))]

@@ -15,12 +15,12 @@ use Rattle.frame_record.specs.declared.frame.RenderedFrame.{RenderedFrame}
 use Rattle.render_core.specs.Ended.{outcome_then, first_outcome, pictures_seen, texts_seen, counted_with, EndsAs, EndedLaw, KeptLaw}
 use Rattle.render_core.specs.Laws.{frames_seen}
 use Rattle.render_core.specs.Outcomes.{has_ended, is_shown, is_skipped}
-use Rattle.render_core.specs.Put.{HasFront}
+use Rattle.io_whole.specs.Whole.{HasFront}
 use Rattle.render_core.specs.Rendered.{Rendering, IsRendered, AreRendered, rendered_none, rendered_more}
 use Rattle.render_core.specs.Seen.{frame_seen}
 use Rattle.render_core.specs.Shown.{StoresAfter, HeldAfter, TallyAfter, FaultIf}
-use Rattle.render_core.proofs.Pieces.{with_back-with_back, with_back-nothing, rose_after}
-use Rattle.render_core.proofs.Tallies.{counted_both}
+use Rattle.io_whole.proofs.Pieces.{with_back-with_back, with_back-nothing, rose_after}
+use Rattle.io_whole.proofs.Tallies.{counted_both}
 use Rattle.render_core.proofs.Texts.{stores_seen_after, picture_at, text_at, stores_more, pictures_more, texts_more, text_is}
 
 -- ---- the first outcome

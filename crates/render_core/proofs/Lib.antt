@@ -3,12 +3,10 @@ mod EndedFrames
 mod FourPixels
 mod OneWay
 mod Parts
-mod Pieces
 mod Runs
 mod ShownFrames
 mod Shows
 mod Sides
-mod Tallies
 mod Texts
 mod Turns
 mod ViewRuns

@@ -12,7 +12,7 @@ use Rattle.frame_record.specs.declared.frame.Outcome.{Outcome}
 use Rattle.frame_record.specs.declared.frame.Outcome.TheVariants as outcomes
 use Rattle.frame_record.specs.declared.frame.RenderedFrame.{RenderedFrame}
 use Rattle.render_core.specs.Ended.{first_outcome, pictures_seen, texts_seen, EndsAs, HasTexts, TextsLaw}
-use Rattle.render_core.specs.Put.{HasFront}
+use Rattle.io_whole.specs.Whole.{HasFront}
 use Rattle.render_core.specs.Rendered.{Rendering}
 use Rattle.render_core.proofs.EndedFrames.{ended_frames, length_pictures}
 use Rattle.render_core.proofs.Shows.{some_text}

@@ -10,7 +10,7 @@ use Rattle.render_core.specs.Laws.{ShownLaw}
 use Rattle.render_core.specs.Outcomes.{IsShown}
 use Rattle.render_core.specs.Rendered.{Rendering, IsRendered, AreRendered, rendered_none, rendered_more}
 use Rattle.render_core.specs.Seen.{frame_seen}
-use Rattle.render_core.proofs.Pieces.{with_back-with_back, with_back-nothing}
+use Rattle.io_whole.proofs.Pieces.{with_back-with_back, with_back-nothing}
 use Rattle.render_core.proofs.Shows.{stores_if, held_if}
 use Rattle.render_core.proofs.Texts.{stores_seen_after, text_at, stores_more, texts_more, text_is}
 

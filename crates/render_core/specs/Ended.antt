@@ -10,7 +10,7 @@ use Rattle.frame_record.specs.declared.frame.Outcome.TheVariants as outcomes
 use Rattle.frame_record.specs.declared.frame.RenderedFrame.{RenderedFrame}
 use Rattle.render_core.specs.Laws.{frames_seen}
 use Rattle.render_core.specs.Outcomes.{has_ended}
-use Rattle.render_core.specs.Put.{HasFront}
+use Rattle.io_whole.specs.Whole.{HasFront}
 use Rattle.render_core.specs.Rendered.{Rendering, AreRendered}
 
 -- the first of two outcomes that is not Shown, or Shown

@@ -5,7 +5,6 @@ pub mod Lending
 pub mod Lists
 pub mod Needs
 pub mod Outcomes
-pub mod Put
 pub mod Rendered
 pub mod Run
 pub mod Runs

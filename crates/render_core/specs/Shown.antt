@@ -4,7 +4,7 @@ use Rattle.io_edge.specs.Edge.{with_back, counted, Rose}
 use Rattle.store_laws.specs.ByIndex.{Stores, FrameData, frame_by_index}
 use Rattle.frame_record.specs.declared.frame.Outcome.{Outcome}
 use Rattle.frame_record.specs.declared.frame.Outcome.TheVariants as outcomes
-use Rattle.render_core.specs.Put.{HasFront}
+use Rattle.io_whole.specs.Whole.{HasFront}
 
 -- the stores: after want of memory nothing is known of them
 abbrev pub StoresAfter : Outcome → Stores → FrameData → Stores → Type 0

@@ -10,18 +10,18 @@ use frame_record::{Frame, FrameLink, RenderedFrame};
 use frame_swap::{Content, FrameTable, View, back_here, claim_all, give_here, return_here};
 use int_raster::Rasterizer;
 use io_edge::Sink;
+use remembered::Remembered;
 use std::alloc::Global;
-use std::snapshot::Snapshot;
 
 /// A link that renders in `give`, by a rasterizer of its own, and keeps the rendered frames until they are taken back: at most as
-/// many as the latency.
+/// many as the latency. It may go to another thread where its sink and its rasterizer may.
 #[derive(Drop)]
 pub struct InPlaceLink<P: Sink, D> {
     table: FrameTable,
     seat: Seat<Option<Content>, View>,
     renderer: Renderer<P>,
     rasterizer: D,
-    opening: Snapshot<Renderer<P>>,
+    opening: Remembered<Renderer<P>>,
     latency: u8,
     next: u8,
     oldest: u8,
@@ -64,7 +64,7 @@ impl<P: Sink, D: Rasterizer + Drop> InPlaceLink<P, D> {
             return Err(renderer);
         };
         claim_all(&table, &mut seat, latency);
-        let opening = Snapshot::of(&renderer);
+        let opening = Remembered::of(&renderer);
         Ok(InPlaceLink {
             table,
             seat,
@@ -156,4 +156,11 @@ impl<P: Sink, D: Rasterizer + Drop> FrameLink for InPlaceLink<P, D> {
     {
         self.take_oldest()
     }
+}
+
+fn sent<T: Send>(_value: &T) {}
+
+// Has the check show it here: whoever puts a context with this link behind a lock stands on it.
+fn link_may_go<P: Sink + Send, D: Send>(link: &InPlaceLink<P, D>) {
+    sent(link)
 }

@@ -5,7 +5,6 @@ mod in_place;
 pub mod laws;
 mod lists;
 mod outcomes;
-mod output;
 mod picture;
 mod renderer;
 mod running;

@@ -19,13 +19,13 @@ ghost use Rattle.render_core.specs.Shown.{StoresAfter, HeldAfter, TallyAfter, Fa
 
 use crate::lists::Lists;
 use crate::outcomes::Outcomes;
-use crate::output::put_all;
 use crate::picture::PictureText;
 use crate::views::{draw_views, parts_of};
 use frame_record::{Frame, Outcome, RenderedFrame};
 use frame_tracing::{Made, Trace, trace_parts};
 use int_raster::{Rasterizer, Surface};
 use io_edge::Sink;
+use io_whole::put_all;
 use pixel_ops::Pixel;
 use render_stores::{RenderStores, execute_all};
 use std::alloc::{AllocError, Global};

@@ -5,7 +5,7 @@ use gfx_words::{Format, Handle, ProgramKind, Refusal, Room, TexSource, UniformKi
 use vertex_layout::VertexLayout;
 
 /// A call through the lock, with what it was called with.
-#[derive(Debug, Drop)]
+#[derive(PartialEq, Debug, Drop)]
 pub enum ResCall {
     /// `create_layout`.
     CreateLayout {
@@ -130,7 +130,7 @@ pub enum ResReply {
 }
 
 /// A call of a caller: the caller's number, the call's ordinal among the caller's calls, from 0, and how it was answered.
-#[derive(Debug, Drop)]
+#[derive(PartialEq, Debug, Drop)]
 pub struct Entry {
     pub caller: u32,
     pub ordinal: u32,

@@ -4,18 +4,8 @@ ghost use Rattle.scene_model.specs.Field.{split_at};
 ghost use Rattle.scene_model.specs.Grammar.{field, is_skipped};
 ghost use Rattle.dropped_lines.specs.Numbers.{is_order_word, is_numbered, numbers_from, line_numbers};
 
-use memchr::memchr;
 use std::alloc::{AllocError, Global};
-
-// The place of the first separator.
-fn find(bytes: &[u8], separator: u8) -> Option<usize>
-    ensures cases { MatchOption result
-        (split_at separator bytes.now ≡ bytes.now ∷ [])
-        (λ n. (n < length bytes.now) × (split_at separator bytes.now ≡ take n bytes.now ∷ split_at separator (drop (n + 1) bytes.now))) }
-    ensures small { IfSome result (λ n. n < 2 ^ 63) }
-{
-    memchr(separator, bytes)
-}
+use text_fields::{find, is};
 
 // The first field of a line.
 fn first_field(line: &[u8]) -> &[u8]
@@ -25,12 +15,6 @@ fn first_field(line: &[u8]) -> &[u8]
         Some(n) => &line[..n],
         None => line,
     }
-}
-
-fn is(word: &[u8], field: &[u8]) -> bool
-    ensures { result ≡ bytes_eq word.now field.now }
-{
-    word == field
 }
 
 // A word of the order of lines.

@@ -21,11 +21,11 @@ use Rattle.scene_showing.specs.declared.showing.End.{End}
 use Rattle.scene_showing.specs.declared.showing.End.TheVariants as ends
 use Rattle.scene_player.specs.declared.status.Status.{Status}
 use Rattle.scene_player.specs.declared.status.Status.TheVariants as status
-use Rattle.scene_player.specs.Io.{Putting, HasPutFront, IsUntouched}
+use Rattle.io_whole.specs.Runs.{Putting, HasPutFront, IsUntouched}
 use Rattle.scene_player.specs.Noted.{IsNoted, items_of, made_line, notes_text}
 use Rattle.scene_player.specs.Ended.{answer_of, HasPutFirst, IsAnswered, IsCutOff, IsSceneOf, IsShown, IsStarved, ReadsAndShows}
 use Rattle.scene_player.specs.Parts.{making_command}
-use Rattle.scene_player.proofs.Pieces.{with_back-nothing}
+use Rattle.io_whole.proofs.Pieces.{with_back-nothing}
 use Rattle.scene_player.proofs.Serial.{serial-is-lawful}
 
 -- where no key is shared, the pictures are those of one thread

@@ -10,7 +10,7 @@ use Rattle.scene_showing.specs.Showing.{IsCounted}
 use Rattle.scene_player.specs.declared.status.Status.{Status}
 use Rattle.scene_player.specs.declared.status.Status.TheVariants as status
 use Rattle.scene_player.specs.Ended.{CountsPictures, IsSceneOf, IsToldIn, ReadsAndShows}
-use Rattle.scene_player.specs.Io.{AreLeft, Putting, Reading}
+use Rattle.io_whole.specs.Runs.{AreLeft, Putting, Reading}
 use Rattle.scene_player.specs.Noted.{IsNoted}
 use Rattle.scene_player.specs.Parts.{MayRefuse}
 use Rattle.scene_player.proofs.Ends.{told-is}

@@ -12,7 +12,8 @@ use Rattle.command_line_model.specs.Taken.{Mode, play, replay, make, Command}
 use Rattle.command_line_model.specs.Answer.{of_command}
 use Rattle.scene_player.specs.declared.status.Status.{Status}
 use Rattle.scene_player.specs.declared.status.Status.TheVariants as status
-use Rattle.scene_player.specs.Io.{AreLeft, HasFailedToGive, HasFailedToTake, HasMoreThan, IsUnread, Putting, Reading}
+use Rattle.io_whole.specs.Whole.{HasMoreThan}
+use Rattle.io_whole.specs.Runs.{AreLeft, HasFailedToGive, HasFailedToTake, IsUnread, Putting, Reading}
 use Rattle.scene_player.specs.Ended.{answer_of, AreTaken, Ends, EndsAs, EndsIn, IsAnswered, IsBlank, IsGiven, IsReadAndAnswered, IsSceneOf, IsToldIn, ReadsAndShows}
 use Rattle.scene_player.specs.Numbers.{ending_of}
 use Rattle.scene_player.specs.Parts.{IsRefusedWith, showing_command}
@@ -32,7 +33,7 @@ some-left (Some told) = (told, refl)
 
 -- many bytes were left
 long-left : (n : ℕ) (before : Option (List ℕ)) → HasMoreThan n before → (bytes : List ℕ) × AreLeft before bytes × (n < length bytes)
-long-left n before h = go h.rest h.left_is
+long-left n before h = go h.rest h.given
   where
     go : (rest : Option (List ℕ)) → before ≡ with_front h.bytes rest → (bytes : List ℕ) × AreLeft before bytes × (n < length bytes)
     go None e = (h.bytes, subst (λ (o : Option (List ℕ)). AreLeft o h.bytes) (sym e) tt, h.many)

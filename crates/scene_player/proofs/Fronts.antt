@@ -7,7 +7,7 @@ use Rattle.scene_model.specs.Fold.{FramePlan, plans}
 use Rattle.scene_model.specs.Journal.{Journal, serial_from, serial}
 use Rattle.scene_player.specs.declared.status.Status.{Status}
 use Rattle.scene_player.specs.declared.status.Status.TheVariants as status
-use Rattle.scene_player.specs.Io.{Putting}
+use Rattle.io_whole.specs.Runs.{Putting}
 use Rattle.scene_player.specs.Ended.{IsAnswered, IsShown}
 use Rattle.scene_player.specs.Parts.{showing_command, MayRefuse}
 

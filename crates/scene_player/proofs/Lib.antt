@@ -1,7 +1,6 @@
 pub mod NoFault
 pub mod CommandLine
 pub mod CountRead
-pub mod Pieces
 pub mod SerialLaws
 pub mod Serial
 pub mod Reports

@@ -11,7 +11,7 @@ use Rattle.scene_model.specs.Output.{length_line}
 use Rattle.command_line_model.specs.Taken.{Command}
 use Rattle.scene_player.specs.declared.status.Status.{Status}
 use Rattle.scene_player.specs.declared.status.Status.TheVariants as status
-use Rattle.scene_player.specs.Io.{Putting, HasTried}
+use Rattle.io_whole.specs.Runs.{Putting, HasTried}
 use Rattle.scene_player.specs.Numbers.{ending_of}
 use Rattle.scene_player.specs.Ended.{answer_of, IsAnswered, IsBlank, IsRefused}
 use Rattle.scene_player.specs.Parts.{showing_command, IsRefusedWith, MayRefuse, place_of}

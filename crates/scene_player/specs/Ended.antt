@@ -13,7 +13,7 @@ use Rattle.command_line_model.specs.Answer.{in_mode}
 use Rattle.scene_showing.specs.Showing.{HasFirst}
 use Rattle.scene_player.specs.declared.status.Status.{Status}
 use Rattle.scene_player.specs.declared.status.Status.TheVariants as status
-use Rattle.scene_player.specs.Io.{Reading, HasFailedToGive, IsUnread, AreLeft, Putting, HasFailedToTake, IsUntouched, HasPut, HasPutFront, HasTried}
+use Rattle.io_whole.specs.Runs.{Reading, HasFailedToGive, IsUnread, AreLeft, Putting, HasFailedToTake, IsUntouched, HasPut, HasPutFront, HasTried}
 use Rattle.scene_player.specs.Numbers.{ending_of}
 
 -- ---- the scene of a run, and the definition's answer

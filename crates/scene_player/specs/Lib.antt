@@ -1,6 +1,5 @@
 pub mod Numbers
 pub mod Words
-pub mod Io
 pub mod Noted
 pub mod Ended
 pub mod Parts

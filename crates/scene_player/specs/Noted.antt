@@ -7,7 +7,7 @@ use Rattle.scene_showing.specs.declared.showing.End.{End}
 use Rattle.scene_showing.specs.declared.showing.End.TheVariants as ends
 use Rattle.scene_player.specs.declared.status.Status.{Status}
 use Rattle.scene_player.specs.declared.status.Status.TheVariants as status
-use Rattle.scene_player.specs.Io.{Putting, HasFailedToTake, IsUntouched, HasPut, HasPutFront}
+use Rattle.io_whole.specs.Runs.{Putting, HasFailedToTake, IsUntouched, HasPut, HasPutFront}
 
 -- the lines of all frames, from their numbers of items and of dropped lines, and the journal's text where it is asked for
 abbrev pub notes_text : List (ℕ × ℕ) → Journal → (with_journal : Bool) → List ℕ

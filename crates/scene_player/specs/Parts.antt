@@ -10,7 +10,7 @@ use Rattle.scene_text.specs.Seen.{journal_seen}
 use Rattle.command_line_model.specs.Taken.{play, replay, make, Command}
 use Rattle.scene_player.specs.declared.status.Status.{Status}
 use Rattle.scene_player.specs.declared.status.Status.TheVariants as status
-use Rattle.scene_player.specs.Io.{Putting, IsUntouched, HasTried}
+use Rattle.io_whole.specs.Runs.{Putting, IsUntouched, HasTried}
 use Rattle.scene_player.specs.Ended.{IsBlank}
 
 -- the command that shows an input, by its own journal or by one that follows it

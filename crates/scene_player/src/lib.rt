@@ -1,11 +1,9 @@
 //! Runs the program: from its words and the bytes that it reads to the bytes of its pictures and notes.
 #![tactic(auto)]
 
-mod input;
 pub mod laws;
 mod notes;
 mod noting;
-mod output;
 mod played;
 mod run;
 mod showing;

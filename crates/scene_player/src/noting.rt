@@ -2,14 +2,14 @@
 ghost use Rattle.std.specs.Prelude.{◌≡◌, ◌≤◌, map, length};
 ghost use Rattle.scene_text.specs.Seen.{journal_seen};
 ghost use Rattle.scene_playing.specs.Frames.{note_seen};
-ghost use Rattle.scene_player.specs.Io.{putting};
+ghost use Rattle.io_whole.specs.Runs.{putting};
 ghost use Rattle.scene_player.specs.Noted.{IsNoted, items_of, made_line, notes_text};
 
 use crate::notes::{made_notes, scene_notes};
-use crate::output::put_all;
 use crate::played::Played;
 use crate::status::Status;
 use io_edge::Sink;
+use io_whole::put_all;
 use scene_playing::FrameNote;
 use scene_showing::{End, Showing};
 use scene_text::Journal;

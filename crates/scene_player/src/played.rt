@@ -2,13 +2,13 @@
 ghost use Rattle.std.specs.Prelude.{◌≡◌, ◌≤◌, []};
 ghost use Rattle.scene_model.specs.Output.{scene_line, journal_refusal_line};
 ghost use Rattle.scene_text.specs.Seen.{journal_seen};
-ghost use Rattle.scene_player.specs.Io.{putting};
+ghost use Rattle.io_whole.specs.Runs.{putting};
 ghost use Rattle.scene_player.specs.Parts.{IsRefusedWith, MayRefuse};
 
 use crate::notes::{journal_refused, scene_refused};
-use crate::output::put_all;
 use crate::status::Status;
 use io_edge::Sink;
+use io_whole::put_all;
 use scene_text::{Journal, Sequence};
 use std::alloc::Global;
 

@@ -7,16 +7,16 @@ ghost use Rattle.scene_text.specs.Seen.{journal_seen};
 ghost use Rattle.command_line_model.specs.Taken.{Command, taken};
 ghost use Rattle.command_line_model.specs.Answer.{answer};
 ghost use Rattle.scene_player.specs.Ended.{AreTaken, CountsPictures, Ends, EndsAs, IsGiven, IsReadAndAnswered, IsSceneOf, IsToldIn, ReadsAndShows};
-ghost use Rattle.scene_player.specs.Io.{putting, reading};
+ghost use Rattle.io_whole.specs.Runs.{putting, reading};
 ghost use Rattle.scene_player.specs.Parts.{showing_command};
 
-use crate::input::{InputError, read_all};
 use crate::notes::{TOO_LONG, USAGE};
 use crate::played::{Played, blank, refuse};
 use crate::showing::{make, play_bytes, replay_bytes};
 use crate::status::Status;
 use crate::words::{Mode, read_words};
 use io_edge::{Gate, Sink, Source};
+use io_whole::{InputError, LONGEST_INPUT, read_all};
 use std::alloc::Global;
 use std::sync::Wait;
 use std::thread::Threads;
@@ -42,7 +42,7 @@ fn show_source<R: Threads + Wait + Sync, S: Source, P: Sink + Send + Drop, N: Si
     ensures sure { (P.sure result.pictures ≡ P.sure pictures) × (N.sure notes.new ≡ N.sure notes.old) }
     ensures no_fewer { (S.faults source.old ≤ S.faults source.new) × (P.faults pictures ≤ P.faults result.pictures) × (N.faults notes.old ≤ N.faults notes.new) }
 {
-    match read_all(alloc, source) {
+    match read_all(alloc, source, LONGEST_INPUT) {
         Ok(bytes) => {
             if is_replay {
                 return replay_bytes(rt, gate, alloc, with_journal, &bytes, pictures, notes);

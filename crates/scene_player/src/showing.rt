@@ -9,7 +9,7 @@ ghost use Rattle.spelling_model.specs.Readable.{IsReadable};
 ghost use Rattle.scene_text.specs.Bounds.{IsBounded};
 ghost use Rattle.scene_text.specs.Seen.{journal_seen, scene_seen};
 ghost use Rattle.scene_player.specs.Ended.{CountsPictures, EndsAs, IsAnswered, IsSceneOf, answer_of};
-ghost use Rattle.scene_player.specs.Io.{HasFailedToTake, putting};
+ghost use Rattle.io_whole.specs.Runs.{HasFailedToTake, putting};
 ghost use Rattle.scene_player.specs.Parts.{ReadsLawful, making_command, showing_command};
 ghost use Rattle.scene_player.specs.Words.{IsCount};
 

@@ -22,7 +22,7 @@ use Rattle.frame_record.specs.declared.frame.RenderedFrame.{RenderedFrame}
 use Rattle.frame_record.specs.Links.{frames_of}
 use Rattle.render_core.specs.Ended.{TextsLaw, KeptLaw, pictures_seen, counted_with}
 use Rattle.render_core.specs.Laws.{frames_seen}
-use Rattle.render_core.specs.Put.{HasFront}
+use Rattle.io_whole.specs.Whole.{HasFront}
 use Rattle.render_core.specs.Seen.{frame_seen}
 
 -- the laws that are used

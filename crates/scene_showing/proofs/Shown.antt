@@ -20,7 +20,7 @@ use Rattle.frame_record.specs.declared.frame.Outcome.TheVariants as outcomes
 use Rattle.frame_record.specs.declared.frame.RenderedFrame.{RenderedFrame}
 use Rattle.render_core.specs.Ended.{HasTexts, pictures_seen, counted_with}
 use Rattle.render_core.specs.Outcomes.{has_ended}
-use Rattle.render_core.specs.Put.{HasFront}
+use Rattle.io_whole.specs.Whole.{HasFront}
 use Rattle.render_core.specs.Rendered.{Rendering}
 use Rattle.scene_playing.specs.Frames.{AreEnded}
 use Rattle.scene_showing.specs.Rendered.{IsNew, AreShown}

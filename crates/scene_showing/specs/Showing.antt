@@ -6,7 +6,7 @@ use Rattle.scene_model.specs.Fold.{plans}
 use Rattle.scene_model.specs.Journal.{Journal, IsLawful, IsLawfulFront, pictures}
 use Rattle.scene_model.specs.Output.{picture_text, pictures_text}
 use Rattle.scene_progress.specs.Notes.{noted_of}
-use Rattle.render_core.specs.Put.{HasFront}
+use Rattle.io_whole.specs.Whole.{HasFront}
 use Rattle.frame_record.specs.declared.frame.Outcome.{Outcome}
 use Rattle.frame_record.specs.declared.frame.Outcome.TheVariants as outcomes
 use Rattle.scene_showing.specs.declared.showing.End.{End}

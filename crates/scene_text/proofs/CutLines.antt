@@ -12,7 +12,7 @@ use lib.Lanes.{chunk, mask_l, top}
 use Rattle.scene_model.specs.Field.{split_at}
 use Rattle.scene_model.specs.Grammar.{Field, is_text_byte}
 use Rattle.scene_model.proofs.SplitLaws.{is_free_of, split-none}
-use Rattle.scene_text.proofs.Splits.{split_found}
+use Rattle.text_fields.proofs.Splits.{split_found}
 use Rattle.scene_text.specs.Cuts.{is_visible, AreVisible, AreMarks, IsCut, IsOpen, IsLine, IsPending}
 
 -- ---- marks

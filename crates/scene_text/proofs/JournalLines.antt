@@ -16,7 +16,7 @@ use Rattle.scene_model.specs.TextLaws.{IsSpellable}
 use Rattle.gfx_words.specs.declared.journal.JournalEntry.{JournalEntry}
 use Rattle.scene_text.specs.Seen.{entry_seen}
 use Rattle.scene_text.specs.declared.journal.JournalFault.{JournalFault}
-use Rattle.scene_text.specs.Fields.{texts}
+use Rattle.text_fields.specs.Fields.{texts}
 use Rattle.scene_text.specs.Journals.{behind_frames, entry_count, IsOnePiece, Passes}
 use Rattle.scene_text.proofs.Lines.{parts}
 

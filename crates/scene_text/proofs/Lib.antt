@@ -1,4 +1,3 @@
-pub mod Splits
 pub mod Pairs
 pub mod Found
 pub mod Lasts

@@ -6,7 +6,6 @@ pub mod Gives
 pub mod Reads
 pub mod Digits
 pub mod Cuts
-pub mod Fields
 pub mod Names
 pub mod SeenNames
 pub mod Spelled

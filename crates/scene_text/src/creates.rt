@@ -1,6 +1,6 @@
 // The forms of lines that bind a name.
 ghost use Rattle.scene_model.specs.Grammar.{layout_form, vertex_buffer_form, index_buffer_form, texture_form, frame_buffer_form, program_form, uniform_form};
-ghost use Rattle.scene_text.specs.Fields.{texts};
+ghost use Rattle.text_fields.specs.Fields.{texts};
 ghost use Rattle.scene_text.specs.Gives.{MayGive};
 ghost use Rattle.scene_text.specs.Seen.{resource_line_seen};
 ghost use Rattle.scene_model.specs.Grammar.{whole_language};

@@ -3,7 +3,7 @@ ghost use Rattle.std.specs.Prelude.{◌≡◌, [], ◌∷◌};
 ghost use Rattle.gfx_words.specs.Kinds.{value_seen};
 ghost use Rattle.scene_model.specs.Grammar.{encoder_form, set_form, submit_form, blit_form, uniform_value_of};
 ghost use Rattle.scene_model.specs.Grammar as model;
-ghost use Rattle.scene_text.specs.Fields.{texts};
+ghost use Rattle.text_fields.specs.Fields.{texts};
 ghost use Rattle.scene_text.specs.Gives.{Gives, MayGive};
 ghost use Rattle.scene_text.specs.Seen.{encoder_line_seen};
 ghost use Rattle.scene_text.specs.SeenWords.{word_seen};

@@ -3,7 +3,7 @@ ghost use Rattle.std.specs.Prelude.{◌≡◌, true};
 ghost use Rattle.std.specs.List.{list_any};
 ghost use Rattle.scene_model.specs.Grammar.{field, has_count, has_count_from, has_field, are_filled, is_empty_field};
 ghost use Rattle.scene_text.specs.Gives.{Gives};
-ghost use Rattle.scene_text.specs.Fields.{texts};
+ghost use Rattle.text_fields.specs.Fields.{texts};
 
 use crate::fault::Cause;
 

@@ -10,10 +10,10 @@ ghost use Rattle.scene_model.specs.Grammar.{whole_language};
 use crate::fault::SceneFault;
 use crate::reading::Reading;
 use crate::scene::Scene;
-use crate::splitting::find;
 use crate::stages::is_at_end;
 use crate::text::{at, at_last_piece, scene};
 use std::alloc::Global;
+use text_fields::find;
 
 /// What `read_front` answers.
 fn read_to_done(alloc: Global, bytes: &[u8]) -> Result<(Scene, usize), SceneFault>

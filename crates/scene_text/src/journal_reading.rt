@@ -4,18 +4,18 @@ ghost use Rattle.scene_model.specs.Journal as model;
 ghost use Rattle.scene_model.specs.JournalText.{number_within, entry_field, entries_in, entries_behind, entries_of_line, after_line, journal_pieces, at_last_piece, journal_of};
 ghost use Rattle.scene_model.specs.TextLaws.{IsSpellable};
 ghost use Rattle.std.specs.List.{AllByRecursion};
-ghost use Rattle.scene_text.specs.Fields.{texts};
+ghost use Rattle.text_fields.specs.Fields.{texts};
 ghost use Rattle.scene_text.specs.Seen.{entry_seen, journal_seen};
 ghost use Rattle.scene_text.specs.Journals.{ReadsJournal, Passes, entry_count, behind_frames, entries_seen, frames_read, IsOnePiece};
 
 use crate::journal::{Journal, JournalFault};
-use crate::numbers::{is_numeral, value_to};
+use crate::numbers::value_to;
 use crate::reading::is_skipped;
 use crate::sequence::Sequence;
-use crate::splitting::{find, split_fields};
 use crate::words::is;
 use gfx_words::JournalEntry;
 use std::alloc::{AllocError, Global};
+use text_fields::{find, is_numeral, split_fields};
 
 /// The entries of a line up to the first field that is none, and whether there is no such field.
 #[derive(Drop)]

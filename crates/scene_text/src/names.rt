@@ -2,8 +2,7 @@
 ghost use Rattle.std.specs.Prelude.{◌≡◌, ◌<◌, ◌^◌, [], map, length, IfOk, true, Ok};
 ghost use Rattle.scene_model.specs.Grammar.{text_of};
 ghost use Rattle.scene_text.specs.Seen.{name_seen};
-ghost use Rattle.std.specs.List.{list_all};
-ghost use Rattle.scene_model.specs.Field.{used_name, optional_name, create_name, is_name, find_name, is_name_byte, is_lower};
+ghost use Rattle.scene_model.specs.Field.{used_name, optional_name, create_name, is_name, find_name};
 ghost use Rattle.scene_text.specs.Gives.{Gives, MayGive};
 ghost use Rattle.scene_text.specs.Names.{only_place};
 
@@ -14,6 +13,7 @@ use crate::words::is;
 use indexmap::IndexMap;
 use std::alloc::{AllocError, Global};
 use std::marker::Model;
+use text_fields::is_name;
 
 // How many names there are at most.
 const MOST: usize = 4_294_967_295;
@@ -40,41 +40,6 @@ impl Model for Names {
     ghost view = { λ n. map bound_name n.bound.entries };
 
     ghost invariant = { λ n. index_map_len n.bound ≤ 4294967295 };
-}
-
-fn is_lower(byte: u8) -> bool
-    ensures { result ≡ is_lower byte }
-{
-    byte >= b'a' && byte <= b'z'
-}
-
-fn is_name_byte(byte: u8) -> bool
-    ensures { result ≡ is_name_byte byte }
-{
-    is_lower(byte) || (byte >= b'0' && byte <= b'9') || byte == b'_'
-}
-
-fn all_name_bytes(bytes: &[u8]) -> bool
-    ensures { result ≡ list_all is_name_byte bytes.now }
-{
-    bytes.iter().all(|b| is_name_byte(*b))
-}
-
-fn is_name(field: &[u8]) -> bool
-    ensures { result ≡ is_name field.now }
-{
-    match field {
-        [] => false,
-        [first, rest @ ..] => {
-            if !is_lower(*first) {
-                return false;
-            }
-            if !all_name_bytes(rest) {
-                return false;
-            }
-            rest.len() <= 31
-        }
-    }
 }
 
 /// A small number of a name's spelling: not the same for most names that are used together.

@@ -6,29 +6,7 @@ ghost use Rattle.scene_model.specs.Field.{is_digit, is_numeral, value_onto, numb
 ghost use Rattle.scene_text.specs.Gives.{Gives};
 
 use crate::fault::Cause;
-
-fn is_digit(byte: u8) -> bool
-    ensures { result ≡ is_digit byte }
-{
-    byte >= b'0' && byte <= b'9'
-}
-
-fn all_digits(bytes: &[u8]) -> bool
-    ensures { result ≡ list_all is_digit bytes.now }
-{
-    bytes.iter().all(|b| is_digit(*b))
-}
-
-/// Whether a field is spelled as a number: digits without a leading zero.
-pub fn is_numeral(field: &[u8]) -> bool
-    ensures { result ≡ is_numeral field.now }
-{
-    match field {
-        [] => false,
-        [only] => is_digit(*only),
-        [first, rest @ ..] => is_digit(*first) && *first != b'0' && all_digits(rest),
-    }
-}
+use text_fields::{is_digit, is_numeral};
 
 /// The value of digits, up to `high`.
 pub fn value_to(digits: &[u8], high: u32) -> Option<u32>

@@ -1,7 +1,7 @@
 // The parts of a layout.
 ghost use Rattle.std.specs.Prelude.{drop, map};
 ghost use Rattle.scene_model.specs.Field.{read_all, part_field, part_of_pieces, skip_piece, attribute_piece};
-ghost use Rattle.scene_text.specs.Fields.{texts};
+ghost use Rattle.text_fields.specs.Fields.{texts};
 ghost use Rattle.scene_text.specs.Gives.{Gives, MayGive};
 ghost use Rattle.scene_text.specs.Seen.{part_seen};
 
@@ -10,9 +10,9 @@ use crate::fields::field;
 use crate::numbers::number;
 use crate::scene::LayoutPart;
 use crate::sequence::Sequence;
-use crate::splitting::split_fields;
 use crate::words::{attribute_word, component_word, is};
 use std::alloc::Global;
+use text_fields::split_fields;
 
 #[tactic(auto, unfolding(scene_model::specs::Field::skip_piece))]
 fn skip_piece(pieces: &[&[u8]]) -> Result<LayoutPart, Cause>

@@ -5,7 +5,7 @@ ghost use Rattle.scene_model.specs.Field.{split_at};
 ghost use Rattle.scene_model.specs.Scene.{newest_version, views_in};
 ghost use Rattle.scene_model.specs.Grammar as model;
 ghost use Rattle.scene_text.specs.Cuts.{IsSplit};
-ghost use Rattle.scene_text.specs.Fields.{texts};
+ghost use Rattle.text_fields.specs.Fields.{texts};
 ghost use Rattle.scene_text.specs.Gives.{Gives, MayGive};
 ghost use Rattle.scene_text.specs.Seen.{room_seen, resource_line_seen, frame_seen};
 ghost use Rattle.scene_text.specs.SeenReading.{stage_seen, reading_seen};
@@ -18,16 +18,16 @@ use crate::fault::{Cause, LineFault};
 use crate::fields::{are_filled, field, has_count};
 use crate::frames::{add_before, add_beside, add_block, add_encoder_line, add_frame, last_encoder};
 use crate::names::Names;
-use crate::numbers::{is_numeral, number, u8_number, value_to};
+use crate::numbers::{number, u8_number, value_to};
 use crate::resource_lines::resource_line;
 use crate::scene::{ResLine, SceneFrame};
-use crate::splitting::split_fields;
 use crate::stages::{Stage, can_stand};
 use crate::words::{Word, is, line_word};
 use gfx_words::{
     FEWEST_VIEWS, MOST_ROOM_BYTES, MOST_ROOM_ITEMS, MOST_ROOM_UNIFORMS, MOST_VIEWS, Room,
 };
 use std::alloc::{AllocError, Global};
+use text_fields::{is_numeral, split_fields};
 
 /// The newest version of scenes that is read.
 const NEWEST: u8 = 2;

@@ -1,7 +1,7 @@
 // Resource and view lines.
 ghost use Rattle.std.specs.Prelude.{◌≤◌};
 ghost use Rattle.scene_model.specs.Grammar.{resource_form};
-ghost use Rattle.scene_text.specs.Fields.{texts};
+ghost use Rattle.text_fields.specs.Fields.{texts};
 ghost use Rattle.scene_text.specs.Gives.{MayGive};
 ghost use Rattle.scene_text.specs.Seen.{resource_line_seen};
 ghost use Rattle.scene_text.specs.SeenWords.{word_seen};

@@ -1,6 +1,6 @@
 // The forms of lines that change or destroy what a name stands for.
 ghost use Rattle.scene_model.specs.Grammar.{update_form, texel_update_form, destroy_form};
-ghost use Rattle.scene_text.specs.Fields.{texts};
+ghost use Rattle.text_fields.specs.Fields.{texts};
 ghost use Rattle.scene_text.specs.Gives.{Gives, MayGive};
 ghost use Rattle.scene_text.specs.Seen.{resource_line_seen};
 

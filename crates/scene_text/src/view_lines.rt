@@ -2,7 +2,7 @@
 ghost use Rattle.std.specs.Prelude.{◌≤◌};
 ghost use Rattle.view_table.specs.Seen.{clear_seen};
 ghost use Rattle.scene_model.specs.Grammar.{clear_fields, setting_form, view_form, order_form};
-ghost use Rattle.scene_text.specs.Fields.{texts};
+ghost use Rattle.text_fields.specs.Fields.{texts};
 ghost use Rattle.scene_text.specs.Gives.{Gives, MayGive};
 ghost use Rattle.scene_text.specs.Seen.{resource_line_seen};
 ghost use Rattle.scene_text.specs.SeenWords.{setting_seen};

@@ -5,6 +5,7 @@ ghost use Rattle.spelling_model.specs.FieldSpelling.{hex_digit, hex_pair, color_
 ghost use Rattle.pixel_ops.specs.Seen.{pixel_seen};
 ghost use Rattle.pixel_strokes.specs.Seen.{fate_seen, stroke_seen};
 ghost use Rattle.trace_laws.specs.Text.{doer_text, fate_text, pixel_text, stroke_text, word_text};
+ghost use Rattle.trace_lines.specs.Numbered.{number_text};
 ghost use Rattle.trace_lines.specs.Seen.{doer_seen};
 
 use crate::doers::Doer;
@@ -110,6 +111,17 @@ pub(crate) fn put_doer(text: &mut Vec<u8>, doer: Option<Doer>) -> Result<(), All
         Some(Doer::Clear { view }) => put_view(text, view),
         Some(Doer::Item { view, entry }) => { put_item(text, view, entry.encoder, entry.ordinal) }
     }
+}
+
+/// Puts the number of a line, where it is known.
+pub(crate) fn put_line_number(text: &mut Vec<u8>, line: Option<u32>) -> Result<(), AllocError>
+    ensures { IfOk result (λ _. text.new.items ≡ text.old.items ++ number_text line) }
+{
+    if let Some(line) = line {
+        text.extend_from_slice(b" line ")?;
+        put_number(text, line as u64)?;
+    }
+    Ok(())
 }
 
 /// Puts the number, the colour and the depth of a triangle's fragment.

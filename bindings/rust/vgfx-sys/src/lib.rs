@@ -433,6 +433,8 @@ unsafe extern "C" {
     pub fn vgfx_encoder_set_int(encoder: *mut vgfx_encoder, uniform: vgfx_id, value: i32) -> vgfx_status;
     /// Records a draw with the current state and the uniform values, and resets the parts that `discard` names (VGFX_DISCARD_BINDINGS | ..).
     pub fn vgfx_encoder_submit(encoder: *mut vgfx_encoder, view: u16, program: vgfx_id, depth: u32, discard: u8) -> vgfx_status;
+    /// Resets the parts of the state for the next draw that `discard` names (VGFX_DISCARD_BINDINGS | ..), as they are where an encoder begins.
+    pub fn vgfx_encoder_discard(encoder: *mut vgfx_encoder, discard: u8) -> vgfx_status;
     /// Records an empty primitive with the uniform values, so that the view is entered, and resets all as VGFX_DISCARD_ALL.
     pub fn vgfx_encoder_touch(encoder: *mut vgfx_encoder, view: u16) -> vgfx_status;
     /// Records a copy of a region between textures of one format.

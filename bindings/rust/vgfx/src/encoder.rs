@@ -117,6 +117,12 @@ impl Encoder<'_> {
         self.call(|encoder| unsafe { sys::vgfx_encoder_submit(encoder, view, program.id(), depth, discard.0) })
     }
 
+    /// Forgets the parts of the state for the next draw that `discard` names; uniform values that were set stay. Nothing is recorded.
+    pub fn discard(&mut self, discard: Discard) -> Result<(), Error> {
+        // SAFETY: as above.
+        self.call(|encoder| unsafe { sys::vgfx_encoder_discard(encoder, discard.0) })
+    }
+
     /// Records an empty primitive, so that the view is entered and cleared, and forgets all. [`Error::BadView`], [`Error::RoomFull`].
     pub fn touch(&mut self, view: u16) -> Result<(), Error> {
         // SAFETY: as above.

@@ -125,8 +125,11 @@ fn pixels_are_read_with_a_stride() -> Result<(), Error> {
             ..BLACK
         },
     )?;
-    let mut encoder = context.begin(Room::of_items(1))?;
-    encoder.touch(0)?;
+    let (vertices, program) = made(&context, [0; 4])?;
+    let mut encoder = context.begin(Room::of_items(2))?;
+    encoder.set_vertices(vertices, 0, 6)?;
+    encoder.discard(Discard::ALL)?;
+    encoder.submit(0, program, 0, Discard::ALL)?;
     encoder.end(3)?;
     assert_eq!(context.frame_unseen()?, FrameReport { number: 0, dropped: 3 });
     context.read_pixels(Some(texture), Pixels::Bgra8, &mut read, 6)?;

@@ -1,7 +1,7 @@
 use Rattle.std.proofs.Common.{◌∙◌, ap, map, refl, Some, drop}
 use Rattle.std.specs.Prelude.{string_bytes}
 use Rattle.scene_text.specs.Seen.{journal_seen}
-use Rattle.scene_player.specs.Io.{putting, reading}
+use Rattle.io_whole.specs.Runs.{putting, reading}
 use Rattle.gfx_capture.proofs.Played.{played-into}
 use Rattle.gfx_capture.proofs.Sinks.{never-rose, sound-sink}
 use Rattle.gfx_capture.proofs.Recorded.{sized}

@@ -1,6 +1,6 @@
 use Rattle.std.proofs.Common.{refl, sym}
 use Rattle.scene_text.specs.Seen.{journal_seen}
-use Rattle.scene_player.specs.Io.{putting}
+use Rattle.io_whole.specs.Runs.{putting}
 use Rattle.gfx_capture.specs.Ended.{HasGiven}
 use Rattle.gfx_capture.specs.Filmed.{film_of}
 use Rattle.gfx_capture.proofs.Recorded.{are-texts, done-ends, film-is, noted-ends, other-ends, starved-ends}

@@ -1,5 +1,5 @@
 use Rattle.std.proofs.Common.{None}
-use Rattle.scene_player.specs.Io.{reading}
+use Rattle.io_whole.specs.Runs.{reading}
 use Rattle.scene_player.proofs.Ends.{as-defined, as-refused}
 use Rattle.scene_player.proofs.Fronts.{whole_serial}
 use Rattle.scene_player.proofs.showing.play_bytes_here.Goals as goal

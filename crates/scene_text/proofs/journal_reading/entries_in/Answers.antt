@@ -1,7 +1,7 @@
 use Rattle.std.proofs.Common.{◌≡◌, ◌<◌, ◌+◌, length, map, drop, ap, sym, ◌∙◌, arith}
 use Rattle.std.proofs.lemmas.List.{length-map, map_push}
 use Rattle.scene_model.specs.JournalText.{entry_field, entries_in}
-use Rattle.scene_text.specs.Fields.{texts}
+use Rattle.text_fields.specs.Fields.{texts}
 use Rattle.scene_text.specs.Seen.{entry_seen}
 use Rattle.scene_text.proofs.JournalLines.{entries_after, entry_next, entry_stops, text_at}
 use Rattle.scene_text.proofs.journal_reading.entries_in.Goals as goal

@@ -1,6 +1,6 @@
 use Rattle.std.proofs.Common.{◌≡◌, drop, map}
 use Rattle.scene_model.specs.JournalText.{entries_in}
-use Rattle.scene_text.specs.Fields.{texts}
+use Rattle.text_fields.specs.Fields.{texts}
 use Rattle.scene_text.specs.Seen.{entry_seen}
 use Rattle.scene_text.proofs.JournalLines.{entries_after}
 use Rattle.scene_text.proofs.journal_reading.entries_in.Given as goal

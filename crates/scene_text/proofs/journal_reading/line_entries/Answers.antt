@@ -1,6 +1,6 @@
 use Rattle.std.proofs.Common.{ap, ◌∙◌}
 use Rattle.scene_model.specs.JournalText.{entries_behind}
-use Rattle.scene_text.specs.Fields.{texts}
+use Rattle.text_fields.specs.Fields.{texts}
 use Rattle.scene_text.proofs.JournalLines.{line_few}
 use Rattle.scene_text.proofs.journal_reading.line_entries.Goals as goal
 

@@ -2,7 +2,7 @@ use Rattle.std.proofs.Common.{◌≡◌, ◌+◌, length, ap, sym, ◌∙◌, ar
 use Rattle.std.proofs.lemmas.Int.{to_z-of_z}
 use Rattle.std.proofs.lemmas.List.{take_more_set, length-map}
 use Rattle.scene_model.specs.Field.{i32_number}
-use Rattle.scene_text.specs.Fields.{texts}
+use Rattle.text_fields.specs.Fields.{texts}
 use Rattle.scene_text.proofs.Pairs.{number_more, all_read}
 use Rattle.scene_text.proofs.lists.transform.Goals as goal
 

@@ -1,6 +1,6 @@
 use Rattle.std.proofs.Common.{◌≡◌, drop}
 use Rattle.scene_model.specs.Field.{read_all, u16_number}
-use Rattle.scene_text.specs.Fields.{texts}
+use Rattle.text_fields.specs.Fields.{texts}
 use Rattle.scene_text.proofs.Pairs.{with_front}
 use Rattle.scene_text.proofs.lists.u16_numbers.Given as goal
 

@@ -1,6 +1,6 @@
 use Rattle.std.proofs.Common.{◌≡◌, drop, map}
 use Rattle.scene_model.specs.Field.{read_all, part_field}
-use Rattle.scene_text.specs.Fields.{texts}
+use Rattle.text_fields.specs.Fields.{texts}
 use Rattle.scene_text.specs.Seen.{part_seen}
 use Rattle.scene_text.proofs.Pairs.{with_front}
 use Rattle.scene_text.proofs.parts.parts_from.Given as goal

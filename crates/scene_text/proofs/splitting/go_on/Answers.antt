@@ -1,6 +1,6 @@
 use Rattle.std.proofs.Common.{◌+◌, ap, sym, subst, ◌∙◌, arith}
 use Rattle.std.proofs.lemmas.List.{map_push}
-use Rattle.scene_text.specs.Fields.{texts}
+use Rattle.text_fields.specs.Fields.{texts}
 use Rattle.scene_text.specs.Cuts.{IsCut, IsLine}
 use Rattle.scene_text.proofs.CutLines.{pending_first, pending_visible, pending_more, pending_over, cut_more, cut_line}
 use Rattle.scene_text.proofs.splitting.go_on.Goals as goal

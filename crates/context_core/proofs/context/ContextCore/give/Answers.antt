@@ -25,7 +25,7 @@ invariant_of-self c =
     let last : c.self.inside.book.resources.frame < 1073741823 = subst (λ (o : CoreView). o.state.book.resources.frame < 1073741823) (sym c.self.view_is) (not_last c.args.self.now.state c.requires.accepted) in (
       search rules,
       c.self.invariant.1,
-      kept_given anything c.self.inside.views _ c.self.invariant.2 c.replace-recordings.new.dest.items (ap (λ x. x.items) c.replace-recordings.ensures.after ∙ c.requires.room.0) none last few,
+      kept_given anything c.self.inside.views _ c.self.invariant.2 c.replace-recordings.new.dest.items (ap (λ x. x.items) c.replace-recordings.ensures.after ∙ c.requires.room.0) _ none last few,
     )
 
 pub returns : goal.returns
@@ -37,3 +37,4 @@ returns c =
     (as_gathered anything c.self.inside.views (api_view c.self.inside.api) c.self.inside.begun c.self.inside.gathered.items c.self.inside.is_given still c.self.invariant.2.gathered)
     (f.number ∙ c.frame-number.ensures.frame) vs f.commands.0 f.commands.1 f.payloads
     (ap (λ x. x.items) (f.recordings ∙ c.replace-recordings.ensures.value)) (ap (λ x. map entry_seen x.items) f.journal ∙ c.requires.journal ∙ ap (λ (o : CoreView). collected (recordings_seen o.state.gathered)) (sym c.self.view_is)) _ c.self.view_is
+    _ (λ j. record { seat = api_view (c.of-last.ensures.seat j); recordings = (c.of-last.ensures.recordings j).items })

@@ -7,4 +7,4 @@ pub invariant_of-result : goal.invariant_of-result
 invariant_of-result c =
     let p = c.in-Ok.ensures in
     let l = c.requires.latency in
-    (p.2, c.requires.views, kept_new_at anything c.args.start c.in-Ok.book (api_view c.args.seat) c.in-Ok.gathered.items p.0 c.requires.seat p.1 c.requires.frame c.requires.serial l.0 l.1)
+    (p.2, c.requires.views, kept_new_at anything c.args.start c.in-Ok.book (api_view c.args.seat) c.in-Ok.gathered.items _ p.0 c.requires.seat p.1 c.requires.frame c.requires.serial l.0 l.1)

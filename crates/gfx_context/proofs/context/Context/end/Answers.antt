@@ -3,6 +3,7 @@ use Rattle.frame_record.specs.Seen.{entry_seen}
 use Rattle.context_core.specs.States.{CoreView}
 use Rattle.gfx_context.specs.declared.report.FrameReport.{FrameReport}
 use Rattle.gfx_context.specs.States.{ContextView, context_of}
+use Rattle.gfx_context.proofs.Drawn.{drawn_told}
 use Rattle.gfx_context.proofs.Finish.{ends_told, not_spent}
 use Rattle.gfx_context.proofs.context.Context.end.Goals as goal
 
@@ -19,3 +20,6 @@ returns-clause-answer g c =
     ends_told v one c.make_way-back.new.self c.finish-told.new.self c.in-Ok.prepared report
     (record { number = c.frame_number-number.ensures.same; journal = ap (λ x. map entry_seen x.items) c.finish-told.ensures.told ∙ ready.prepared.told; dropped = c.dropped-dropped.ensures; given = c.was_shown-given.ensures })
     (not_spent v ready.accepted) (ap (λ (x : CoreView). context_of x.state given back link) ready.after) ready.prepared way.back way.out way.same c.finish-told.ensures.finishes c.args.self.now c.self.view_is
+
+pub returns-clause-drawn : goal.returns-clause-drawn
+returns-clause-drawn g c = drawn_told _ c.args.self.now c.finish-told.new.self (returns-clause-answer g c)

@@ -1,7 +1,7 @@
 use Rattle.std.proofs.Common.{◌≡◌, length, ap, ◌∙◌, arith}
 use Rattle.scene_model.specs.Field.{split_at}
 use Rattle.scene_model.specs.Grammar.{field}
-use Rattle.gfx_query.specs.Fields.{texts}
+use Rattle.text_fields.specs.Fields.{texts}
 use Rattle.gfx_query.proofs.Lines.{parts_short}
 use Rattle.gfx_query.proofs.stages.Reading.after_text.Goals as goal
 

@@ -1,6 +1,0 @@
-use Rattle.std.proofs.Common.{arith}
-use Rattle.gfx_query.proofs.Splits.{above}
-use Rattle.gfx_query.proofs.fields.value_to.Goals as goal
-
-pub returns-then-value-from : goal.returns-then-value-from
-returns-then-value-from c = above c.args.high c.loop-digit.value c.args.digits.now c.loop-digit.digit-index _ (omega arith) (omega arith) c.loop-digit.invariant.left

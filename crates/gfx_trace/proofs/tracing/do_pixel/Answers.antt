@@ -1,0 +1,23 @@
+use Rattle.std.proofs.Common.{◌≡◌, refl, ap, sym, ◌∙◌}
+use Rattle.scene_text.specs.Seen.{scene_seen}
+use Rattle.gfx_trace.specs.Asked.{Asked, asked_of}
+use Rattle.gfx_trace.specs.Ended.{asked_status}
+use Rattle.gfx_trace.specs.declared.status.TraceStatus.TheVariants as status
+use Rattle.gfx_trace.specs.declared.words.Job.TheVariants as jobs
+use Rattle.gfx_trace.proofs.Ends.{refused_answered, no_frame, no_pixel}
+use Rattle.gfx_trace.proofs.tracing.do_pixel.Goals as goal
+
+pub returns-then-not-has_frame-clause-answered : goal.returns-then-not-has_frame-clause-answered
+returns-then-not-has_frame-clause-answered g c =
+    let job = jobs.Pixel c.args.place in
+    let is : asked_status job (asked_of c.args.bytes.now) ≡ status.NoFrame =
+    ap (asked_status job) c.requires.found ∙ no_frame (scene_seen c.args.asked.now.scene) c.args.place (sym c.has_frame.ensures ∙ c.if-not-has_frame.true) in
+    refused_answered status.NoFrame c.refuse_frame.result job c.args.bytes.now _ _ _ tt is refl refl c.refuse_frame.ensures.refused
+
+pub returns-then-not-has_pixel-clause-answered : goal.returns-then-not-has_pixel-clause-answered
+returns-then-not-has_pixel-clause-answered g c =
+    let job = jobs.Pixel c.args.place in
+    let is : asked_status job (asked_of c.args.bytes.now) ≡ status.NoPixel =
+    ap (asked_status job) c.requires.found
+    ∙ no_pixel (scene_seen c.args.asked.now.scene) c.args.place (sym c.has_frame.ensures ∙ c.if-not-has_frame.false) (sym c.has_pixel.ensures ∙ c.if-not-has_pixel.true) in
+    refused_answered status.NoPixel c.refuse_pixel.result job c.args.bytes.now _ _ _ tt is refl refl c.refuse_pixel.ensures.refused

@@ -1,0 +1,86 @@
+-- What is known after a run, for each status with which it may end.
+use Rattle.std.specs.Prelude.{◌≡◌, ◌⊎◌, ℕ, nat_lt, ◌&&◌, if◌then◌else◌, List, [], length, Option, Some, None, ⊤}
+use Rattle.io_whole.specs.Whole.{longest, HasMoreThan}
+use Rattle.scene_model.specs.Scene.{Scene}
+use Rattle.scene_model.specs.Output.{length_line}
+use Rattle.gfx_trace.specs.Asked.{Asked, scene_by, no_scene, no_journal, asked_of}
+use Rattle.gfx_trace.specs.Lines.{history_text}
+use Rattle.io_whole.specs.Runs.{Reading, HasFailedToGive, IsUnread, Putting, HasFailedToTake, IsUntouched, HasPut, HasPutFront, HasTried}
+use Rattle.gfx_trace.specs.Io.{IsRead}
+use Rattle.gfx_trace.specs.Refusals.{usage_line, refusal_line}
+use Rattle.gfx_trace.specs.declared.words.Job.{Job}
+use Rattle.gfx_trace.specs.declared.words.Job.TheVariants as jobs
+use Rattle.gfx_trace.specs.declared.status.TraceStatus.{TraceStatus}
+use Rattle.gfx_trace.specs.declared.status.TraceStatus.TheVariants as status
+
+-- ---- the status of the words and the bytes, where nothing fails
+
+-- the frame is there, and then its pixel
+abbrev pub place_status : Scene → Job → TraceStatus
+place_status s (jobs.Pixel p) =
+    if nat_lt p.frame (length s.frames) then (if nat_lt p.x s.width && nat_lt p.y s.height then status.Done else status.NoPixel) else status.NoFrame
+
+-- what was asked for is there
+abbrev pub asked_status : Job → Asked → TraceStatus
+asked_status job (scene_by s j) = place_status s job
+asked_status job (no_scene fault) = status.Scene fault.line fault.cause
+asked_status job (no_journal place) = status.Journal place
+
+-- the words, the length, the scene, the journal, the frame, and the pixel
+abbrev pub status_of : Option Job → List ℕ → TraceStatus
+status_of None bytes = status.Usage
+status_of (Some job) bytes = if nat_lt longest (length bytes) then status.TooLong else asked_status job (asked_of bytes)
+
+-- ---- what is put
+
+-- the lines of the pixel in the frame
+abbrev pub asked_text : Job → List ℕ → Asked → List ℕ
+asked_text (jobs.Pixel p) bytes (scene_by s j) = history_text bytes s j p.frame p.x p.y
+asked_text job bytes _ = []
+
+-- the text that a job over an input puts
+abbrev pub text_of : Job → List ℕ → List ℕ
+text_of job bytes = asked_text job bytes (asked_of bytes)
+
+-- a text was put, a front of it, or nothing
+abbrev pub IsPut : TraceStatus → List ℕ → Putting → Type 0
+IsPut status.Done text sink = HasPut text sink
+IsPut status.PictureFault text sink = HasPutFront text sink × HasFailedToTake sink
+IsPut status.OutOfMemory text sink = IsUntouched sink
+IsPut _ text sink = ⊥
+
+-- ---- what stands after each status
+
+-- what stands after a run over bytes
+abbrev pub IsAnswered : TraceStatus → Job → (bytes : List ℕ) → (sink notes : Putting) → Type 0
+IsAnswered status.Done job bytes sink notes = (asked_status job (asked_of bytes) ≡ status.Done) × HasPut (text_of job bytes) sink × IsUntouched notes
+IsAnswered status.PictureFault job bytes sink notes =
+    (asked_status job (asked_of bytes) ≡ status.Done) × HasPutFront (text_of job bytes) sink × HasFailedToTake sink × IsUntouched notes
+IsAnswered status.OutOfMemory job bytes sink notes = IsUntouched sink × IsUntouched notes
+IsAnswered status.Usage job bytes sink notes = ⊥
+IsAnswered status.ReadFault job bytes sink notes = ⊥
+IsAnswered status.TooLong job bytes sink notes = ⊥
+IsAnswered st job bytes sink notes = (asked_status job (asked_of bytes) ≡ st) × IsUntouched sink × HasTried (refusal_line job st) notes
+
+-- what stands after a run of a job
+abbrev pub EndsJob : TraceStatus → Job → Reading → (sink notes : Putting) → Type 0
+EndsJob status.ReadFault job source sink notes = HasFailedToGive source × IsUntouched sink × IsUntouched notes
+EndsJob status.TooLong job source sink notes = HasMoreThan longest source.before × IsUntouched sink × HasTried length_line notes
+EndsJob status.OutOfMemory job source sink notes = IsUntouched sink × IsUntouched notes
+EndsJob st job source sink notes = (bytes : List ℕ) × IsRead bytes source × IsAnswered st job bytes sink notes
+
+-- the end of a run: words that are no job are refused, and nothing is read
+abbrev pub Ends : TraceStatus → Option Job → Reading → (sink notes : Putting) → Type 0
+Ends st None source sink notes = (st ≡ status.Usage) × IsUnread source × IsUntouched sink × HasTried usage_line notes
+Ends st (Some job) source sink notes = EndsJob st job source sink notes
+
+-- ---- runs that meet no fault
+
+-- the source told these bytes as those that were left, and did not fail, if it is read
+abbrev pub IsGiven : Option Job → Reading → List ℕ → Type 0
+IsGiven None source bytes = ⊤
+IsGiven (Some job) source bytes = (source.before ≡ Some bytes) × (HasFailedToGive source → ⊥)
+
+-- the run ends so, or for want of memory
+abbrev pub EndsAs : (wanted st : TraceStatus) → Type 0
+EndsAs wanted st = (st ≡ wanted) ⊎ (st ≡ status.OutOfMemory)

@@ -1,0 +1,33 @@
+-- The lines of a pixel's history in a scene's text, and what they tell.
+use Rattle.std.specs.Prelude.{◌≡◌, ℕ, ◌+◌, ◌*◌, List, Some, slice_get, slice_index_or}
+use Rattle.gfx_model.specs.Raster.{Texels, no_color}
+use Rattle.scene_model.specs.Scene.{Scene}
+use Rattle.scene_model.specs.Fold.{FramePlan, plans}
+use Rattle.scene_model.specs.Journal.{Entry, Journal, pictures}
+use Rattle.trace_laws.specs.Doers.{doers}
+use Rattle.trace_laws.specs.History.{after_history, pixel_at, pixel_history}
+use Rattle.trace_laws.specs.Moments.{Moment, moments}
+use Rattle.trace_lines.specs.Numbered.{numbered_lines, scene_numbered_lines}
+use Rattle.item_lines.specs.Items.{item_lines}
+
+-- the lines of a pixel in a frame of a scene by a journal, each item with the number of the line of the scene's text that records it
+abbrev pub history_text : (bytes : List ℕ) → Scene → Journal → (frame x y : ℕ) → List ℕ
+history_text bytes s j frame x y = scene_numbered_lines (item_lines bytes s frame) s j frame x y
+
+-- the frame has its moment, its plan, its entries and its picture; the lines are those of what the pixel goes through from the moment
+-- on, and the colour with which it ends is the picture's
+pub record IsTold (bytes : List ℕ) (s : Scene) (j : Journal) (frame x y : ℕ) : Type 0 where
+  pub moment : Moment
+  pub plan : FramePlan
+  pub entries : List Entry
+  pub picture : Texels
+  pub begins : slice_get (moments s j) frame ≡ Some moment
+  pub planned : slice_get (plans s) frame ≡ Some plan
+  pub ordered : slice_get j frame ≡ Some entries
+  pub shows : slice_get (pictures s j) frame ≡ Some picture
+  pub lines :
+      history_text bytes s j frame x y
+      ≡ numbered_lines (item_lines bytes s frame) (doers plan entries) (pixel_at moment.world.back x y) (pixel_history moment.world moment.content x y)
+  pub color :
+      (after_history (pixel_at moment.world.back x y) (pixel_history moment.world moment.content x y)).color
+      ≡ slice_index_or picture.texels (y * s.width + x) no_color

@@ -1,0 +1,17 @@
+-- The numbers of statuses.
+use Rattle.std.specs.Prelude.{ℕ}
+use Rattle.gfx_trace.specs.declared.status.TraceStatus.{TraceStatus}
+use Rattle.gfx_trace.specs.declared.status.TraceStatus.TheVariants as status
+
+-- the exit number of a status
+abbrev pub status_number : TraceStatus → ℕ
+status_number status.Done = 0
+status_number status.Usage = 1
+status_number (status.Scene line cause) = 2
+status_number status.ReadFault = 3
+status_number status.PictureFault = 4
+status_number status.TooLong = 6
+status_number (status.Journal place) = 7
+status_number status.OutOfMemory = 8
+status_number status.NoFrame = 9
+status_number status.NoPixel = 10

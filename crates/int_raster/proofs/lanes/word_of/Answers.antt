@@ -1,0 +1,6 @@
+use Rattle.std.proofs.Common.{rules}
+use Rattle.std.proofs.lemmas.Nat.{le_bytes_4}
+use Rattle.int_raster.proofs.lanes.word_of.Goals as goal
+
+pub returns-clause-bytes : goal.returns-clause-bytes
+returns-clause-bytes c = le_bytes_4 c.args.texel _ (search rules) (search rules) c.from_le_bytes.ensures

@@ -1,0 +1,84 @@
+// Four texels at a time, as words.
+ghost use Rattle.std.specs.Prelude.{◌≡◌, ◌≤◌, ◌<◌, ◌+◌, ◌*◌, ◌/◌, ◌%◌, ◌^◌, ℕ, [], length, slice_index, slice_index_or, false, ◌&&◌, nat_le, nat_lt, if◌then◌else◌};
+ghost use Rattle.gfx_model.specs.Number.{u32_at};
+ghost use Rattle.int_raster.specs.Tiled.{word_bytes, deep_word, is_among};
+
+use std::simd::prelude::*;
+
+/// The word of a texel, its lowest byte first.
+#[inline(always)]
+pub(crate) fn word_of(texel: [u8; 4]) -> u32
+    ensures word { result ≡ u32_at texel 0 }
+    ensures bytes { word_bytes result ≡ texel }
+    ensures few { u32_at texel 0 < 2 ^ 32 }
+{
+    u32::from_le_bytes(texel)
+}
+
+/// The texel of a word.
+#[inline(always)]
+fn texel_of(word: u32) -> [u8; 4]
+    ensures word { u32_at result 0 ≡ word }
+    ensures bytes { result ≡ word_bytes word }
+{
+    word.to_le_bytes()
+}
+
+/// The words of four texels from a place on.
+#[inline(always)]
+pub(crate) fn words_of(texels: &[[u8; 4]], at: usize) -> u32x4
+    requires { at + 4 ≤ length texels.now }
+    ensures words { (j : ℕ) → j < 4 → slice_index result j ≡ u32_at (slice_index_or texels.now (at + j) []) 0 }
+    ensures bytes { (j : ℕ) → j < 4 → word_bytes (slice_index result j) ≡ slice_index_or texels.now (at + j) [] }
+    ensures few { (j : ℕ) → j < 4 → u32_at (slice_index_or texels.now (at + j) []) 0 < 2 ^ 32 }
+{
+    u32x4::from_array([
+        word_of(texels[at]),
+        word_of(texels[at + 1]),
+        word_of(texels[at + 2]),
+        word_of(texels[at + 3]),
+    ])
+}
+
+/// Puts the texels of four words from a place on.
+#[inline(always)]
+pub(crate) fn put_words(texels: &mut [[u8; 4]], at: usize, words: u32x4)
+    requires { at + 4 ≤ length texels.old }
+    ensures many { length texels.new ≡ length texels.old }
+    ensures words { (j : ℕ) → j < 4 → u32_at (slice_index_or texels.new (at + j) []) 0 ≡ slice_index words j }
+    ensures bytes { (j : ℕ) → j < 4 → slice_index_or texels.new (at + j) [] ≡ word_bytes (slice_index words j) }
+    ensures others { (i : ℕ) → (nat_le at i && nat_lt i (at + 4)) ≡ false → slice_index_or texels.new i [] ≡ slice_index_or texels.old i [] }
+{
+    let words = words.to_array();
+    let (a, b, c, d) = (
+        texel_of(words[0]),
+        texel_of(words[1]),
+        texel_of(words[2]),
+        texel_of(words[3]),
+    );
+    texels[at] = a;
+    texels[at + 1] = b;
+    texels[at + 2] = c;
+    texels[at + 3] = d;
+}
+
+/// Some bits of words, with a number that comes to them.
+#[inline(always)]
+pub(crate) fn with_depth(words: u32x4, bits: u32, depth: u32) -> u32x4
+    ensures { (j : ℕ) → j < 4 → slice_index result j ≡ deep_word bits depth (slice_index words j) }
+{
+    (words & u32x4::splat(bits)) + u32x4::splat(depth)
+}
+
+/// The new words in the first lanes whose depth is the least or one of so many more, and the old ones in the others.
+#[inline(always)]
+pub(crate) fn kept(old: u32x4, new: u32x4, words: u32x4, least: u32, more: u32, left: u32) -> u32x4
+    requires low { least ≤ 16777216 }
+    requires few { more ≤ 16777215 }
+    ensures { (j : ℕ) → j < 4 → slice_index result j ≡ (if nat_lt j left && is_among least more (slice_index words j % 2 ^ 24) then slice_index new j else slice_index old j) }
+{
+    let inside = u32x4::splat(left).simd_gt(u32x4::from_array([0, 1, 2, 3]));
+    let behind = (words & u32x4::splat(0xff_ffff)) - u32x4::splat(least);
+    let on = inside & behind.simd_le(u32x4::splat(more));
+    on.select(new, old)
+}

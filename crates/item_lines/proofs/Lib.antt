@@ -1,0 +1,5 @@
+mod Lists
+mod Merging
+mod PlaceLaws
+mod Counts
+mod Behind

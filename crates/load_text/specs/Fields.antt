@@ -1,7 +1,0 @@
--- The bytes of fields.
-use Rattle.std.specs.Prelude.{ℕ, List, map}
-use Rattle.std.specs.Borrow.{Bor}
-
--- each field's bytes
-abbrev pub texts : List (Bor (List ℕ)) → List (List ℕ)
-texts fs = map (λ f. f.now) fs

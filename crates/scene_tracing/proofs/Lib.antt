@@ -1,0 +1,4 @@
+mod Journals
+mod Frames
+mod Scenes
+mod Texts

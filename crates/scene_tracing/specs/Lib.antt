@@ -1,0 +1,3 @@
+pub mod Asked
+pub mod Histories
+pub mod Tracing

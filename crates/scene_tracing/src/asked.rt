@@ -1,0 +1,11 @@
+// What is asked of a tracer.
+
+use crate::history::Spot;
+
+/// A pixel of a frame, of pictures with these sides.
+#[derive(Clone, Copy, Drop)]
+pub struct Asked {
+    pub width: u16,
+    pub height: u16,
+    pub spot: Spot,
+}
