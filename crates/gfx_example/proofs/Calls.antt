@@ -3,13 +3,8 @@ use Rattle.std.proofs.Common.{◌≡◌, ℕ, ◌+◌, ◌*◌, ◌%◌, List, [
 use Rattle.std.specs.List.{range_with_len}
 use Rattle.std.proofs.lemmas.List.{append_assoc}
 use Rattle.std.proofs.lemmas.List.FromFn.{map-range_with_len_more}
-use Rattle.gfx_model.specs.Words.{UniformValue}
-use Rattle.gfx_model.specs.Raster.{Affine}
-use Rattle.gfx_model.specs.World.{Item, UniformSet, draw_item, stored_vertices}
-use Rattle.gfx_model.specs.Resources.{Refusal as ModelRefusal, first_refusal, or_refusal}
-use Rattle.gfx_model.specs.Recorder.{Recorder, DrawState, EncoderCall, set_transform, set_uniform, set_vertices, submit, after, refusals}
-use Rattle.gfx_words.specs.declared.refusals.Refusal.{Refusal}
-use Rattle.draw_encoder.specs.Calls.{EncoderView, Answers}
+use Rattle.gfx.specs.Definitions.{UniformValue, Affine, Item, UniformSet, draw_item, stored_vertices, ModelRefusal, first_refusal, or_refusal, Recorder, DrawState, EncoderCall, set_transform, set_uniform, set_vertices, submit, after, refusals}
+use Rattle.gfx.specs.Calls.{Refusal, EncoderView, Answers}
 use Rattle.gfx_example.specs.declared.things.Things.{Things}
 use Rattle.gfx_example.specs.Ring.{turn, color, triangle, triangles, IsPlain, Records, IsPart}
 

@@ -1,12 +1,9 @@
 -- The outcome of the first frame that was not shown.
 use Rattle.std.proofs.Common.{◌≡◌, ◌≤◌, List, [], ◌∷◌, ◌++◌, length, Option, Some, None, slice_index_or, refl, sym, ap, ◌∙◌, arith}
-use Rattle.frame_record.specs.declared.frame.Outcome.{Outcome}
-use Rattle.frame_record.specs.declared.frame.Outcome.TheVariants as outcomes
-use Rattle.frame_record.specs.declared.frame.RenderedFrame.{RenderedFrame}
-use Rattle.render_core.specs.Ended.{outcome_then, first_outcome}
-use Rattle.gfx_context.specs.declared.report.BackNote.{BackNote}
-use Rattle.gfx_context.specs.Ended.{notes_of, IsBack, MakesWay}
-use Rattle.gfx_context.specs.States.{ContextView}
+use Rattle.gfx.specs.Frames.{Outcome, RenderedFrame}
+use Rattle.gfx.specs.Frames.outcomes as outcomes
+use Rattle.gfx.specs.Pictures.{outcome_then, first_outcome}
+use Rattle.gfx.specs.Calls.{BackNote, notes_of, IsBack, MakesWay, ContextView}
 use Rattle.gfx_example.specs.Turning.{first_after}
 
 then_shown : (o : Outcome) → outcome_then o outcomes.Shown ≡ o

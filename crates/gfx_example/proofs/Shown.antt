@@ -5,22 +5,10 @@ use Rattle.std.specs.Coded.{Coded-set, coded_option, coded_ℕ, le_prop}
 use Rattle.std.proofs.Math.Logic.{∥∥₁_elim}
 use Rattle.std.proofs.lemmas.List.{take_all, length-map, append-nil}
 use Rattle.io_edge.specs.Edge.{with_back}
-use Rattle.gfx_model.specs.Raster.{Texels}
-use Rattle.gfx_model.specs.World.{first_world}
-use Rattle.scene_model.specs.Output.{picture_text}
-use Rattle.store_laws.specs.ByIndex.{Stores, FrameData, first_stores, frame_by_index}
-use Rattle.store_laws.specs.Run.{pictures_by_index}
-use Rattle.frame_record.specs.declared.frame.Frame.{Frame}
-use Rattle.frame_record.specs.declared.frame.Outcome.{Outcome}
-use Rattle.frame_record.specs.declared.frame.Outcome.TheVariants as outcomes
-use Rattle.frame_record.specs.declared.frame.RenderedFrame.{RenderedFrame}
-use Rattle.frame_record.specs.Links.{frames_of}
-use Rattle.render_core.specs.Ended.{TextsLaw, KeptLaw, HasTexts, pictures_seen}
-use Rattle.render_core.specs.Laws.{frames_seen}
-use Rattle.render_core.specs.Outcomes.{has_ended}
-use Rattle.io_whole.specs.Whole.{HasFront}
-use Rattle.render_core.specs.Rendered.{Rendering}
-use Rattle.render_core.specs.Seen.{frame_seen}
+use Rattle.gfx.specs.Definitions.{Texels, first_world}
+use Rattle.gfx.specs.Pictures.{picture_text, Stores, FrameData, first_stores, frame_by_index, pictures_by_index, TextsLaw, KeptLaw, HasTexts, pictures_seen, frames_seen, has_ended, Rendering, frame_seen, HasFront}
+use Rattle.gfx.specs.Frames.{Frame, Outcome, RenderedFrame, frames_of}
+use Rattle.gfx.specs.Frames.outcomes as outcomes
 use Rattle.gfx_example.specs.Turning.{AreOfTurn}
 use Rattle.gfx_example.proofs.Turns.{no_frames}
 use Rattle.gfx_example.specs.Spinning.{side, pictures_of, end_of, IsSpun, IsStopped, IsNew, AreRenderedInTurn}

@@ -5,29 +5,11 @@ use Rattle.std.proofs.lemmas.List.{length-append, map-append, append-nil}
 use Rattle.std.proofs.lemmas.List.Sums.{sum_by-cons}
 use Rattle.std.proofs.lemmas.Bool.{eqb-true}
 use Rattle.std.proofs.lemmas.Option.{same_Some}
-use Rattle.gfx_model.specs.World.{Item}
-use Rattle.gfx_model.specs.Views.{view_count}
-use Rattle.gfx_model.specs.Recorder.{Room, begun}
-use Rattle.gfx_model.specs.Resources.{Refusal as ModelRefusal}
-use Rattle.gfx_model.specs.FrameCalls.{Begun, end_frame, frame_refusal}
-use Rattle.gfx_words.specs.declared.refusals.Refusal.{Refusal}
-use Rattle.gfx_words.specs.Seen.{refusal_seen}
-use Rattle.schedule_model.specs.Held.{count_of}
-use Rattle.schedule_model.specs.Machine.{Place}
-use Rattle.draw_encoder.specs.declared.items.Recording.{Recording}
-use Rattle.draw_encoder.specs.Bundles.{items_of}
-use Rattle.draw_encoder.specs.Calls.{EncoderView}
-use Rattle.frame_record.specs.declared.frame.Frame.{Frame}
-use Rattle.frame_record.specs.declared.frame.Outcome.{Outcome}
-use Rattle.frame_record.specs.declared.frame.Outcome.TheVariants as outcomes
-use Rattle.frame_record.specs.declared.frame.RenderedFrame.{RenderedFrame}
-use Rattle.frame_record.specs.Links.{frames_of}
-use Rattle.render_core.specs.Ended.{first_outcome}
-use Rattle.gfx_context.specs.declared.report.FrameReport.{FrameReport}
-use Rattle.gfx_context.specs.Calls.{Begins, IsBegin}
-use Rattle.gfx_context.specs.Gathered.{IsCollected, AreOfFrame, encoders_in, dropped_in, once_below}
-use Rattle.gfx_context.specs.Ended.{Collects, Ends, GivesWhere, IsEnd}
-use Rattle.gfx_context.specs.States.{ContextView, state_of, untouched}
+use Rattle.gfx.specs.Definitions.{Item, view_count, Room, begun, ModelRefusal, Begun, end_frame, frame_refusal, count_of, Place}
+use Rattle.gfx.specs.Calls.{Refusal, refusal_seen, EncoderView, FrameReport, Begins, IsBegin, Collects, Ends, GivesWhere, IsEnd, ContextView, state_of, untouched}
+use Rattle.gfx.specs.Frames.{Recording, items_of, Frame, Outcome, RenderedFrame, frames_of, IsCollected, AreOfFrame, encoders_in, dropped_in, once_below}
+use Rattle.gfx.specs.Frames.outcomes as outcomes
+use Rattle.gfx.specs.Pictures.{first_outcome}
 use Rattle.gfx_example.specs.Ring.{IsHalf, IsPart, IsNewEncoder}
 use Rattle.gfx_example.specs.Frames.{IsOfRing, HasParts, AreNumbered, IsTurn, AreFirst}
 use Rattle.gfx_example.specs.Turning.{HasBegun, IsAt, HasTurned, AreOfTurn, HaveTurned, first_after}

@@ -1,10 +1,8 @@
 -- The frames of a turn.
 use Rattle.std.specs.Prelude.{◌≡◌, ℕ, ◌≤◌, List, ◌++◌, length, map}
 use Rattle.std.specs.List.{AllByRecursion, range_with_len}
-use Rattle.schedule_model.specs.Held.{count_of}
-use Rattle.draw_encoder.specs.Bundles.{items_of}
-use Rattle.frame_record.specs.declared.frame.Frame.{Frame}
-use Rattle.gfx_context.specs.Gathered.{encoders_in, once_below}
+use Rattle.gfx.specs.Definitions.{count_of}
+use Rattle.gfx.specs.Frames.{items_of, Frame, encoders_in, once_below}
 use Rattle.gfx_example.specs.Ring.{IsHalf, IsPart}
 
 -- a frame is what encoders 0 and 1 recorded, each once, and each its half of the ring

@@ -1,11 +1,8 @@
 -- The ring, and what is recorded of it.
 use Rattle.std.specs.Prelude.{◌≡◌, ℕ, ◌+◌, ◌-◌, ◌*◌, ◌%◌, ◌≤◌, ℤ, pos, negsuc, List, [], ◌∷◌, ◌++◌, map, slice_index_or}
 use Rattle.std.specs.List.{range_with_len}
-use Rattle.gfx_model.specs.Words.{UniformValue, vec4_value}
-use Rattle.gfx_model.specs.Raster.{Affine}
-use Rattle.gfx_model.specs.World.{Item, draw_item, stored_vertices}
-use Rattle.gfx_model.specs.Recorder.{Recorder, plain_state}
-use Rattle.draw_encoder.specs.Calls.{EncoderView}
+use Rattle.gfx.specs.Definitions.{UniformValue, vec4_value, Affine, Item, draw_item, stored_vertices, Recorder, plain_state}
+use Rattle.gfx.specs.Calls.{EncoderView}
 use Rattle.gfx_example.specs.declared.things.Things.{Things}
 
 -- the cosines of 0 to 15 steps of 22.5 degrees, in 1/65536

@@ -1,18 +1,10 @@
 -- What a turn that was spun leaves in a sink.
 use Rattle.std.specs.Prelude.{◌≡◌, ℕ, ◌≤◌, Bool, true, false, List, [], map, length, take, flat_map, Option}
 use Rattle.io_edge.specs.Edge.{with_back, Rose}
-use Rattle.gfx_model.specs.Raster.{Texels}
-use Rattle.gfx_model.specs.World.{first_world}
-use Rattle.scene_model.specs.Output.{picture_text}
-use Rattle.store_laws.specs.ByIndex.{first_stores}
-use Rattle.store_laws.specs.Run.{pictures_by_index}
-use Rattle.frame_record.specs.declared.frame.Frame.{Frame}
-use Rattle.frame_record.specs.declared.frame.Outcome.{Outcome}
-use Rattle.frame_record.specs.declared.frame.Outcome.TheVariants as outcomes
-use Rattle.frame_record.specs.declared.frame.RenderedFrame.{RenderedFrame}
-use Rattle.io_whole.specs.Whole.{HasFront}
-use Rattle.render_core.specs.Rendered.{Rendering, AreRendered}
-use Rattle.render_core.specs.Seen.{frame_seen}
+use Rattle.gfx.specs.Definitions.{Texels, first_world}
+use Rattle.gfx.specs.Pictures.{picture_text, first_stores, pictures_by_index, Rendering, AreRendered, frame_seen, HasFront}
+use Rattle.gfx.specs.Frames.{Frame, Outcome, RenderedFrame}
+use Rattle.gfx.specs.Frames.outcomes as outcomes
 use Rattle.gfx_example.specs.declared.spinning.End.{End}
 use Rattle.gfx_example.specs.declared.spinning.End.TheVariants as ends
 use Rattle.gfx_example.specs.Frames.{AreFirst, IsTurn}

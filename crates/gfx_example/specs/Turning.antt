@@ -1,12 +1,8 @@
 -- What the loop over frames keeps and leaves.
 use Rattle.std.specs.Prelude.{◌≡◌, ℕ, ◌+◌, Bool, true, false, List, Option, Some, None}
-use Rattle.frame_record.specs.declared.frame.Frame.{Frame}
-use Rattle.frame_record.specs.declared.frame.Outcome.{Outcome}
-use Rattle.frame_record.specs.declared.frame.RenderedFrame.{RenderedFrame}
-use Rattle.frame_record.specs.Links.{frames_of}
-use Rattle.render_core.specs.Ended.{first_outcome, outcome_then}
-use Rattle.gfx_context.specs.States.{ContextView}
-use Rattle.gfx_context.specs.declared.report.BackNote.{BackNote}
+use Rattle.gfx.specs.Frames.{Frame, Outcome, RenderedFrame, frames_of}
+use Rattle.gfx.specs.Pictures.{first_outcome, outcome_then}
+use Rattle.gfx.specs.Calls.{ContextView, BackNote}
 use Rattle.gfx_example.specs.Frames.{AreFirst, IsTurn}
 
 -- encoders were begun, and nothing else changed but what the seat knows

@@ -4,8 +4,7 @@ ghost use Rattle.gfx_example.specs.Ring.{triangle, triangles, IsPlain, IsReady, 
 
 use crate::ring::{TRIANGLES, color, turn};
 use crate::things::Things;
-use draw_encoder::{Encoder, Naming, Room};
-use gfx_words::Refusal;
+use gfx::{Encoder, Naming, Refusal, Room};
 use std::sync::Wait;
 
 /// How many triangles one thread records: half of the ring.

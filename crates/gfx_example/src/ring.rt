@@ -1,11 +1,9 @@
 // The shape, the colours and the turns of the ring. All numbers are in 1/65536.
 ghost use Rattle.std.specs.Prelude.{◌≡◌, ◌<◌, ◌≤◌};
-ghost use Rattle.gfx_words.specs.Seen.{value_seen};
-ghost use Rattle.fix_math.specs.Seen.{affine_seen};
+ghost use Rattle.gfx.specs.Calls.{value_seen, affine_seen};
 ghost use Rattle.gfx_example.specs.Ring as ring;
 
-use fix_math::Affine;
-use gfx_words::UniformValue;
+use gfx::{Affine, UniformValue};
 
 /// How many triangles the ring has.
 pub(crate) const TRIANGLES: u8 = 16;

@@ -1,14 +1,13 @@
 // A turn of the ring, with its pictures in a sink.
 ghost use Rattle.std.specs.Prelude.{◌≡◌, ◌≤◌, ℕ, IfOk, IfErr};
-ghost use Rattle.render_core.specs.Rendered.{seen_by};
+ghost use Rattle.gfx.specs.Pictures.{seen_by};
 ghost use Rattle.gfx_example.specs.Spinning.{end_number, end_of, IsNew, IsSpun, AreRenderedInTurn};
 ghost use Rattle.gfx_example.specs.declared.spinning.End.TheVariants as ends;
 
 use crate::turning::{Turned, turn_ring};
-use frame_record::Outcome;
+use gfx::laws::{kept_law, texts_law};
+use gfx::{InPlaceLink, Outcome, Renderer, SerialRasterizer};
 use io_edge::Sink;
-use render_core::laws::{kept_law, texts_law};
-use render_core::{InPlaceLink, Renderer, SerialRasterizer};
 use std::alloc::Global;
 use std::sync::Wait;
 use std::thread::Threads;

@@ -3,9 +3,10 @@ ghost use Rattle.std.specs.Prelude.{◌≡◌, IfOk};
 
 use crate::ring::CORNERS;
 use bitflags::Flags;
-use gfx_words::{ClearFlags, Handle, ProgramKind, Refusal, UniformKind};
-use resource_book::ResourceCalls;
-use vertex_layout::{Attr, AttrType, LayoutBuilder, VertexLayout};
+use gfx::{
+    Attr, AttrType, ClearFlags, Handle, LayoutBuilder, ProgramKind, Refusal, ResourceCalls,
+    UniformKind, VertexLayout,
+};
 
 /// The corners of one triangle, the program that paints it, and the uniform with its colour.
 #[derive(Clone, Copy)]

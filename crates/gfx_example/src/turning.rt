@@ -1,9 +1,8 @@
 // The loop over frames, as an engine has it.
 ghost use Rattle.std.specs.Prelude.{◌≡◌, ◌+◌, ◌%◌, ◌==◌, ◌&&◌, ◌≤◌, ℕ, List, [], false, OnOk, IfOk, MatchResult};
-ghost use Rattle.gfx_model.specs.Views.{fewest_views};
-ghost use Rattle.hold_table.specs.Seats.{table_of, api_table, api_view};
-ghost use Rattle.hold_table.specs.Views.{first_view};
-ghost use Rattle.render_core.specs.Ended.{first_outcome};
+ghost use Rattle.gfx.specs.Definitions.{fewest_views};
+ghost use Rattle.gfx.specs.Calls.{table_of, api_table, api_view, first_view};
+ghost use Rattle.gfx.specs.Pictures.{first_outcome};
 ghost use Rattle.gfx_example.specs.Ring.{IsNewEncoder, IsReady, TakesParts, TakesPartsOnly};
 ghost use Rattle.gfx_example.specs.Frames.{AreFirst};
 ghost use Rattle.gfx_example.specs.Turning.{HasBegun, IsAt, HasTurned, AreOfTurn, HaveTurned, first_after};
@@ -11,11 +10,10 @@ ghost use Rattle.gfx_example.specs.Turning.{HasBegun, IsAt, HasTurned, AreOfTurn
 use crate::recording::{ROOM, record};
 use crate::ring::TRIANGLES;
 use crate::things::{Things, make};
-use draw_encoder::{Encoder, Naming, Shared};
-use frame_record::{FrameLink, Outcome};
-use gfx_context::{BackNote, Context, FrameReport, Start};
-use gfx_words::{FEWEST_VIEWS, Refusal};
-use hold_table::{ApiSeat, HoldTable};
+use gfx::{
+    ApiSeat, BackNote, Context, Encoder, FEWEST_VIEWS, FrameLink, FrameReport, HoldTable, Naming,
+    Outcome, Refusal, Shared, Start,
+};
 use std::alloc::Global;
 use std::marker::Brand;
 use std::sync::Wait;

@@ -1,5 +1,5 @@
 use Rattle.std.proofs.Common.{◌≡◌}
-use Rattle.render_core.specs.Ended.{first_outcome}
+use Rattle.gfx.specs.Pictures.{first_outcome}
 use Rattle.gfx_example.specs.Turning.{IsAt}
 use Rattle.gfx_example.proofs.turning.turn_frames.Given as goal
 

@@ -1,6 +1,6 @@
 use Rattle.std.proofs.Common.{inl, refl}
-use Rattle.gfx_model.specs.Views.{fewest_views}
-use Rattle.hold_table.specs.Seats.{table_of}
+use Rattle.gfx.specs.Definitions.{fewest_views}
+use Rattle.gfx.specs.Calls.{table_of}
 use Rattle.gfx_example.specs.Ring.{IsPart}
 use Rattle.gfx_example.proofs.turning.turn_ring.Given as goal
 

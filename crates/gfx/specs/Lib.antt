@@ -1,0 +1,4 @@
+pub mod Definitions
+pub mod Calls
+pub mod Frames
+pub mod Pictures
