@@ -5,8 +5,8 @@ use Rattle.std.proofs.lemmas.List.{length-append, map-append, append-nil}
 use Rattle.std.proofs.lemmas.List.Sums.{sum_by-cons}
 use Rattle.std.proofs.lemmas.Bool.{eqb-true}
 use Rattle.std.proofs.lemmas.Option.{same_Some}
-use Rattle.gfx.specs.Definitions.{Item, view_count, Room, begun, ModelRefusal, Begun, end_frame, frame_refusal, count_of, Place}
-use Rattle.gfx.specs.Calls.{Refusal, refusal_seen, EncoderView, FrameReport, Begins, IsBegin, Collects, Ends, GivesWhere, IsEnd, ContextView, state_of, untouched}
+use Rattle.gfx.specs.Definitions.{Item, view_count, Room, begun, Begun, count_of, Place}
+use Rattle.gfx.specs.Calls.{Refusal, EncoderView, FrameReport, Begins, IsBegin, Collects, Ends, GivesWhere, IsEnd, ContextView, state_of, untouched}
 use Rattle.gfx.specs.Frames.{Recording, items_of, Frame, Outcome, RenderedFrame, frames_of, IsCollected, AreOfFrame, encoders_in, dropped_in, once_below}
 use Rattle.gfx.specs.Frames.outcomes as outcomes
 use Rattle.gfx.specs.Pictures.{first_outcome}
@@ -224,14 +224,9 @@ module _ {L : Type 0} (admits : ℕ → ℕ → List Item → ℕ → Type 0) (a
   given_still : new.given ≡ done.given → AreFirst old.seat.frame new.given
   given_still same = subst (AreFirst old.seat.frame) (sym (same ∙ same_given)) (first_whole old.seat.frame old.given at.given)
 
-  refused_by : (P : Type 0) (Q : ModelRefusal → Type 0) (o : Option ModelRefusal) → MatchOption o (P × (new ≡ record done { is_ended = true })) (λ x. Q x × (new ≡ done))
-      → AreFirst old.seat.frame new.given × (new.back ≡ old.back)
-  refused_by P Q None m = (given_still (ap (λ v. v.given) m.1), ap (λ v. v.back) m.1 ∙ same_back)
-  refused_by P Q (Some x) m = (given_still (ap (λ v. v.given) m.1), ap (λ v. v.back) m.1 ∙ same_back)
-
   -- its end was refused
   pub frame_refused : (r : Refusal) → IsEnd (Err r) done new → AreFirst old.seat.frame new.given × (new.back ≡ old.back)
-  frame_refused r e = refused_by (frame_refusal (state_of done) end_frame ≡ None) (λ x. frame_refusal (state_of done) end_frame ≡ Some x) (refusal_seen r) e
+  frame_refused r e = (given_still (ap (λ v. v.given) e.1), ap (λ v. v.back) e.1 ∙ same_back)
 
 -- a refusal is handed on
 pub refused_told : {X : Type 0} (r : Result X Refusal) (e : Refusal) (P : X → Type 0) (Q : Type 0) → IsErrAnd r (λ x. x ≡ e) → Q → MatchResult r P (λ _. Q)
