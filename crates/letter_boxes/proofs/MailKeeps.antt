@@ -1,8 +1,11 @@
 -- Each step keeps the rule of a letter box.
-use Rattle.std.proofs.Common.{◌≡◌, ◌≢◌, ℕ, zero, suc, ◌+◌, ◌≤◌, List, [], ◌∷◌, ◌++◌, get_or, set, sym, refl, ap, ◌∙◌, subst, ⊎_elim, arith, Some, None, Option}
+use Rattle.std.proofs.Common.{◌≡◌, ◌≢◌, ℕ, zero, suc, ◌+◌, ◌≤◌, true, All, List, [], ◌∷◌, ◌++◌, get_or, set, sym, refl, ap, ◌∙◌, subst, ⊎_elim, arith, Some, None, Option, is_some}
 use mathlib.Core.Option.{none, some, some-injective, some-ne-none}
 use mathlib.Core.Option as maybe
 use lib.ListN.{get_elem?}
+use Rattle.std.proofs.lemmas.Bool.{false≢true}
+use Rattle.std.proofs.lemmas.List.Elements.{All-push}
+use Rattle.std.proofs.lemmas.Option.{none-some}
 use lib.Dec.{eqb}
 use prog.Atomic.{either}
 use Rattle.atomic_table.specs.Seated.{TableId}
@@ -11,7 +14,8 @@ use Rattle.atomic_table.proofs.Lists.{at_set, at_snoc}
 use Rattle.hold_table.specs.declared.table.HoldTable.{HoldTable}
 use Rattle.hold_table.specs.Seats.{table_of}
 use Rattle.letter_boxes.specs.Mails.{MailView}
-use Rattle.letter_boxes.specs.Mail.{Letter, Mine, first_view, IsOf, Phase, empty, busy, full, code, home, holders, Fits, total, Kept, IsMail, carrying, holding, resting, Enters, Claims, Grabs, Rests}
+use Rattle.letter_boxes.specs.Letters.{Letter, IsOf}
+use Rattle.letter_boxes.specs.Mail.{Mine, first_view, Phase, empty, busy, full, letter_code, code, home, holders, Fits, total, Kept, IsMail, carrying, holding, resting, Enters, Claims, Grabs, Finds, Rests}
 
 abbrev Homes : Type 0
 Homes = List (maybe.Option (Option Letter))
@@ -81,7 +85,8 @@ claims_keep key slots id me none_held bare = allows_from key slots id me (λ n. 
       ((λ e. λ i. (holding me.0, (0, None) ∷ bare i)), (λ ne. absurd (ne refl))),
     )
     go busy views k at = (me.0, keeps, tt, nothing key busy views id me k at, ((λ e. absurd (omega (arith, e))), (λ ne. refl)))
-    go (full l) views k at = (me.0, keeps, tt, nothing key (full l) views id me k at, ((λ e. absurd (omega (arith, e))), (λ ne. refl)))
+    go (full (Some x, s)) views k at = (me.0, keeps, tt, nothing key (full (Some x, s)) views id me k at, ((λ e. absurd (omega (arith, e))), (λ ne. refl)))
+    go (full (None, s)) views k at = (me.0, keeps, tt, nothing key (full (None, s)) views id me k at, ((λ e. absurd (omega (arith, e))), (λ ne. refl)))
 
 pub grabs_keep : (key : HoldTable) (slots id : ℕ) (me : Mine) → me.0.holds ≡ 0 → me.1 ≡ [] → Allows (IsMail key) slots id me 0 (λ n. either (eqb n 2) 1 n) (Grabs (step slots 0 2 1 none) me)
 grabs_keep key slots id me none_held bare = allows_from key slots id me (λ n. either (eqb n 2) 1 n) (Grabs (step slots 0 2 1 none) me) go
@@ -89,12 +94,28 @@ grabs_keep key slots id me none_held bare = allows_from key slots id me (λ n. e
     go : (p : Phase) (views : List MailView) → Kept (table_of key) p views → get_elem? views id ≡ some me.0 → Done key (code p ∷ []) (home p ∷ []) views id me (λ n. either (eqb n 2) 1 n) (Grabs (step slots 0 2 1 none) me)
     go empty views k at = (me.0, keeps, tt, nothing key empty views id me k at, ((λ e. absurd (omega (arith, e))), (λ ne. refl)))
     go busy views k at = (me.0, keeps, tt, nothing key busy views id me k at, ((λ e. absurd (omega (arith, e))), (λ ne. refl)))
-    go (full l) views k at = (
+    go (full (Some x, s)) views k at = (
       holding me.0,
-      takes 0 (Some l),
+      takes 0 (Some (Some x, s)),
       refl,
-      record { phase = busy; words = refl; homes = refl; kept = moved (table_of key) (full l) busy views id me.0 (holding me.0) k at refl tt (omega (arith, none_held)) },
-      ((λ e. (l, (λ i. (holding me.0, (0, Some l) ∷ bare i)), k.fits ∙ sym (k.each id me.0 at))), (λ ne. absurd (ne refl))),
+      record { phase = busy; words = refl; homes = refl; kept = moved (table_of key) (full (Some x, s)) busy views id me.0 (holding me.0) k at refl tt (omega (arith, none_held)) },
+      ((λ e. ((Some x, s), (λ i. (holding me.0, (0, Some (Some x, s)) ∷ bare i)), k.fits ∙ sym (k.each id me.0 at), refl)), (λ ne. absurd (ne refl))),
+    )
+    go (full (None, s)) views k at = (me.0, keeps, tt, nothing key (full (None, s)) views id me k at, ((λ e. absurd (omega (arith, e))), (λ ne. refl)))
+
+pub finds_keep : (key : HoldTable) (slots id : ℕ) (me : Mine) → me.0.holds ≡ 0 → me.1 ≡ [] → Allows (IsMail key) slots id me 0 (λ n. either (eqb n 3) 1 n) (Finds (step slots 0 3 1 none) me)
+finds_keep key slots id me none_held bare = allows_from key slots id me (λ n. either (eqb n 3) 1 n) (Finds (step slots 0 3 1 none) me) go
+  where
+    go : (p : Phase) (views : List MailView) → Kept (table_of key) p views → get_elem? views id ≡ some me.0 → Done key (code p ∷ []) (home p ∷ []) views id me (λ n. either (eqb n 3) 1 n) (Finds (step slots 0 3 1 none) me)
+    go empty views k at = (me.0, keeps, tt, nothing key empty views id me k at, ((λ e. absurd (omega (arith, e))), (λ ne. refl)))
+    go busy views k at = (me.0, keeps, tt, nothing key busy views id me k at, ((λ e. absurd (omega (arith, e))), (λ ne. refl)))
+    go (full (Some x, s)) views k at = (me.0, keeps, tt, nothing key (full (Some x, s)) views id me k at, ((λ e. absurd (omega (arith, e))), (λ ne. refl)))
+    go (full (None, s)) views k at = (
+      holding me.0,
+      takes 0 (Some (None, s)),
+      refl,
+      record { phase = busy; words = refl; homes = refl; kept = moved (table_of key) (full (None, s)) busy views id me.0 (holding me.0) k at refl tt (omega (arith, none_held)) },
+      ((λ e. ((None, s), (λ i. (holding me.0, (0, Some (None, s)) ∷ bare i)), k.fits ∙ sym (k.each id me.0 at), refl)), (λ ne. absurd (ne refl))),
     )
 
 -- the place is given back with what it now holds
@@ -118,8 +139,8 @@ rests key slots id me x held has fits n is then told = allows_from key slots id 
     go busy views k at = ended x me.1 has is fits views k at
     go (full l) views k at = let one = total_at views id me.0 at in let none_out = k.sum in absurd (omega (arith, held))
 
-pub posts_keep : (key : HoldTable) (slots id : ℕ) (me : Mine) (l : Letter) → me.0.holds ≡ 1 → me.1 ≡ carrying (Some l) → IsOf me.0.of l → Allows (IsMail key) slots id me 0 (λ _. 2) (λ _. Rests (step slots 0 2 0 none) me 2)
-posts_keep key slots id me l held has fits = rests key slots id me (Some l) held has fits 2 refl (λ _. Rests (step slots 0 2 0 none) me 2) (λ r. refl)
+pub posts_keep : (key : HoldTable) (slots id n : ℕ) (me : Mine) (l : Letter) → n ≡ letter_code l → me.0.holds ≡ 1 → me.1 ≡ carrying (Some l) → IsOf me.0.of l → Allows (IsMail key) slots id me 0 (λ _. n) (λ _. Rests (step slots 0 n 0 none) me n)
+posts_keep key slots id n me l is held has fits = rests key slots id me (Some l) held has fits n is (λ _. Rests (step slots 0 n 0 none) me n) (λ r. refl)
 
 pub clears_keep : (key : HoldTable) (slots id : ℕ) (me : Mine) → me.0.holds ≡ 1 → me.1 ≡ carrying None → Allows (IsMail key) slots id me 0 (λ _. 0) (λ _. Rests (step slots 0 0 0 none) me 0)
 clears_keep key slots id me held has = rests key slots id me None held has tt 0 refl (λ _. Rests (step slots 0 0 0 none) me 0) (λ r. refl)
@@ -139,5 +160,23 @@ slot_value (x ∷ xs) = x.1
 pub found : (c : List (ℕ × Option Letter)) (x y : Option Letter) → c ≡ carrying x → c ≡ (0, y) ∷ rest c → y ≡ x
 found c x y e h = ap slot_value (sym h ∙ e)
 
-pub same_letter : (a b : Letter) → Some a ≡ Some b → a ≡ b
-same_letter a b e = cc e
+-- the word of a letter says whether it has a recording
+pub word_recorded : (l : Letter) → is_some l.0 ≡ true → 2 ≡ letter_code l
+word_recorded (Some r, seat) e = refl
+word_recorded (None, seat) e = absurd (false≢true e)
+
+pub word_given_up : (l : Letter) → l.0 ≡ None → 3 ≡ letter_code l
+word_given_up (Some r, seat) e = absurd (none-some _ (sym e))
+word_given_up (None, seat) e = refl
+
+pub recorded_word : (l : Letter) → letter_code l ≡ 2 → is_some l.0 ≡ true
+recorded_word (Some r, seat) e = refl
+recorded_word (None, seat) e = absurd (omega (arith, e))
+
+pub given_up_word : (l : Letter) → letter_code l ≡ 3 → l.0 ≡ None
+given_up_word (Some r, seat) e = absurd (omega (arith, e))
+given_up_word (None, seat) e = refl
+
+-- boxes of a table, and one more
+pub all_pushed : {X : Type 0} → (xs ys : List X) (x : X) → ys ≡ xs ++ x ∷ [] → (f : X → HoldTable) (t : HoldTable) → All (λ b. table_of (f b) ≡ table_of t) xs → f x ≡ t → All (λ b. table_of (f b) ≡ table_of t) ys
+all_pushed {X} xs ys x e f t each one = rw e (All-push (λ (b : X). table_of (f b) ≡ table_of t) xs x each (ap table_of one))

@@ -1,4 +1,4 @@
--- The rule of a letter box: each letter in it is of the table that the box is of.
+-- The rule of a letter box: each letter in it is of the table that the box is of, and its word says whether its encoder was given up.
 use Rattle.std.specs.Prelude.{◌≡◌, ◌≢◌, ℕ, ◌+◌, List, [], ◌∷◌, Option, Some, None}
 use mathlib.Core.Option.{some, none}
 use mathlib.Core.Option as maybe
@@ -6,14 +6,9 @@ use lib.ListN.{get_elem?}
 use Rattle.atomic_table.specs.Table.{State, Me, Step}
 use Rattle.atomic_table.specs.Seated.{TableId}
 use Rattle.hold_table.specs.declared.table.HoldTable.{HoldTable}
-use Rattle.hold_table.specs.Seats.{table_of, enc_table}
-use Rattle.hold_table.specs.declared.table.EncSeat.{EncSeat}
-use Rattle.draw_encoder.specs.declared.items.Recording.{Recording}
+use Rattle.hold_table.specs.Seats.{table_of}
+use Rattle.letter_boxes.specs.Letters.{Letter, IsOf}
 use Rattle.letter_boxes.specs.Mails.{MailView}
-
--- what waits in a box: a recording and its seat
-abbrev pub Letter : Type 0
-Letter = Recording × EncSeat
 
 -- what a seat knows and holds
 abbrev pub Mine : Type 0
@@ -23,21 +18,22 @@ Mine = Me (Option Letter) MailView
 abbrev pub first_view : HoldTable → MailView
 first_view key = record { holds = 0; of = table_of key }
 
--- a letter is of a table
-abbrev pub IsOf : TableId → Letter → Type 0
-IsOf table letter = enc_table letter.1 ≡ table
-
 -- a box is empty, is worked on by one seat, or has a letter
 pub data Phase : Type 0 where
   empty : Phase
   busy : Phase
   full : Letter → Phase
 
+-- the word of a box with a letter
+abbrev pub letter_code : Letter → ℕ
+letter_code (Some r, seat) = 2
+letter_code (None, seat) = 3
+
 -- the box's word
 abbrev pub code : Phase → ℕ
 code empty = 0
 code busy = 1
-code (full l) = 2
+code (full l) = letter_code l
 
 -- what lies in the box's place, where no seat holds it
 abbrev pub home : Phase → maybe.Option (Option Letter)
@@ -95,9 +91,17 @@ Enters st m r m' = m' ≡ m
 abbrev pub Claims : Step (Option Letter) → Mine → ℕ → Mine → Type 0
 Claims st m r m' = (r ≡ 0 → m' ≡ (holding m.0, carrying None)) × (r ≢ 0 → m' ≡ m)
 
--- the letter was taken where there was one, and it is of the table
+-- the letter was taken where the word was its own, and it is of the table
+abbrev pub TakesAt : ℕ → Step (Option Letter) → Mine → ℕ → Mine → Type 0
+TakesAt n st m r m' = (r ≡ n → (l : Letter) × (m' ≡ (holding m.0, carrying (Some l))) × IsOf m.0.of l × (letter_code l ≡ n)) × (r ≢ n → m' ≡ m)
+
+-- the letter of an encoder that was ended was taken, where there was one
 abbrev pub Grabs : Step (Option Letter) → Mine → ℕ → Mine → Type 0
-Grabs st m r m' = (r ≡ 2 → (l : Letter) × (m' ≡ (holding m.0, carrying (Some l))) × IsOf m.0.of l) × (r ≢ 2 → m' ≡ m)
+Grabs = TakesAt 2
+
+-- the letter of an encoder that was given up was taken, where there was one
+abbrev pub Finds : Step (Option Letter) → Mine → ℕ → Mine → Type 0
+Finds = TakesAt 3
 
 -- the place is given back
 abbrev pub Rests : Step (Option Letter) → Mine → ℕ → Mine → Type 0

@@ -1,29 +1,28 @@
 // A letter box of one place, in which each letter is of the box's table.
-ghost use Rattle.std.specs.Prelude.{◌≡◌, ◌<◌, IfSome, IfErr, IfOk, All, vec_len};
-ghost use Rattle.hold_table.specs.Seats.{table_of, enc_table};
+ghost use Rattle.std.specs.Prelude.{◌≡◌, None, IfSome, IfErr, IfOk, is_some, true};
+ghost use Rattle.hold_table.specs.Seats.{table_of};
+ghost use Rattle.letter_boxes.specs.Letters.{IsOf};
 
-use crate::letter_rule::{Claim, Enter, Grab, Knows, Law, Letter, Rest};
+use crate::letter::Letter;
+use crate::letter_rule::{Claim, Enter, Find, Grab, Knows, Law, Rest};
+use crate::posting::Posting;
 use atomic_table::Table;
 use draw_encoder::Recorder;
 use hold_table::HoldTable;
 use std::alloc::{AllocError, Global};
-use std::sync::atomic::{AtomicBool, Ordering};
 
-// How many boxes there are, as many as a frame has encoders.
-const BOXES: u8 = 8;
-
-type Mail = Table<Option<Letter>, Knows, HoldTable, Law, Global>;
+type Mail<C> = Table<Option<Letter<C>>, Knows, HoldTable, Law, Global>;
 
 /// A box of one place. Its key is the table.
 #[derive(Drop)]
-pub struct LetterBox {
-    mail: Mail,
+pub struct LetterBox<C: Posting> {
+    mail: Mail<C>,
     ghost one: { (mail.shared.table_id.words ≡ 1) × (mail.shared.table_id.slots ≡ 1) },
 }
 
-impl LetterBox {
+impl<C: Posting> LetterBox<C> {
     /// An empty box for letters of a table.
-    pub fn new(alloc: Global, table: &HoldTable) -> Result<LetterBox, AllocError>
+    pub fn new(alloc: Global, table: &HoldTable) -> Result<LetterBox<C>, AllocError>
         ensures { IfOk result (λ b. b.mail.shared.key ≡ table.now) }
     {
         let (mail, _seat) = Table::vacant(alloc, &[0], 1, table)?;
@@ -34,6 +33,7 @@ impl LetterBox {
     pub fn try_post(&self, recorder: Recorder, dropped: u32) -> Result<(), Recorder>
         requires table { recorder.table ≡ table_of self.now.mail.shared.key }
         requires views { recorder.state.recorder.view_count ≡ 512 }
+        requires posted { C.posted recorder.state.seat.encoder recorder.state.seat.frame recorder.state.recorder.items dropped }
         ensures { IfErr result (λ r. r ≡ recorder) }
     {
         let mail = &self.mail;
@@ -42,8 +42,7 @@ impl LetterBox {
         if shared.compare_exchange::<Claim>(&mut seat, 0, 0, 1) != 0 {
             return Err(recorder);
         }
-        let (recording, recorded) = recorder.end(dropped);
-        let letter = Letter::new(recording, recorded);
+        let letter = Letter::ended(recorder, dropped);
         match shared.exchange(&mut seat, 0, Some(letter)) {
             None => {}
             Some(_) => unreachable!(),
@@ -52,9 +51,31 @@ impl LetterBox {
         Ok(())
     }
 
-    /// Takes the letter out, where there is one. It is of the table.
-    pub fn try_take(&self) -> Option<Letter>
-        ensures { IfSome result (λ l. enc_table l.1 ≡ table_of self.now.mail.shared.key) }
+    /// Gives a recorder up and puts in that it was, where the box is empty. Else the recorder comes back.
+    pub fn try_give_up(&self, recorder: Recorder) -> Result<(), Recorder>
+        requires table { recorder.table ≡ table_of self.now.mail.shared.key }
+        requires given_up { C.given_up recorder.state.seat.encoder recorder.state.seat.frame }
+        ensures { IfErr result (λ r. r ≡ recorder) }
+    {
+        let mail = &self.mail;
+        let shared = &mail.shared;
+        let (_, mut seat) = shared.load_new_seat::<Enter>(0);
+        if shared.compare_exchange::<Claim>(&mut seat, 0, 0, 1) != 0 {
+            return Err(recorder);
+        }
+        let letter = Letter::given_up(recorder);
+        match shared.exchange(&mut seat, 0, Some(letter)) {
+            None => {}
+            Some(_) => unreachable!(),
+        }
+        shared.store::<Rest>(&mut seat, 0, 3);
+        Ok(())
+    }
+
+    /// Takes the letter of an encoder that was ended out, where there is one. It is of the table.
+    pub fn try_take(&self) -> Option<Letter<C>>
+        ensures of { IfSome result (λ l. IsOf (table_of self.now.mail.shared.key) l) }
+        ensures ended { IfSome result (λ l. is_some l.0 ≡ true) }
     {
         let mail = &self.mail;
         let shared = &mail.shared;
@@ -70,60 +91,24 @@ impl LetterBox {
             None => unreachable!(),
         }
     }
-}
 
-/// The table, a box for each of eight encoder numbers, and whether an encoder was given up.
-#[derive(Drop)]
-pub struct Shared {
-    pub table: HoldTable,
-    boxes: Vec<LetterBox>,
-    given_up: AtomicBool,
-    ghost same: { All (λ b. table_of b.mail.shared.key ≡ table_of table) boxes.items },
-    ghost eight: { vec_len boxes ≡ 8 },
-}
-
-impl Shared {
-    /// Empty boxes beside a table.
-    pub fn new(alloc: Global, table: HoldTable) -> Result<Shared, AllocError>
-        ensures { IfOk result (λ s. s.table ≡ table) }
+    /// Takes the letter of an encoder that was given up out, where there is one. It is of the table.
+    pub fn try_find(&self) -> Option<Letter<C>>
+        ensures of { IfSome result (λ l. IsOf (table_of self.now.mail.shared.key) l) }
+        ensures given_up { IfSome result (λ l. l.0 ≡ None) }
     {
-        let mut boxes = Vec::new(alloc);
-        for _ in 0..8usize {
-            let empty = LetterBox::new(alloc, &table)?;
-            boxes.push(empty)?;
+        let mail = &self.mail;
+        let shared = &mail.shared;
+        let (_, mut seat) = shared.load_new_seat::<Enter>(0);
+        if shared.compare_exchange::<Find>(&mut seat, 0, 3, 1) != 3 {
+            return None;
         }
-        Ok(Shared {
-            table,
-            boxes,
-            given_up: AtomicBool::new(false),
-        })
-    }
-
-    /// Ends a recorder and puts what it ended with into the box of its number, where that is empty. Else the recorder comes back.
-    pub fn try_post(&self, recorder: Recorder, dropped: u32) -> Result<(), Recorder>
-        requires table { recorder.table ≡ table_of self.now.table }
-        requires views { recorder.state.recorder.view_count ≡ 512 }
-        ensures { IfErr result (λ r. r ≡ recorder) }
-    {
-        let number = recorder.number() % BOXES;
-        self.boxes[number as usize].try_post(recorder, dropped)
-    }
-
-    /// Takes the letter out of the box of this number, where there is one. It is of the table.
-    pub fn try_take(&self, number: u8) -> Option<Letter>
-        requires { number < 8 }
-        ensures { IfSome result (λ l. enc_table l.1 ≡ table_of self.now.table) }
-    {
-        self.boxes[number as usize].try_take()
-    }
-
-    /// Says that an encoder of the table will not come back.
-    pub fn give_up(&self) {
-        self.given_up.store(true, Ordering::SeqCst);
-    }
-
-    /// Whether an encoder was given up. Where it was, it is so for ever.
-    pub fn is_given_up(&self) -> bool {
-        self.given_up.load(Ordering::SeqCst)
+        match shared.exchange(&mut seat, 0, None) {
+            Some(letter) => {
+                shared.store::<Rest>(&mut seat, 0, 0);
+                Some(letter)
+            }
+            None => unreachable!(),
+        }
     }
 }

@@ -1,49 +1,9 @@
-// What lies in a letter box, what its seats know, and the kinds of step.
-ghost use Rattle.std.specs.Prelude.{◌≡◌};
-ghost use Rattle.draw_encoder.specs.Bundles.{BelongTogether};
-
+// What the seats of a letter box know, its rule, and the kinds of step.
+use crate::letter::Letter;
+use crate::posting::Posting;
 use atomic_table::{Play, TableRule};
-use draw_encoder::Recording;
-use hold_table::{EncSeat, HoldTable};
+use hold_table::HoldTable;
 use std::marker::Model;
-
-/// What an encoder ended with, which waits to be collected: a recording and its seat, of a frame with 512 views. Contracts see the pair.
-#[derive(Drop)]
-pub struct Letter {
-    recording: Recording,
-    seat: EncSeat,
-}
-
-impl Model for Letter {
-    ghost use Rattle.draw_encoder.specs.declared.items.Recording.{Recording};
-    ghost use Rattle.hold_table.specs.declared.table.EncSeat.{EncSeat};
-    ghost use Rattle.draw_encoder.specs.Bundles.{BelongTogether};
-
-    ghost Value = { Recording × EncSeat };
-
-    ghost view = { λ l. (l.recording, l.seat) };
-
-    ghost invariant = { λ l. BelongTogether 512 l.recording l.seat };
-}
-
-impl Letter {
-    /// The recording and the seat of an encoder that ended.
-    pub fn new(recording: Recording, seat: EncSeat) -> Letter
-        requires { BelongTogether 512 recording seat }
-        ensures { result ≡ (recording, seat) }
-    {
-        Letter { recording, seat }
-    }
-
-    /// The recording and the seat, and what the letter knew of them.
-    pub fn part(self) -> (Recording, EncSeat)
-        ensures same { result ≡ self }
-        ensures together { BelongTogether 512 result.0 result.1 }
-    {
-        let Letter { recording, seat } = self;
-        (recording, seat)
-    }
-}
 
 /// What a seat of a box knows. No value of it is made.
 pub struct Knows {
@@ -61,7 +21,7 @@ impl Model for Knows {
 /// The rule of a box. Its key is the hold table, of which the rule alone knows.
 pub struct Law;
 
-impl TableRule<Option<Letter>, Knows, HoldTable> for Law {
+impl<C: Posting> TableRule<Option<Letter<C>>, Knows, HoldTable> for Law {
     ghost use Rattle.letter_boxes.specs.Mail.{IsMail, first_view};
 
     ghost holds = { IsMail };
@@ -72,7 +32,7 @@ impl TableRule<Option<Letter>, Knows, HoldTable> for Law {
 /// A seat is made.
 pub struct Enter;
 
-impl Play<Option<Letter>, Knows> for Enter {
+impl<C: Posting> Play<Option<Letter<C>>, Knows> for Enter {
     ghost use Rattle.letter_boxes.specs.Mail.{Enters};
 
     ghost then = { Enters };
@@ -81,25 +41,34 @@ impl Play<Option<Letter>, Knows> for Enter {
 /// An empty box is taken.
 pub struct Claim;
 
-impl Play<Option<Letter>, Knows> for Claim {
+impl<C: Posting> Play<Option<Letter<C>>, Knows> for Claim {
     ghost use Rattle.letter_boxes.specs.Mail.{Claims};
 
     ghost then = { Claims };
 }
 
-/// A full box is taken.
+/// A box with the letter of an encoder that was ended is taken.
 pub struct Grab;
 
-impl Play<Option<Letter>, Knows> for Grab {
+impl<C: Posting> Play<Option<Letter<C>>, Knows> for Grab {
     ghost use Rattle.letter_boxes.specs.Mail.{Grabs};
 
     ghost then = { Grabs };
 }
 
+/// A box with the letter of an encoder that was given up is taken.
+pub struct Find;
+
+impl<C: Posting> Play<Option<Letter<C>>, Knows> for Find {
+    ghost use Rattle.letter_boxes.specs.Mail.{Finds};
+
+    ghost then = { Finds };
+}
+
 /// A box is given back.
 pub struct Rest;
 
-impl Play<Option<Letter>, Knows> for Rest {
+impl<C: Posting> Play<Option<Letter<C>>, Knows> for Rest {
     ghost use Rattle.letter_boxes.specs.Mail.{Rests};
 
     ghost then = { Rests };

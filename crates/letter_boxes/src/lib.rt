@@ -3,9 +3,15 @@
 #![tactic(auto)]
 
 mod boxes;
+mod letter;
 mod letter_rule;
+mod posting;
+mod shared;
 #[cfg(test)]
 mod tests;
 
-pub use boxes::{LetterBox, Shared};
-pub use letter_rule::{Claim, Enter, Grab, Knows, Law, Letter, Rest};
+pub use boxes::LetterBox;
+pub use letter::Letter;
+pub use letter_rule::{Claim, Enter, Find, Grab, Knows, Law, Rest};
+pub use posting::{Posting, Unclaimed};
+pub use shared::Shared;
