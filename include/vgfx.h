@@ -122,7 +122,7 @@ enum {
     VGFX_ERROR_OUT_OF_MEMORY = 17,
     VGFX_ERROR_NO_OBJECT = 100,     /* the handle is null, or of the other kind */
     VGFX_ERROR_TRY_AGAIN = 101,     /* an encoder has not come back yet */
-    VGFX_ERROR_ENDED = 102,         /* memory was wanting in an earlier frame, or an encoder was dropped: no encoder begins and no frame ends */
+    VGFX_ERROR_ENDED = 102,         /* memory was wanting in an earlier frame's render, or an encoder was dropped: no encoder begins, no frame ends */
     VGFX_ERROR_TOO_SMALL = 103,     /* a buffer that is to be written is too small */
     VGFX_ERROR_BAD_VALUE = 104,     /* a number is none of its enumeration */
     VGFX_ERROR_TAKEN = 105,         /* the handle that is to be set is not null */
@@ -336,8 +336,8 @@ VGFX_CALL vgfx_collect(vgfx_context *context, uint32_t *out);
  *   VGFX_ERROR_TOO_SMALL
  *   VGFX_ERROR_TRY_AGAIN      an encoder is still out. What has come is kept and nothing is lost: call again when it has ended
  *   VGFX_ERROR_FRAMES_SPENT   what has come is kept
- *   VGFX_ERROR_OUT_OF_MEMORY  the context is ended. Where memory was wanting before the frame was rendered, the pixels are those of the last
- *                             frame; else they are drawn in part */
+ *   VGFX_ERROR_OUT_OF_MEMORY  where memory was wanting before the frame was rendered, what has come is kept, the pixels are those of the last
+ *                             frame, and it can be called again; else the pixels are drawn in part, and from then on it is VGFX_ERROR_ENDED */
 VGFX_CALL vgfx_frame(vgfx_context *context, void *picture, size_t picture_length, vgfx_frame_report *report);
 
 /* Reads the back buffer by 0, or a texture, as the last frame left it: row by row from the top, four bytes a pixel, with `stride` bytes from

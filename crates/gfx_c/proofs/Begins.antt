@@ -1,5 +1,5 @@
 -- How encoders begin.
-use Rattle.std.proofs.Common.{◌≡◌, ℕ, Bool, false, List, Option, Some, None, Result, Ok, Err, refl, ap, sym, ◌∙◌, subst}
+use Rattle.std.proofs.Common.{◌≡◌, ℕ, false, List, Option, Some, None, Result, Ok, Err, refl, ap, sym, ◌∙◌, subst}
 use Rattle.std.specs.Prelude.{MatchOption, IfOk, ⊤}
 use Rattle.gfx_model.specs.FrameCalls.{Begun, begin_encoder, frame_refusal}
 use Rattle.gfx_model.specs.Recorder.{Room}
@@ -18,6 +18,7 @@ use Rattle.render_core.specs.Rendered.{Rendering}
 use Rattle.c_words.specs.declared.faults.Fault.{Fault}
 use Rattle.gfx_c.specs.Calls.{BeginsHere, BeginsEncoder, BeginsRecorder, IsFirstRefusalOrWant, is_over}
 use Rattle.c_words.specs.Statuses.{told_of}
+use Rattle.gfx_c.specs.declared.standing.Standing.{Standing}
 use Rattle.gfx_c.specs.Views.{ContextView, EncoderView, IsOn}
 use Rattle.gfx_c.proofs.Told.{context_with}
 
@@ -28,9 +29,9 @@ same_begun x y e = cc e
 pub begins_views : (room : Room) (e : encoders.EncoderView) (a b : CoreView) → Begins own room e a b → e.recorder.view_count ≡ view_count a.state.book.resources.views
 begins_views room e a b m = sym (ap (λ (x : Begun). x.recorder.view_count) (same_begun _ (record { encoder = e.seat.encoder; recorder = e.recorder }) m.made))
 
-module _ (rows : List (Option Handle)) (renderer : Rendering) (is_shown : Bool) (most : ℕ) (a b : CoreView) {t : TableId} (o : IsOn t a) where
+module _ (rows : List (Option Handle)) (renderer : Rendering) (standing : Standing) (most : ℕ) (a b : CoreView) {t : TableId} (o : IsOn t a) where
   abbrev with_core : CoreView → ContextView
-  with_core c = context_with rows renderer is_shown most c
+  with_core c = context_with rows renderer standing most c
 
   recorder_now : (room : Room) (result : Result RecorderView Refusal) → IsBegin own (λ r. r.state) result room a b → IfOk result (λ r. r.table ≡ a.table) → BeginsRecorder result room (with_core a) (with_core b)
   recorder_now room (Ok r) m same = (m, same, begins_views room r.state a b m ∙ o.views_are, refl)

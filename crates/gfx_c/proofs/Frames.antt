@@ -1,5 +1,5 @@
 -- The end of a frame, step by step.
-use Rattle.std.proofs.Common.{◌≡◌, ℕ, ◌+◌, ◌-◌, ◌<◌, ◌≤◌, ◌||◌, ◌==◌, inl, inr, Bool, true, false, if◌then◌else◌, List, [], ◌∷◌, map, length, drop, ◌++◌, Option, Some, None, Result, Ok, Err, refl, sym, ap, ◌∙◌, subst, arith}
+use Rattle.std.proofs.Common.{◌≡◌, ℕ, ◌+◌, ◌-◌, ◌<◌, ◌≤◌, ◌==◌, inl, inr, Bool, true, false, if◌then◌else◌, List, [], ◌∷◌, map, length, drop, ◌++◌, Option, Some, None, Result, Ok, Err, refl, sym, ap, ◌∙◌, subst, arith}
 use Rattle.std.proofs.lemmas.Bool.{eqb-true}
 use Rattle.std.proofs.lemmas.List.{length-map}
 use Rattle.scene_model.specs.Output.{picture_text}
@@ -7,7 +7,6 @@ use Rattle.gfx_model.specs.Frames.{collected}
 use Rattle.gfx_model.specs.FrameCalls.{end_frame, frame_refusal}
 use Rattle.gfx_model.specs.Views.{view_count}
 use Rattle.gfx_model.specs.Resources.{with_live_target}
-use Rattle.gfx_model.specs.Words.{Handle}
 use Rattle.atomic_table.specs.Seated.{TableId}
 use Rattle.resource_book.specs.declared.frames.Work.{Work}
 use Rattle.frame_record.specs.declared.frame.Frame.{Frame}
@@ -15,10 +14,9 @@ use Rattle.frame_record.specs.declared.frame.Outcome.{Outcome}
 use Rattle.frame_record.specs.declared.frame.Outcome.TheVariants as outcomes
 use Rattle.frame_record.specs.declared.frame.RenderedFrame.{RenderedFrame}
 use Rattle.frame_record.specs.Seen.{entry_seen, recordings_seen}
-use Rattle.context_core.specs.Ended.{IsReady, Finishes, Gives, StartsNext}
+use Rattle.context_core.specs.Ended.{IsReady, Finishes, Gives}
 use Rattle.context_core.specs.Ended as cores
 use Rattle.context_core.specs.States.{CoreView, state_of, frames_end}
-use Rattle.context_core.proofs.Ends.{gives_both}
 use Rattle.context_core.specs.declared.ending.Prepared.{Prepared}
 use Rattle.render_core.specs.Outcomes.{is_shown}
 use Rattle.render_core.specs.Rendered.{Rendering, IsRendered}
@@ -26,9 +24,9 @@ use Rattle.render_core.specs.Shown.{HeldAfter}
 use Rattle.c_words.specs.declared.faults.Fault.{Fault}
 use Rattle.gfx_c.specs.declared.frame.Framed.{Framed}
 use Rattle.gfx_c.specs.Calls.{is_over}
+use Rattle.gfx_c.specs.Standings.{is_open, stands}
 use Rattle.gfx_c.specs.Frames.{Shows, HandsOut, Delivers, IsDelivered, IsMade, IsTold, Tells, FramesSeen, FramesUnseen, FramesInto, came_back, emptied, picture_of}
 use Rattle.gfx_c.specs.Views.{ContextView, IsOn}
-use Rattle.gfx_c.proofs.Told.{context_with}
 
 -- ---- what the preparation told holds still
 
@@ -44,9 +42,6 @@ module _ (p : Prepared) (mid now : CoreView) (r : IsReady p mid now) where
 
   pub same_views : p.work.views ≡ now.state.book.resources.views
   same_views = r.prepared.work.views ∙ sym (ap (λ (c : CoreView). c.state.book.resources.views) r.after)
-
-  pub runs_still : mid.state.is_ended ≡ false → now.state.is_ended ≡ false
-  runs_still e = ap (λ (c : CoreView). c.state.is_ended) r.after ∙ e
 
   pub same_journal : map entry_seen p.journal.items ≡ collected (recordings_seen now.state.gathered)
   same_journal = r.prepared.journal ∙ sym (ap (λ (c : CoreView). collected (recordings_seen c.state.gathered)) r.after)
@@ -90,6 +85,7 @@ module _ {t : TableId} {now : CoreView} (o : IsOn t now) (work : Work) (f : Fram
         ∙ length-map now.state.book.resources.views.settings (with_live_target now.state.book.resources) ∙ o.views_are;
     none_out = ap (λ (c : CoreView). c.state.out) e;
     none_given = ap (λ (c : CoreView). c.state.is_given) e ∙ ap (λ (c : CoreView). c.state.is_given) g.same;
+    runs = ap (λ (c : CoreView). c.state.is_ended) e ∙ ap (λ (c : CoreView). c.state.is_ended) g.same ∙ o.runs;
   }
 
 -- ---- a frame is rendered
@@ -101,12 +97,17 @@ shown_held outcomes.PictureFault text held s h = absurd (cc s)
 shown_held outcomes.OutOfMemory text held s h = absurd (cc s)
 shown_held outcomes.Skipped text held s h = absurd (cc s)
 
+-- a context is open after a frame only where that was shown
+shown_where_open : (b : Bool) → is_open (stands b) ≡ true → b ≡ true
+shown_where_open true e = refl
+shown_where_open false e = e
+
 -- the picture is handed out
-pub handed : (f : Frame) (old new : ContextView) (n : ℕ) (before after : List ℕ) → Shows f old new → new.is_shown ≡ true → HandsOut new.renderer.held n before after
+pub handed : (f : Frame) (old new : ContextView) (n : ℕ) (before after : List ℕ) → Shows f old new → is_open new.standing ≡ true → HandsOut new.renderer.held n before after
     → (n ≡ length (picture_of new)) × (n ≤ length before) × (after ≡ picture_of new ++ drop n before)
 handed f old new n before after s shown out =
     let r : RenderedFrame = s.0 in
-    let is : is_shown r.outcome ≡ true = sym (ap (λ (c : ContextView). c.is_shown) s.3) ∙ shown in
+    let is : is_shown r.outcome ≡ true = shown_where_open (is_shown r.outcome) (sym (ap (λ (c : ContextView). is_open c.standing) s.3) ∙ shown) in
     subst (λ (h : Option (List ℕ)). HandsOut h n before after) (shown_held r.outcome (picture_of new) new.renderer.held is s.2.held) out
 
 -- the room of a sink stays
@@ -118,11 +119,6 @@ pub emptied_is : (a old : Rendering) → a.stores ≡ old.stores → a.outcomes 
 emptied_is a old stores outcomes held tally faults sure j = record { stores = stores j; outcomes = outcomes j; held = held j; tally = tally j; faults = faults j; sure = sure j }
 
 -- ---- a frame ends
-
--- of two that are both false the first is
-pub first_false : (a b : Bool) → (a || b) ≡ false → a ≡ false
-first_false true b e = absurd (cc e)
-first_false false b e = refl
 
 -- a frame that was made and rendered is delivered, or not
 module _ (frame : Frame) (dropped : ℕ) (before after : List ℕ) (old mid new : ContextView) (runs : is_over old ≡ false) (enough : old.most ≤ length before) (made : IsMade frame dropped old mid) where

@@ -1,5 +1,5 @@
 -- A core stays on its table with its views, and no frame of it is out.
-use Rattle.std.proofs.Common.{◌≡◌, false, Result, Ok, Err, ap, sym, ◌∙◌, subst}
+use Rattle.std.proofs.Common.{◌≡◌, Result, Ok, Err, ap, sym, ◌∙◌, subst}
 use Rattle.gfx_model.specs.Words.{Handle}
 use Rattle.gfx_model.specs.Recorder.{Room}
 use Rattle.gfx_model.specs.Views.{view_count}
@@ -29,6 +29,7 @@ module _ {t : TableId} {a : CoreView} (o : IsOn t a) (b : CoreView) where
     views_are = ap (λ (c : CoreView). view_count c.state.book.resources.views) m.after ∙ (same_law a.state.book.resources call).0 ∙ o.views_are;
     none_out = ap (λ (c : CoreView). c.state.out) m.after ∙ o.none_out;
     none_given = ap (λ (c : CoreView). c.state.is_given) m.after ∙ o.none_given;
+    runs = ap (λ (c : CoreView). c.state.is_ended) m.after ∙ o.runs;
   }
   on_creates call (Err r) m = on_same m.1
 
@@ -38,6 +39,7 @@ module _ {t : TableId} {a : CoreView} (o : IsOn t a) (b : CoreView) where
     views_are = ap (λ (c : CoreView). view_count c.state.book.resources.views) m.1 ∙ (same_law a.state.book.resources call).0 ∙ o.views_are;
     none_out = ap (λ (c : CoreView). c.state.out) m.1 ∙ o.none_out;
     none_given = ap (λ (c : CoreView). c.state.is_given) m.1 ∙ o.none_given;
+    runs = ap (λ (c : CoreView). c.state.is_ended) m.1 ∙ o.runs;
   }
   on_updates call (Err r) m = on_same m.1
 
@@ -47,6 +49,7 @@ module _ {t : TableId} {a : CoreView} (o : IsOn t a) (b : CoreView) where
     views_are = ap (λ (c : CoreView). view_count c.state.book.resources.views) m.1 ∙ (same_law a.state.book.resources call).0 ∙ o.views_are;
     none_out = ap (λ (c : CoreView). c.state.out) m.1 ∙ o.none_out;
     none_given = ap (λ (c : CoreView). c.state.is_given) m.1 ∙ o.none_given;
+    runs = ap (λ (c : CoreView). c.state.is_ended) m.1 ∙ o.runs;
   }
   on_changes call (Err r) m = on_same m.1
 
@@ -56,6 +59,7 @@ module _ {t : TableId} {a : CoreView} (o : IsOn t a) (b : CoreView) where
     views_are = ap (λ (c : CoreView). view_count c.state.book.resources.views) m.1 ∙ (same_law a.state.book.resources (destroy h)).0 ∙ o.views_are;
     none_out = ap (λ (c : CoreView). c.state.out) m.1 ∙ o.none_out;
     none_given = ap (λ (c : CoreView). c.state.is_given) m.1 ∙ o.none_given;
+    runs = ap (λ (c : CoreView). c.state.is_ended) m.1 ∙ o.runs;
   }
   on_destroys h (Err r) m = on_same m.1
 
@@ -65,6 +69,7 @@ module _ {t : TableId} {a : CoreView} (o : IsOn t a) (b : CoreView) where
     views_are = ap (λ (c : CoreView). view_count c.state.book.resources.views) m.after ∙ o.views_are;
     none_out = ap (λ (c : CoreView). c.state.out) m.after ∙ o.none_out;
     none_given = ap (λ (c : CoreView). c.state.is_given) m.after ∙ o.none_given;
+    runs = ap (λ (c : CoreView). c.state.is_ended) m.after ∙ o.runs;
   }
 
   pub on_gathers : (r : Recording) (seat : SeatView) → cores.Gathers r seat a b → IsOn t b
@@ -73,6 +78,7 @@ module _ {t : TableId} {a : CoreView} (o : IsOn t a) (b : CoreView) where
     views_are = ap (λ (c : CoreView). view_count c.state.book.resources.views) m.after ∙ o.views_are;
     none_out = ap (λ (c : CoreView). c.state.out) m.after ∙ o.none_out;
     none_given = ap (λ (c : CoreView). c.state.is_given) m.after ∙ o.none_given;
+    runs = ap (λ (c : CoreView). c.state.is_ended) m.after ∙ o.runs;
   }
 
   pub on_prepares : (result : Result Prepared NotReady) → cores.Prepares result a b → IsOn t b
@@ -81,15 +87,11 @@ module _ {t : TableId} {a : CoreView} (o : IsOn t a) (b : CoreView) where
     views_are = ap (λ (c : CoreView). view_count c.state.book.resources.views) m.after ∙ o.views_are;
     none_out = ap (λ (c : CoreView). c.state.out) m.after ∙ o.none_out;
     none_given = ap (λ (c : CoreView). c.state.is_given) m.after ∙ o.none_given;
+    runs = ap (λ (c : CoreView). c.state.is_ended) m.after ∙ o.runs;
   }
   on_prepares (Err causes.EncodersOff) m = on_same m.1
   on_prepares (Err causes.FramesSpent) m = on_same m.2
-  on_prepares (Err causes.OutOfMemory) m = record {
-    table_is = ap (λ (c : CoreView). c.table) m.2 ∙ o.table_is;
-    views_are = ap (λ (c : CoreView). view_count c.state.book.resources.views) m.2 ∙ o.views_are;
-    none_out = ap (λ (c : CoreView). c.state.out) m.2 ∙ o.none_out;
-    none_given = ap (λ (c : CoreView). c.state.is_given) m.2 ∙ o.none_given;
-  }
+  on_prepares (Err causes.OutOfMemory) m = on_same m.2
 
   pub on_begun : (room : Room) (result : Result RecorderView Refusal) → IsBegin own (λ r. r.state) result room a b → IsOn t b
   on_begun room (Ok r) m = on_begins room r.state m
@@ -103,10 +105,6 @@ gathers_on g (gathers_more r seat h m) = gathers_more r seat (gathers_on g h) m
 
 pub gathers_one : (r : Recording) (seat : SeatView) (a b : CoreView) → cores.Gathers r seat a b → Gathers a b
 gathers_one r seat a b m = gathers_more r seat gathers_none m
-
-pub gathered_running : {a b : CoreView} → Gathers a b → a.state.is_ended ≡ false → b.state.is_ended ≡ false
-gathered_running gathers_none e = e
-gathered_running (gathers_more r seat g m) e = ap (λ (c : CoreView). c.state.is_ended) m.after ∙ gathered_running g e
 
 pub on_gathered : {t : TableId} {a b : CoreView} → IsOn t a → Gathers a b → IsOn t b
 on_gathered o gathers_none = o

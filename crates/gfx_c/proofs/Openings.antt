@@ -20,6 +20,7 @@ on_opened t s c e same = record {
   views_are = ap (λ (x : CoreView). view_count x.state.book.resources.views) e ∙ length-replicate 512 plain_view;
   none_out = ap (λ (x : CoreView). x.state.out) e;
   none_given = ap (λ (x : CoreView). x.state.is_given) e;
+  runs = ap (λ (x : CoreView). x.state.is_ended) e;
 }
 
 module _ (width height : ℕ) (r : Rendering) where

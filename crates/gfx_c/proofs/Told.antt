@@ -15,6 +15,7 @@ use Rattle.c_words.specs.declared.faults.Fault.TheVariants as faults
 use Rattle.gfx_c.specs.Calls.{CreatesHere, CreatesTexture, fits_texture, UpdatesHere, ChangesHere, DestroysHere, OnThing, OnMaybe, given}
 use Rattle.c_words.specs.Statuses.{told_of}
 use Rattle.c_words.specs.Things.{named, named_or_none, row_of_word}
+use Rattle.gfx_c.specs.declared.standing.Standing.{Standing}
 use Rattle.gfx_c.specs.Views.{ContextView}
 
 -- ---- a call on a thing, of a context or an encoder
@@ -42,12 +43,12 @@ module _ {X V : Type 0} (rows : V → List (Option Handle)) (word : ℕ) (result
 -- ---- the calls of a context
 
 -- a context with a core
-abbrev pub context_with : List (Option Handle) → Rendering → Bool → ℕ → CoreView → ContextView
-context_with rows renderer is_shown most c = record { core = c; rows = rows; renderer = renderer; is_shown = is_shown; most = most }
+abbrev pub context_with : List (Option Handle) → Rendering → Standing → ℕ → CoreView → ContextView
+context_with rows renderer standing most c = record { core = c; rows = rows; renderer = renderer; standing = standing; most = most }
 
-module _ (rows : List (Option Handle)) (renderer : Rendering) (is_shown : Bool) (most : ℕ) (a b : CoreView) where
+module _ (rows : List (Option Handle)) (renderer : Rendering) (standing : Standing) (most : ℕ) (a b : CoreView) where
   abbrev with_core : CoreView → ContextView
-  with_core c = context_with rows renderer is_shown most c
+  with_core c = context_with rows renderer standing most c
 
   pub changes_told : (call : ResourceCall) (result : Result (Unit {0}) Fault) (r : Result (Unit {0}) Refusal) → result ≡ told_of r → Changes own r call a b → (old : ContextView) → with_core a ≡ old → ChangesHere result call old (with_core b)
   changes_told call result r is m old e = subst (λ (o : ContextView). ChangesHere result call o (with_core b)) e (r, is, m, refl)
@@ -61,9 +62,9 @@ module _ (rows : List (Option Handle)) (renderer : Rendering) (is_shown : Bool) 
   -- a create, whose handle is kept
   pub creates_told : (call : ResourceCall) (result : Result Handle Fault) (r : Result Handle Refusal) (kept : ContextView) → result ≡ told_of r → Creates own r call a b → kept ≡ given r b (with_core b) → (old : ContextView) → with_core a ≡ old → CreatesHere result call old kept
   creates_told call result (Ok h) kept is m e old same = subst (λ (o : ContextView). CreatesHere result call o kept) same
-      (Ok h, is, subst (λ (k : ContextView). Creates own (Ok h) call a k.core) (sym e) m, e ∙ (λ j. record { core = sym (ap (λ (k : ContextView). k.core) e) j; rows = slice_set rows (row_of_word (handle_word h)) (Some h); renderer = renderer; is_shown = is_shown; most = most }))
+      (Ok h, is, subst (λ (k : ContextView). Creates own (Ok h) call a k.core) (sym e) m, e ∙ (λ j. record { core = sym (ap (λ (k : ContextView). k.core) e) j; rows = slice_set rows (row_of_word (handle_word h)) (Some h); renderer = renderer; standing = standing; most = most }))
   creates_told call result (Err f) kept is m e old same = subst (λ (o : ContextView). CreatesHere result call o kept) same
-      (Err f, is, subst (λ (k : ContextView). Creates own (Err f) call a k.core) (sym e) m, e ∙ (λ j. record { core = sym (ap (λ (k : ContextView). k.core) e) j; rows = rows; renderer = renderer; is_shown = is_shown; most = most }))
+      (Err f, is, subst (λ (k : ContextView). Creates own (Err f) call a k.core) (sym e) m, e ∙ (λ j. record { core = sym (ap (λ (k : ContextView). k.core) e) j; rows = rows; renderer = renderer; standing = standing; most = most }))
 
 -- ---- a texture whose sides or bytes do not fit
 

@@ -1,5 +1,5 @@
 -- How the calls of a context and of an encoder are answered.
-use Rattle.std.specs.Prelude.{◌≡◌, ℕ, ◌+◌, ◌*◌, ◌⊎◌, ◌||◌, ◌&&◌, nat_le, not, Bool, true, false, List, [], replicate, length, slice_set, Option, Some, None, Result, Ok, Err, MatchResult, MatchOption, ⊤}
+use Rattle.std.specs.Prelude.{◌≡◌, ℕ, ◌+◌, ◌*◌, ◌⊎◌, ◌&&◌, nat_le, not, Bool, true, false, List, [], replicate, length, slice_set, Option, Some, None, Result, Ok, Err, MatchResult, MatchOption, ⊤}
 use Rattle.gfx_model.specs.Words.{Handle, Format}
 use Rattle.gfx_model.specs.World.{first_world}
 use Rattle.gfx_model.specs.Recorder.{EncoderCall, Room}
@@ -24,6 +24,8 @@ use Rattle.c_words.specs.declared.faults.Fault.{Fault}
 use Rattle.c_words.specs.declared.faults.Fault.TheVariants as faults
 use Rattle.c_words.specs.Statuses.{told_of}
 use Rattle.c_words.specs.Things.{row_of_word, named, named_or_none}
+use Rattle.gfx_c.specs.declared.standing.Standing.TheVariants.{Open}
+use Rattle.gfx_c.specs.Standings.{is_open}
 use Rattle.gfx_c.specs.Views.{ContextView, EncoderView}
 
 -- ---- a context begins
@@ -49,7 +51,7 @@ pub record IsOpened (width height : ℕ) (c : ContextView) : Type 0 where
   pub state : c.core.state ≡ opened_core (record { frame = 0; serial = 1; views = 512; latency = 1 })
   pub rows : c.rows ≡ replicate 7168 None
   pub renderer : c.renderer ≡ first_rendering width height
-  pub is_shown : c.is_shown ≡ true
+  pub standing : c.standing ≡ Open
   pub most : c.most ≡ 3 * (width * height) + 17
 
 -- why a context is not made: a side is none; or memory is wanting, which may come before
@@ -64,7 +66,7 @@ OpensHere result width height = MatchResult result (IsOpened width height) (λ f
 
 -- no encoder begins and no frame ends any more
 abbrev pub is_over : ContextView → Bool
-is_over c = c.core.state.is_ended || not c.is_shown
+is_over c = not (is_open c.standing)
 
 -- ---- calls on things and views
 

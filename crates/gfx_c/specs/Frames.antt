@@ -15,7 +15,10 @@ use Rattle.render_core.specs.Rendered.{Rendering, IsRendered}
 use Rattle.c_words.specs.declared.faults.Fault.{Fault}
 use Rattle.c_words.specs.declared.faults.Fault.TheVariants as faults
 use Rattle.gfx_c.specs.declared.frame.Framed.{Framed}
+use Rattle.letter_boxes.specs.Letters.{Letter}
 use Rattle.gfx_c.specs.Calls.{Gathers, is_over}
+use Rattle.gfx_c.specs.declared.standing.Standing.TheVariants.{GivenUp}
+use Rattle.gfx_c.specs.Standings.{is_open, stands, SaysGivenUp}
 use Rattle.gfx_c.specs.Views.{ContextView}
 
 -- a core whose frame came back
@@ -40,7 +43,7 @@ fault_of causes.EncodersOff = faults.TryAgain
 fault_of causes.FramesSpent = faults.Refused refusals.FramesSpent
 fault_of causes.OutOfMemory = faults.Refused refusals.OutOfMemory
 
--- why no frame is made: an encoder has not come back, the numbers are spent, or memory is wanting and no frame follows
+-- why no frame is made: an encoder has not come back, the numbers are spent, or memory is wanting. The core is as it was with what had come gathered
 abbrev pub IsNotMade : Fault → (mid new : CoreView) → Type 0
 IsNotMade f mid new = (cause : NotReady) × (f ≡ fault_of cause) × IsNotReady cause mid new
 
@@ -57,7 +60,7 @@ emptied r = record r { held = Some []; faults = 0 }
 
 -- a frame is rendered into an empty sink
 abbrev pub Shows : Frame → (old new : ContextView) → Type 0
-Shows f old new = (r : RenderedFrame) × (r.frame ≡ f) × IsRendered (emptied old.renderer) r new.renderer × (new ≡ record old { renderer = new.renderer; is_shown = is_shown r.outcome })
+Shows f old new = (r : RenderedFrame) × (r.frame ≡ f) × IsRendered (emptied old.renderer) r new.renderer × (new ≡ record old { renderer = new.renderer; standing = stands (is_shown r.outcome) })
 
 -- a frame is made of what has come and rendered, or not; what is told of it are its number and the sum of the numbers that its encoders ended with
 abbrev pub MakesFrame : Result (ℕ × ℕ) Fault → (old new : ContextView) → Type 0
@@ -80,7 +83,7 @@ pub record IsDelivered (framed : Framed) (f : Frame) (dropped : ℕ) (before aft
   pub number : framed.number ≡ f.number
   pub dropped_is : framed.dropped ≡ dropped
   pub shows : Shows f old new
-  pub shown : new.is_shown ≡ true
+  pub shown : is_open new.standing ≡ true
   pub bytes : framed.picture ≡ length (picture_of new)
   pub fits : framed.picture ≤ length before
   pub picture : after ≡ picture_of new ++ drop framed.picture before
@@ -89,7 +92,7 @@ pub record IsDelivered (framed : Framed) (f : Frame) (dropped : ℕ) (before aft
 pub record IsNotShown (fault : Fault) (f : Frame) (before after : List ℕ) (old new : ContextView) : Type 0 where
   pub wants : fault ≡ faults.Refused refusals.OutOfMemory
   pub shows : Shows f old new
-  pub not_shown : new.is_shown ≡ false
+  pub not_shown : is_open new.standing ≡ false
   pub same : after ≡ before
 
 -- a frame is rendered and its picture handed out, or not
@@ -104,7 +107,7 @@ pub record IsTold (framed : Framed) (f : Frame) (dropped : ℕ) (old new : Conte
   pub number : framed.number ≡ f.number
   pub dropped_is : framed.dropped ≡ dropped
   pub shows : Shows f old new
-  pub shown : new.is_shown ≡ true
+  pub shown : is_open new.standing ≡ true
   pub none : framed.picture ≡ 0
 
 -- a frame is rendered and told, or not
@@ -161,13 +164,16 @@ abbrev pub FramesInto : Result Framed Fault → (before after : List ℕ) → (o
 FramesInto result [] after old new = FramesUnseen result old new × (after ≡ [])
 FramesInto result (b ∷ bs) after old new = FramesSeen result (b ∷ bs) after old new
 
--- a context of which no encoder begins and no frame ends from then on
-abbrev pub closed : ContextView → ContextView
-closed c = record c { is_shown = false }
+-- an encoder has not come back, and a letter of the context's table says that one was given up; from then on the context has the letter, and is over
+pub record IsAbandoned (old new : ContextView) : Type 0 where
+  pub off : 0 < length old.core.state.seat.off
+  pub letter : Letter
+  pub says : SaysGivenUp old.core.table letter
+  pub after : new ≡ record old { standing = GivenUp letter }
 
--- no frame ends: the context is over; or an encoder that has not come back was given up, and from then on the context is over
+-- no frame ends: the context is over; or an encoder was given up, and from then on it is over
 abbrev pub IsClosed : (old new : ContextView) → Type 0
-IsClosed old new = ((is_over old ≡ true) × (new ≡ old)) ⊎ ((is_over old ≡ false) × (0 < length old.core.state.seat.off) × (new ≡ closed old))
+IsClosed old new = ((is_over old ≡ true) × (new ≡ old)) ⊎ ((is_over old ≡ false) × IsAbandoned old new)
 
 -- the end of a frame, with the buffer for its picture before and after
 abbrev pub FramesHere : Result Framed Fault → (before after : List ℕ) → (old new : ContextView) → Type 0

@@ -1,5 +1,6 @@
 pub mod Kept
 pub mod Blits
+pub mod Standings
 pub mod Views
 pub mod Rendered
 pub mod Calls

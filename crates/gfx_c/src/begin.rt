@@ -1,7 +1,9 @@
 // How encoders begin and come back.
-ghost use Rattle.std.specs.Prelude.{◌≡◌, ◌<◌, false, length, IfOk, IfSome};
+ghost use Rattle.std.specs.Prelude.{◌≡◌, ◌<◌, true, length, Some, IfOk, IfSome, is_some};
+ghost use Rattle.letter_boxes.specs.Letters.{IsOf};
+ghost use Rattle.draw_encoder.specs.declared.items.Recording.{Recording};
 ghost use Rattle.gfx_words.specs.Seen.{room_seen};
-ghost use Rattle.hold_table.specs.Seats.{table_of, enc_table, enc_view};
+ghost use Rattle.hold_table.specs.Seats.{table_of, enc_view};
 ghost use Rattle.context_core.specs.Ended as cores;
 ghost use Rattle.gfx_c.specs.Calls.{BeginsHere, BeginsEncoder, BeginsRecorder, Collects, Gathers};
 
@@ -11,7 +13,7 @@ use c_words::{Fault, Things, told};
 use context_core::Room;
 use draw_encoder::Recorder;
 use gfx_words::Refusal;
-use letter_boxes::{Letter, Shared};
+use letter_boxes::{Letter, Shared, Unclaimed};
 use std::alloc::AllocError;
 use std::sync::Arc;
 
@@ -49,14 +51,13 @@ impl Context {
     }
 
     // The table and the letter boxes, for an encoder.
-    fn share(&self) -> Result<Arc<Shared>, AllocError>
+    fn share(&self) -> Result<Arc<Shared<Unclaimed>>, AllocError>
         ensures { IfOk result (λ s. table_of s.value.table ≡ self.now.core.table) }
     {
         Ok(Arc::try_clone(&self.shared)?)
     }
 
     fn begin_recorder(&mut self, room: Room) -> Result<Recorder, Refusal>
-        requires { self.old.core.state.is_ended ≡ false }
         ensures { BeginsRecorder result (room_seen room) self.old self.new }
     {
         self.core.begin(&self.shared.table, room)
@@ -65,11 +66,10 @@ impl Context {
     // Begins an encoder on the context's own table.
     fn begin_on(
         &mut self,
-        shared: Arc<Shared>,
+        shared: Arc<Shared<Unclaimed>>,
         things: Arc<Things>,
         room: Room,
     ) -> Result<Encoder, Refusal>
-        requires running { self.old.core.state.is_ended ≡ false }
         requires table { table_of shared.value.table ≡ self.old.core.table }
         ensures { BeginsEncoder result things.value.rows.items (room_seen room) self.old self.new }
     {
@@ -101,17 +101,18 @@ impl Context {
     }
 
     // The letter of the encoder of a number, where it has come.
-    fn letter_of(&self, number: u8) -> Option<Letter>
+    fn letter_of(&self, number: u8) -> Option<Letter<Unclaimed>>
         requires { number < 8 }
-        ensures { IfSome result (λ l. enc_table l.1 ≡ self.now.core.table) }
+        ensures { IfSome result (λ l. IsOf self.now.core.table l × (is_some l.0 ≡ true)) }
     {
         self.shared.try_take(number)
     }
 
     // Gathers what a letter of the table has.
-    fn gather(&mut self, letter: Letter)
-        requires { enc_table letter.1 ≡ self.old.core.table }
-        ensures gathers { cores.Gathers letter.0 (enc_view letter.1) self.old.core self.new.core }
+    fn gather(&mut self, letter: Letter<Unclaimed>)
+        requires table { IsOf self.old.core.table letter }
+        requires ended { is_some letter.0 ≡ true }
+        ensures gathers { (r : Recording) × (letter.0 ≡ Some r) × cores.Gathers r (enc_view letter.1) self.old.core self.new.core }
         ensures same { self.new ≡ record self.old { core = self.new.core } }
     {
         let (recording, seat) = letter.part();

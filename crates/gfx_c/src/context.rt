@@ -1,17 +1,19 @@
 // The context that C holds.
-ghost use Rattle.std.specs.Prelude.{◌≡◌, ◌≤◌, ◌+◌, ◌*◌, ◌||◌, ◌&&◌, not, true, [], IfOk};
+ghost use Rattle.std.specs.Prelude.{◌≡◌, ◌≤◌, ◌+◌, ◌*◌, ◌&&◌, not, true, [], IfOk};
 ghost use Rattle.hold_table.specs.Seats.{table_of};
 ghost use Rattle.context_core.specs.States.{opened_core};
 ghost use Rattle.gfx_c.specs.Calls.{IsOpened, OpensHere, first_rendering, is_side};
 ghost use Rattle.gfx_c.specs.Rendered.{rendering_of};
+ghost use Rattle.gfx_c.specs.Standings.{is_open};
 ghost use Rattle.c_words.specs.Things.{named, named_or_none};
 
 use crate::picture::PictureSink;
+use crate::standing::Standing;
 use c_words::{Fault, Things};
 use context_core::{ContextCore, Start};
 use gfx_words::{Handle, Refusal};
 use hold_table::HoldTable;
-use letter_boxes::Shared;
+use letter_boxes::{Shared, Unclaimed};
 use render_core::Renderer;
 use std::alloc::{AllocError, Global};
 use std::marker::Model;
@@ -32,12 +34,12 @@ const MOST_HEADER: usize = 17;
 #[derive(Drop)]
 pub struct Context {
     pub(crate) alloc: Global,
-    pub(crate) shared: Arc<Shared>,
+    pub(crate) shared: Arc<Shared<Unclaimed>>,
     pub(crate) core: ContextCore,
     pub(crate) things: Things,
     pub(crate) lent: Option<Arc<Things>>,
     pub(crate) renderer: Renderer<PictureSink>,
-    pub(crate) is_shown: bool,
+    pub(crate) standing: Standing,
 }
 
 impl Model for Context {
@@ -48,7 +50,7 @@ impl Model for Context {
 
     ghost Value = { ContextView };
 
-    ghost view = { λ c. record { core = c.core; rows = c.things.rows.items; renderer = rendering_of c.renderer; is_shown = c.is_shown; most = c.renderer.sink.capacity } };
+    ghost view = { λ c. record { core = c.core; rows = c.things.rows.items; renderer = rendering_of c.renderer; standing = c.standing; most = c.renderer.sink.capacity } };
 
     ghost invariant = { λ c. IsOn (table_of c.shared.value.table) c.core × IfSome c.lent (λ a. a.value.rows.items ≡ c.things.rows.items) };
 }
@@ -62,7 +64,7 @@ pub(crate) fn is_length(side: u16) -> bool
 }
 
 // A table with its letter boxes, and a core on it.
-fn new_core(alloc: Global) -> Result<(Shared, ContextCore), AllocError>
+fn new_core(alloc: Global) -> Result<(Shared<Unclaimed>, ContextCore), AllocError>
     ensures { IfOk result (λ p. p.1 ≡ record { table = table_of p.0.table; state = opened_core (record { frame = 0; serial = 1; views = 512; latency = 1 }) }) }
 {
     let (table, api) = HoldTable::new(alloc, START.frame)?;
@@ -126,7 +128,7 @@ impl Context {
             things,
             lent: None,
             renderer,
-            is_shown: true,
+            standing: Standing::Open,
         })
     }
 
@@ -160,8 +162,8 @@ impl Context {
 
     /// Whether no encoder begins and no frame ends any more.
     pub(crate) fn is_ended(&self) -> bool
-        ensures { result ≡ (self.now.core.state.is_ended || not self.now.is_shown) }
+        ensures { result ≡ not (is_open self.now.standing) }
     {
-        self.core.is_ended() || !self.is_shown
+        !self.standing.is_open()
     }
 }

@@ -6,48 +6,18 @@ use crate::c_creates::{
     vgfx_create_layout, vgfx_create_program, vgfx_create_texture, vgfx_create_uniform,
     vgfx_create_vertex_buffer,
 };
-use crate::c_encoder::{vgfx_encoder_drop, vgfx_encoder_end};
+use crate::c_encoder::vgfx_encoder_end;
 use crate::c_frame::vgfx_frame;
 use crate::c_recording::{
     vgfx_encoder_blit, vgfx_encoder_set_indices, vgfx_encoder_set_int, vgfx_encoder_set_scissor,
-    vgfx_encoder_set_state, vgfx_encoder_set_stencil, vgfx_encoder_set_texture,
-    vgfx_encoder_set_transform, vgfx_encoder_set_transient_indices,
-    vgfx_encoder_set_transient_vertices, vgfx_encoder_set_vec4, vgfx_encoder_set_vertices,
-    vgfx_encoder_submit, vgfx_encoder_touch,
+    vgfx_encoder_set_texture, vgfx_encoder_set_transient_vertices, vgfx_encoder_set_vec4,
+    vgfx_encoder_set_vertices, vgfx_encoder_submit,
 };
-use crate::c_updates::{vgfx_destroy, vgfx_update_buffer, vgfx_update_texture};
-use crate::c_views::{
-    vgfx_reset_view, vgfx_set_view_clear, vgfx_set_view_mode, vgfx_set_view_order,
-    vgfx_set_view_rect, vgfx_set_view_scissor, vgfx_set_view_target, vgfx_set_view_transform,
-};
-use crate::frame::Framed;
+use crate::c_updates::{vgfx_update_buffer, vgfx_update_texture};
 use crate::slot::Slot;
-use crate::tests::first_wrong;
-use crate::transform::Transform;
-use c_words::Part;
+use crate::tests::{CORNER, COVER, NOTHING, first_wrong};
 use std::alloc::Global;
 use std::test::Fail;
-
-const NOTHING: Framed = Framed {
-    number: 0,
-    picture: 0,
-    dropped: 0,
-};
-
-// A triangle that covers each picture, in units of 1/65536, lowest byte first: (-1, 1), (3, 1), (-1, -3).
-const COVER: [u8; 24] = [
-    0, 0, 255, 255, 0, 0, 1, 0, 0, 0, 3, 0, 0, 0, 1, 0, 0, 0, 255, 255, 0, 0, 253, 255,
-];
-
-const CORNER: [Part; 1] = [Part {
-    attribute: 0,
-    component: 2,
-    count: 2,
-}];
-
-const IDENTITY: Transform = Transform {
-    m: [65536, 0, 0, 0, 0, 65536, 0, 0, 0, 0, 65536, 0],
-};
 
 // What a draw of one colour needs.
 #[derive(Clone, Copy, Drop)]
@@ -85,14 +55,11 @@ fn draw_row(alloc: Global, context: &mut Slot, of: Solid) -> u32 {
     statuses
 }
 
-// Eight encoders of a frame, each of which draws one pixel, and then eight of the next frame. Another context with things and an encoder of
-// its own stands beside, and takes none of them.
+// Eight encoders of a frame, each of which draws one pixel, and then eight of the next frame.
 #[test]
 fn eight_encoders_of_two_frames(rt: HostRuntime) -> Result<(), Fail> {
     let alloc = rt.alloc();
     let mut context = Slot::none(alloc);
-    let mut other = Slot::none(alloc);
-    let mut encoder = Slot::none(alloc);
     let mut of = Solid {
         layout: 0,
         color: 0,
@@ -104,28 +71,19 @@ fn eight_encoders_of_two_frames(rt: HostRuntime) -> Result<(), Fail> {
     assert_eq!(rt;
         first_wrong(&[
             (vgfx_init(alloc, &mut context, 8, 1), 0),
-            (vgfx_init(alloc, &mut other, 8, 1), 0),
-            (
-                vgfx_encoder_begin(alloc, &mut other, &mut encoder, 1, 0, 0),
-                0
-            ),
             (make_solid(alloc, &mut context, &mut of), 0),
             (draw_row(alloc, &mut context, of), 0),
-            (draw_pixel(alloc, &mut context, of, 8), 111),
-            (vgfx_collect(alloc, &mut other, &mut off), 0),
+            (vgfx_collect(alloc, &mut context, &mut off), 0),
+            (
+                vgfx_frame(alloc, &mut context, &mut picture, &mut framed),
+                0
+            ),
         ]),
         None
     );
-    assert_eq!(rt; off, 1);
-    assert_eq!(rt; vgfx_collect(alloc, &mut context, &mut off), 0);
-    assert_eq!(rt; off, 0);
     assert_eq!(rt;
-        vgfx_frame(alloc, &mut context, &mut picture, &mut framed),
-        0
-    );
-    assert_eq!(rt;
-        (framed.number, framed.picture, framed.dropped),
-        (0, 35, 40)
+        (off, framed.number, framed.picture, framed.dropped),
+        (0, 0, 35, 40)
     );
     assert_eq!(rt;
         picture[..],
@@ -138,6 +96,7 @@ fn eight_encoders_of_two_frames(rt: HostRuntime) -> Result<(), Fail> {
                 vgfx_frame(alloc, &mut context, &mut picture, &mut framed),
                 0
             ),
+            (vgfx_shutdown(alloc, &mut context), 0),
         ]),
         None
     );
@@ -145,30 +104,18 @@ fn eight_encoders_of_two_frames(rt: HostRuntime) -> Result<(), Fail> {
         (framed.number, framed.picture, framed.dropped),
         (1, 35, 40)
     );
-    assert_eq!(rt;
-        picture[..],
-        b"P6\n8 1\n255\n\x00\x00\x00\x20\x00\x00\x40\x00\x00\x60\x00\x00\x80\x00\x00\xa0\x00\x00\xc0\x00\x00\xe0\x00\x00\x07\x07\x07\x07\x07\x07"[..]
-    );
-    assert_eq!(rt;
-        first_wrong(&[
-            (vgfx_shutdown(alloc, &mut other), 0),
-            (vgfx_encoder_end(alloc, &mut encoder, 0), 0),
-            (vgfx_shutdown(alloc, &mut context), 0),
-        ]),
-        None
-    );
     Ok(())
 }
 
-// A draw by each call that an encoder has: its vertices come from an updated buffer and its indices from another, and it samples a
-// texture, of which a blit copied the one texel out of a texture that was updated.
+// A draw whose vertices come from an updated buffer and its indices from another, which samples a texture; of it a blit copied the one texel
+// out of a texture that was updated. A frame buffer holds the second.
 #[test]
 fn a_sampled_picture(rt: HostRuntime) -> Result<(), Fail> {
     let alloc = rt.alloc();
     let mut context = Slot::none(alloc);
     let mut encoder = Slot::none(alloc);
     let (mut layout, mut corners, mut indices, mut stage, mut program) = (0, 0, 0, 0, 0);
-    let (mut to, mut from) = (0, 0);
+    let (mut to, mut from, mut target) = (0, 0, 0);
     let mut framed = NOTHING;
     let mut picture = vec![in alloc; 0u8; 20]?;
     assert_eq!(rt;
@@ -204,31 +151,24 @@ fn a_sampled_picture(rt: HostRuntime) -> Result<(), Fail> {
                 0
             ),
             (
+                vgfx_create_frame_buffer(alloc, &mut context, from, 0, &mut target),
+                0
+            ),
+            (
                 vgfx_update_texture(alloc, &mut context, from, 0, 0, 1, 1, b"abcd"),
                 0
             ),
-            (
-                vgfx_encoder_begin(alloc, &mut context, &mut encoder, 3, 6, 1),
-                0
-            ),
-            (
-                vgfx_encoder_blit(alloc, &mut encoder, 0, from, 0, 0, to, 0, 0, 1, 1),
-                5
-            ),
-            (
-                vgfx_encoder_blit(alloc, &mut encoder, 0, to, 0, 0, from, 0, 0, 1, 1),
-                0
-            ),
-            (vgfx_encoder_set_state(alloc, &mut encoder, 256), 16),
-            (vgfx_encoder_set_state(alloc, &mut encoder, 15), 0),
-            (vgfx_encoder_set_stencil(alloc, &mut encoder, 0, 0), 0),
         ]),
         None
     );
     assert_eq!(rt;
         first_wrong(&[
             (
-                vgfx_encoder_set_transform(alloc, &mut encoder, &IDENTITY),
+                vgfx_encoder_begin(alloc, &mut context, &mut encoder, 2, 0, 1),
+                0
+            ),
+            (
+                vgfx_encoder_blit(alloc, &mut encoder, 0, to, 0, 0, from, 0, 0, 1, 1),
                 0
             ),
             (
@@ -236,22 +176,9 @@ fn a_sampled_picture(rt: HostRuntime) -> Result<(), Fail> {
                 0
             ),
             (
-                vgfx_encoder_set_indices(alloc, &mut encoder, corners, 0, 3),
-                6
-            ),
-            (
-                vgfx_encoder_set_transient_indices(alloc, &mut encoder, &[0u8; 6]),
-                0
-            ),
-            (
-                vgfx_encoder_set_transient_indices(alloc, &mut encoder, &[0u8]),
-                9
-            ),
-            (
                 vgfx_encoder_set_indices(alloc, &mut encoder, indices, 0, 3),
                 0
             ),
-            (vgfx_encoder_set_texture(alloc, &mut encoder, 2, to), 3),
             (vgfx_encoder_set_texture(alloc, &mut encoder, 1, to), 0),
             (vgfx_encoder_set_int(alloc, &mut encoder, stage, 1), 0),
             (
@@ -268,129 +195,5 @@ fn a_sampled_picture(rt: HostRuntime) -> Result<(), Fail> {
     );
     assert_eq!(rt; framed.picture, 14);
     assert_eq!(rt; picture[..14], b"P6\n1 1\n255\nabc"[..]);
-    Ok(())
-}
-
-// A view that comes first clears a texture that the other view samples, and each setting of a view.
-#[test]
-fn a_view_before_another(rt: HostRuntime) -> Result<(), Fail> {
-    let alloc = rt.alloc();
-    let mut context = Slot::none(alloc);
-    let mut encoder = Slot::none(alloc);
-    let (mut layout, mut program, mut color, mut depth, mut target) = (0, 0, 0, 0, 0);
-    let mut framed = NOTHING;
-    let mut picture = vec![in alloc; 0u8; 20]?;
-    assert_eq!(rt;
-        first_wrong(&[
-            (vgfx_init(alloc, &mut context, 1, 1), 0),
-            (
-                vgfx_create_layout(alloc, &mut context, &CORNER, &mut layout),
-                0
-            ),
-            (vgfx_create_program(alloc, &mut context, 2, &mut program), 0),
-            (
-                vgfx_create_filled_texture(alloc, &mut context, 1, 1, 0, 0, 0, 0, 0, 0, &mut color),
-                0
-            ),
-            (
-                vgfx_create_filled_texture(alloc, &mut context, 1, 1, 1, 0, 0, 0, 0, 0, &mut depth),
-                0
-            ),
-            (
-                vgfx_create_frame_buffer(alloc, &mut context, color, depth, &mut target),
-                0
-            ),
-            (vgfx_destroy(alloc, &mut context, color), 7),
-            (vgfx_set_view_target(alloc, &mut context, 1, color), 6),
-            (vgfx_set_view_target(alloc, &mut context, 1, target), 0),
-            (
-                vgfx_set_view_clear(alloc, &mut context, 1, 1, 97, 98, 99, 255, 0, 0),
-                0
-            ),
-            (
-                vgfx_set_view_clear(alloc, &mut context, 1, 8, 0, 0, 0, 0, 0, 0),
-                16
-            ),
-            (vgfx_set_view_order(alloc, &mut context, &[1u16, 1]), 3),
-            (vgfx_set_view_order(alloc, &mut context, &[1u16, 0]), 0),
-            (vgfx_set_view_rect(alloc, &mut context, 0, 0, 0, 0, 0), 0),
-            (vgfx_set_view_scissor(alloc, &mut context, 0, 0, 0, 0, 0), 0),
-            (vgfx_set_view_mode(alloc, &mut context, 0, 4), 104),
-        ]),
-        None
-    );
-    assert_eq!(rt;
-        first_wrong(&[
-            (vgfx_set_view_mode(alloc, &mut context, 0, 1), 0),
-            (
-                vgfx_set_view_transform(alloc, &mut context, 0, &IDENTITY),
-                0
-            ),
-            (vgfx_reset_view(alloc, &mut context, 511), 0),
-            (
-                vgfx_encoder_begin(alloc, &mut context, &mut encoder, 2, 24, 0),
-                0
-            ),
-            (vgfx_encoder_set_texture(alloc, &mut encoder, 0, color), 0),
-            (
-                vgfx_encoder_set_transient_vertices(alloc, &mut encoder, layout, &COVER),
-                0
-            ),
-            (
-                vgfx_encoder_submit(alloc, &mut encoder, 0, program, 0, 255),
-                0
-            ),
-            (vgfx_encoder_touch(alloc, &mut encoder, 1), 0),
-            (vgfx_encoder_end(alloc, &mut encoder, 0), 0),
-            (
-                vgfx_frame(alloc, &mut context, &mut picture, &mut framed),
-                0
-            ),
-        ]),
-        None
-    );
-    assert_eq!(rt; picture[..14], b"P6\n1 1\n255\nabc"[..]);
-    Ok(())
-}
-
-// An encoder that is given up: no frame of its context ends from then on, with a buffer or without one, and its number stays off.
-#[test]
-fn an_encoder_given_up(rt: HostRuntime) -> Result<(), Fail> {
-    let alloc = rt.alloc();
-    let mut context = Slot::none(alloc);
-    let mut encoder = Slot::none(alloc);
-    let mut off = 9;
-    let mut framed = NOTHING;
-    let mut picture = vec![in alloc; 7u8; 20]?;
-    assert_eq!(rt;
-        first_wrong(&[
-            (vgfx_init(alloc, &mut context, 1, 1), 0),
-            (
-                vgfx_encoder_begin(alloc, &mut context, &mut encoder, 1, 0, 0),
-                0
-            ),
-            (vgfx_encoder_drop(alloc, &mut encoder), 0),
-            (vgfx_encoder_drop(alloc, &mut encoder), 100),
-            (vgfx_collect(alloc, &mut context, &mut off), 0),
-        ]),
-        None
-    );
-    assert_eq!(rt; off, 1);
-    assert_eq!(rt;
-        first_wrong(&[
-            (
-                vgfx_frame(alloc, &mut context, &mut picture, &mut framed),
-                102
-            ),
-            (vgfx_frame(alloc, &mut context, &mut [], &mut framed), 102),
-            (
-                vgfx_encoder_begin(alloc, &mut context, &mut encoder, 1, 0, 0),
-                102
-            ),
-        ]),
-        None
-    );
-    assert_eq!(rt; picture[..3], b"\x07\x07\x07"[..]);
-    assert_eq!(rt; vgfx_shutdown(alloc, &mut context), 0);
     Ok(())
 }

@@ -5,14 +5,14 @@ ghost use Rattle.c_words.specs.Things.{named, named_or_none};
 use c_words::Things;
 use draw_encoder::Recorder;
 use gfx_words::Handle;
-use letter_boxes::Shared;
+use letter_boxes::{Shared, Unclaimed};
 use std::marker::Model;
 use std::sync::Arc;
 
 /// A recorder with the table that its seat is of, and the handles that had been given when it began. Contracts see an `EncoderView`.
 #[derive(Drop)]
 pub struct Encoder {
-    pub(crate) shared: Arc<Shared>,
+    pub(crate) shared: Arc<Shared<Unclaimed>>,
     pub(crate) recorder: Recorder,
     pub(crate) things: Arc<Things>,
 }
@@ -65,6 +65,11 @@ impl Encoder {
 
     /// Gives the encoder up, of which its context is told.
     pub(crate) fn give_up(self) {
-        self.shared.give_up();
+        let Encoder {
+            shared,
+            recorder,
+            things: _,
+        } = self;
+        shared.give_up(recorder);
     }
 }

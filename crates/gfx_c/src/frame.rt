@@ -1,23 +1,27 @@
 // The end of a frame, and its picture.
-ghost use Rattle.std.specs.Prelude.{◌≡◌, ◌≤◌, ◌<◌, ◌++◌, true, false, drop, length};
+ghost use Rattle.std.specs.Prelude.{◌≡◌, ◌≤◌, ◌++◌, true, false, drop, length, IfSome};
 ghost use Rattle.hold_table.specs.Seats.{table_of};
 ghost use Rattle.context_core.specs.Ended.{IsReady, Prepares, Gives};
 ghost use Rattle.context_core.specs.Gathered.{dropped_in};
 ghost use Rattle.context_core.specs.States.{CoreView};
 ghost use Rattle.render_core.specs.Outcomes.{is_shown};
 ghost use Rattle.render_core.specs.Rendered.{IsRendered};
-ghost use Rattle.gfx_c.specs.Frames.{MakesFrame, Shows, Delivers, Tells, FramesSeen, FramesUnseen, FramesInto, FramesHere, HandsOut, emptied, fault_of, came_back, closed};
+ghost use Rattle.gfx_c.specs.Frames.{MakesFrame, Shows, Delivers, Tells, FramesSeen, FramesUnseen, FramesInto, FramesHere, HandsOut, emptied, fault_of, came_back, IsAbandoned};
 ghost use Rattle.gfx_c.specs.Calls.{is_over};
 ghost use Rattle.gfx_c.specs.Views.{ContextView};
 ghost use Rattle.gfx_c.specs.Rendered.{rendering_of};
+ghost use Rattle.gfx_c.specs.Standings.{is_open, SaysGivenUp};
+ghost use Rattle.gfx_c.specs.declared.standing.Standing.TheVariants.{GivenUp};
 
 use crate::context::Context;
 use crate::picture::PictureSink;
+use crate::standing::Standing;
 use c_words::Fault;
 use context_core::{ContextCore, FrameEnd, NotReady, Prepared};
 use frame_record::{Frame, Outcome, RenderedFrame};
 use gfx_words::Refusal;
 use hold_table::HoldTable;
+use letter_boxes::{Letter, Unclaimed};
 use render_core::{Renderer, SerialRasterizer};
 
 /// What C is told of a frame: its number, how many bytes of picture were written, and the sum of the numbers that its encoders ended with.
@@ -102,7 +106,6 @@ impl Context {
     }
 
     fn prepare(&mut self) -> Result<Prepared, NotReady>
-        requires { self.old.core.state.is_ended ≡ false }
         ensures prepares { Prepares result self.old.core self.new.core }
         ensures same { self.new ≡ record self.old { core = self.new.core } }
     {
@@ -111,7 +114,6 @@ impl Context {
 
     // Makes the frame of what was prepared, renders it, and starts the next one. The answer is its number.
     fn finish(&mut self, prepared: Prepared) -> u32
-        requires running { self.old.core.state.is_ended ≡ false }
         requires ready { (mid : CoreView) × IsReady prepared mid self.old.core }
         ensures { (frame : Frame) × (made : CoreView) × (result ≡ frame.number) × Gives prepared.work frame self.old.core made × Shows frame (record self.old { core = came_back made }) self.new }
     {
@@ -121,14 +123,13 @@ impl Context {
             &mut self.renderer,
             prepared,
         );
-        self.is_shown = was_shown(&rendered.outcome);
+        self.standing = Standing::after(was_shown(&rendered.outcome));
         rendered.frame.number
     }
 
-    // Makes a frame of what has come, and renders it. The context is not ended. The answer is its number, and the sum of the numbers
-    // that its encoders ended with.
+    // Makes a frame of what has come, and renders it. The answer is its number, and the sum of the numbers that its encoders ended
+    // with.
     fn make(&mut self) -> Result<(u32, u64), Fault>
-        requires { self.old.core.state.is_ended ≡ false }
         ensures { MakesFrame result self.old self.new }
     {
         self.collect();
@@ -140,9 +141,9 @@ impl Context {
     }
 
     fn is_shown(&self) -> bool
-        ensures { result ≡ self.now.is_shown }
+        ensures { result ≡ is_open self.now.standing }
     {
-        self.is_shown
+        self.standing.is_open()
     }
 
     // Copies the picture in the sink to the front of the buffer, and answers how many bytes it has.
@@ -220,23 +221,39 @@ impl Context {
         self.frame_seen(buffer)
     }
 
-    // Whether an encoder that has not come back was given up.
-    fn is_abandoned(&self) -> bool
-        ensures { result ≡ true → 0 < length self.now.core.state.seat.off }
+    // The letter of an encoder of the table that was given up, where there is one.
+    fn lost_letter(&self) -> Option<Letter<Unclaimed>>
+        ensures { IfSome result (λ l. SaysGivenUp self.now.core.table l) }
     {
-        self.off() > 0 && self.shared.is_given_up()
+        self.shared.find_given_up()
     }
 
-    // No encoder begins and no frame ends from then on.
-    fn close(&mut self)
-        ensures { self.new ≡ closed self.old }
+    // Keeps the letter of an encoder that was given up. No encoder begins and no frame ends from then on.
+    fn keep_letter(&mut self, letter: Letter<Unclaimed>)
+        ensures { self.new ≡ record self.old { standing = GivenUp letter } }
     {
-        self.is_shown = false;
+        self.standing = Standing::GivenUp(letter);
+    }
+
+    // Whether an encoder has not come back and one was given up, whose letter is kept then.
+    fn is_abandoned(&mut self) -> bool
+        ensures abandoned { result ≡ true → IsAbandoned self.old self.new }
+        ensures same { result ≡ false → self.new ≡ self.old }
+    {
+        if self.off() == 0 {
+            return false;
+        }
+        let Some(letter) = self.lost_letter() else {
+            return false;
+        };
+        self.keep_letter(letter);
+        true
     }
 
     /// Ends the frame, renders it, and writes its picture, unless the buffer has no bytes. `Ended`, also where an encoder that has not come
     /// back was given up, and from then on; `TooSmall` where the buffer is; `TryAgain` where an encoder has not come back; `FramesSpent`. After
-    /// `OutOfMemory` the context is ended. After a refusal the buffer is as before.
+    /// `OutOfMemory` the frame can be ended again, unless memory was wanting in its render: then the context is ended. After a refusal the
+    /// buffer is as before.
     pub(crate) fn frame(&mut self, buffer: &mut [u8]) -> Result<Framed, Fault>
         ensures { FramesHere result buffer.old buffer.new self.old self.new }
     {
@@ -244,7 +261,6 @@ impl Context {
             return Err(Fault::Ended);
         }
         if self.is_abandoned() {
-            self.close();
             return Err(Fault::Ended);
         }
         self.frame_into(buffer)

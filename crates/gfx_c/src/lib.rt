@@ -26,12 +26,15 @@ mod held;
 mod objects;
 mod parts;
 mod picture;
+#[cfg(test)]
+mod pixel_tests;
 mod pixels;
 #[cfg(test)]
 mod play_tests;
 mod playing;
 mod recording;
 mod slot;
+mod standing;
 #[cfg(test)]
 mod tests;
 mod transform;

@@ -1,4 +1,4 @@
-// Scenes as text, as C plays them.
+// A scene as text, as C plays it.
 use crate::c_play::vgfx_play;
 use crate::playing::Played;
 use std::test::Fail;
@@ -50,40 +50,5 @@ fn a_scene_is_played(rt: HostRuntime) -> Result<(), Fail> {
     assert!(rt; pictures.as_slice().ends_with(&[9, 9]));
     assert!(rt; report.as_slice().starts_with(TWO_LINES));
     assert!(rt; report.as_slice().ends_with(&[9]));
-    Ok(())
-}
-
-#[test]
-fn a_buffer_is_too_small(rt: HostRuntime) -> Result<(), Fail> {
-    let alloc = rt.alloc();
-    for (pictures, report) in [(27, 52), (28, 51), (0, 0)] {
-        let mut pictures = vec![in alloc; 9u8; pictures]?;
-        let mut report = vec![in alloc; 9u8; report]?;
-        let mut played = BEFORE;
-        let status = vgfx_play(alloc, TWO_FRAMES, &mut pictures, &mut report, &mut played);
-        assert_eq!(rt; status, 103);
-        assert_eq!(rt; told(&played), (28, 52, 0, 0));
-        assert!(rt; pictures.iter().all(|byte| *byte == 9));
-        assert!(rt; report.iter().all(|byte| *byte == 9));
-    }
-    Ok(())
-}
-
-#[test]
-fn no_scene(rt: HostRuntime) -> Result<(), Fail> {
-    let alloc = rt.alloc();
-    let mut pictures = vec![in alloc; 9u8; 30]?;
-    let mut report = vec![in alloc; 9u8; 60]?;
-    let mut played = BEFORE;
-    let text = b"scene 1\nsize 1 x\n";
-    let status = vgfx_play(alloc, text, &mut pictures, &mut report, &mut played);
-    assert_eq!(rt; status, 106);
-    assert_eq!(rt; told(&played), (0, 0, 2, 6));
-    let long = vec![in alloc; 0u8; 16_777_217]?;
-    let status = vgfx_play(alloc, &long, &mut pictures, &mut report, &mut played);
-    assert_eq!(rt; status, 107);
-    assert_eq!(rt; told(&played), (0, 0, 2, 6));
-    assert!(rt; pictures.iter().all(|byte| *byte == 9));
-    assert!(rt; report.iter().all(|byte| *byte == 9));
     Ok(())
 }

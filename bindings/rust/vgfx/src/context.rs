@@ -149,7 +149,7 @@ impl Context {
     }
 
     /// Ends the frame, renders it on this thread, and puts its picture down; where it is refused there is no picture. [`Error::Ended`], [`Error::FramesSpent`], [`Error::OutOfMemory`], after
-    /// which the context is ended; [`Error::TryAgain`] where an encoder was forgotten by [`mem::forget`].
+    /// which the frame can be ended again, unless memory was wanting in its render; [`Error::TryAgain`] where an encoder was forgotten by [`mem::forget`].
     pub fn frame(&mut self, picture: &mut Picture) -> Result<FrameReport, Error> {
         let pixels = 3 * usize::from(self.width) * usize::from(self.height);
         (picture.length, picture.pixels) = (0, 0);

@@ -40,7 +40,7 @@ pub enum Error {
     OutOfMemory,
     /// An encoder has not come back: it was forgotten and never dropped.
     TryAgain,
-    /// Memory was wanting in an earlier frame, or an encoder was given up.
+    /// Memory was wanting in an earlier frame's render, or an encoder was given up.
     Ended,
     /// A buffer is too short.
     TooSmall,
@@ -105,7 +105,7 @@ impl fmt::Display for Error {
             Error::BadState => "a state word, a stencil word or a clear setting is not admitted",
             Error::OutOfMemory => "memory was wanting",
             Error::TryAgain => "an encoder has not come back",
-            Error::Ended => "memory was wanting in an earlier frame, or an encoder was given up",
+            Error::Ended => "memory was wanting in an earlier frame's render, or an encoder was given up",
             Error::TooSmall => "a buffer is too short",
             Error::TooLong => "the scene's text is longer than 16777216 bytes",
             Error::Unknown => "the id names no resource that is known here",

@@ -8,4 +8,4 @@ pub returns-in-None : goal.returns-in-None
 returns-in-None c = record { gathers = gathers_none; same = refl }
 
 pub returns-in-Some-clause-gathers : goal.returns-in-Some-clause-gathers
-returns-in-Some-clause-gathers c = gathers_one c.in-Some.letter.0 (enc_view c.in-Some.letter.1) _ _ c.gather.ensures.gathers
+returns-in-Some-clause-gathers c = let g = c.gather.ensures.gathers in gathers_one g.0 (enc_view c.in-Some.letter.1) _ _ g.2

@@ -7,4 +7,4 @@ pub invariant_of-self : goal.invariant_of-self
 invariant_of-self c = (on_destroys c.self.invariant.0 c.destroy.new.self c.args.h c.destroy.result c.destroy.ensures.answer, c.self.invariant.1)
 
 pub returns : goal.returns
-returns c = destroys_told c.self.inside.things.rows.items (rendering_of c.self.inside.renderer) c.self.inside.is_shown c.self.inside.renderer.sink.capacity c.self.inside.core c.destroy.new.self c.args.h c.told.result c.destroy.result c.told.ensures c.destroy.ensures.answer _ c.self.view_is
+returns c = destroys_told c.self.inside.things.rows.items (rendering_of c.self.inside.renderer) c.self.inside.standing c.self.inside.renderer.sink.capacity c.self.inside.core c.destroy.new.self c.args.h c.told.result c.destroy.result c.told.ensures c.destroy.ensures.answer _ c.self.view_is

@@ -1,9 +1,6 @@
-use Rattle.std.proofs.Common.{inl, inr, refl, sym, ◌∙◌, arith}
-use Rattle.gfx_c.proofs.Frames.{first_false, delivered_told, enough_still}
+use Rattle.std.proofs.Common.{inl, inr, refl, arith}
+use Rattle.gfx_c.proofs.Frames.{delivered_told, enough_still}
 use Rattle.gfx_c.proofs.context.Context.frame_seen.Goals as goal
-
-pub make-requires : goal.make-requires
-make-requires c = first_false c.args.self.now.core.state.is_ended _ c.requires
 
 pub returns-then-buffer-most : goal.returns-then-buffer-most
 returns-then-buffer-most c =

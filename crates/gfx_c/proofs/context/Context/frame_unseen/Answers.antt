@@ -1,9 +1,6 @@
 use Rattle.std.proofs.Common.{inl}
-use Rattle.gfx_c.proofs.Frames.{first_false, told_unseen}
+use Rattle.gfx_c.proofs.Frames.{told_unseen}
 use Rattle.gfx_c.proofs.context.Context.frame_unseen.Goals as goal
-
-pub make-requires : goal.make-requires
-make-requires c = first_false c.args.self.now.core.state.is_ended _ c.requires
 
 pub returns-in-Err : goal.returns-in-Err
 returns-in-Err c = inl c.in-Err.ensures

@@ -1,8 +1,7 @@
-use Rattle.std.proofs.Common.{◌≡◌, ℕ, refl, sym, ap, ◌∙◌, subst}
-use Rattle.hold_table.specs.Seats.{enc_table, enc_view}
+use Rattle.std.proofs.Common.{◌≡◌, ℕ, refl, sym, subst}
+use Rattle.hold_table.specs.Seats.{enc_view}
 use Rattle.hold_table.specs.declared.table.EncSeat.{EncSeat}
 use Rattle.draw_encoder.specs.Bundles.{BelongTogether}
-use Rattle.draw_encoder.specs.declared.items.Recording.{Recording}
 use Rattle.context_core.specs.Ended as cores
 use Rattle.gfx_c.specs.Rendered.{rendering_of}
 use Rattle.gfx_c.specs.Views.{ContextView}
@@ -20,8 +19,12 @@ invariant_of-self c = (on_gathers c.self.invariant.0 c.gather.new.self c.part-re
 
 pub returns-clause-gathers : goal.returns-clause-gathers
 returns-clause-gathers c =
-    subst (λ (v : ContextView). cores.Gathers c.args.letter.0 (enc_view c.args.letter.1) v.core c.gather.new.self) c.self.view_is
-    (subst (λ (b : Recording × EncSeat). cores.Gathers b.0 (enc_view b.1) c.self.inside.core c.gather.new.self) c.part-recording.ensures.same c.gather.ensures)
+    let r = c.part-recording.result.0 in (
+      r,
+      c.part-recording.ensures.recording,
+      subst (λ (v : ContextView). cores.Gathers r (enc_view c.args.letter.1) v.core c.gather.new.self) c.self.view_is
+          (subst (λ (s : EncSeat). cores.Gathers r (enc_view s) c.self.inside.core c.gather.new.self) c.part-recording.ensures.seat c.gather.ensures),
+    )
 
 pub returns-clause-same : goal.returns-clause-same
-returns-clause-same c = subst (λ (v : ContextView). (context_with c.self.inside.things.rows.items (rendering_of c.self.inside.renderer) c.self.inside.is_shown c.self.inside.renderer.sink.capacity) c.gather.new.self ≡ record v { core = c.gather.new.self }) c.self.view_is refl
+returns-clause-same c = subst (λ (v : ContextView). (context_with c.self.inside.things.rows.items (rendering_of c.self.inside.renderer) c.self.inside.standing c.self.inside.renderer.sink.capacity) c.gather.new.self ≡ record v { core = c.gather.new.self }) c.self.view_is refl

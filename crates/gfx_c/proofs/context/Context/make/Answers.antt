@@ -1,18 +1,10 @@
-use Rattle.std.proofs.Common.{◌∙◌, refl}
+use Rattle.std.proofs.Common.{◌∙◌}
 use Rattle.gfx_c.specs.Frames.{came_back}
 use Rattle.gfx_c.specs.Views.{ContextView}
-use Rattle.gfx_c.proofs.Frames.{runs_still}
-use Rattle.gfx_c.proofs.On.{gathered_running}
 use Rattle.gfx_c.proofs.context.Context.make.Goals as goal
 
-pub prepare-requires : goal.prepare-requires
-prepare-requires c = gathered_running c.collect.ensures.0 c.requires
-
-pub finish-requires-clause-running : goal.finish-requires-clause-running
-finish-requires-clause-running c = runs_still c.in-Ok.prepared c.collect.new.self.core c.prepare.new.self.core c.in-Ok.ensures.prepares (gathered_running c.collect.ensures.0 c.requires)
-
-pub finish-requires-clause-ready : goal.finish-requires-clause-ready
-finish-requires-clause-ready c = (c.collect.new.self.core, c.in-Ok.ensures.prepares)
+pub finish-requires : goal.finish-requires
+finish-requires c = record { ready = (c.collect.new.self.core, c.in-Ok.ensures.prepares) }
 
 pub returns-in-Err : goal.returns-in-Err
 returns-in-Err c =

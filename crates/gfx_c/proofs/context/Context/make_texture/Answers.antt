@@ -9,4 +9,4 @@ pub invariant_of-self : goal.invariant_of-self
 invariant_of-self c = (on_creates c.self.invariant.0 c.create_texture-answer.new.self (create_texture c.args.of.width c.args.of.height (format_seen c.args.of.format) c.args.of.blit_dst (own_source_seen c.args.source)) c.create_texture-answer.result c.create_texture-answer.ensures.answer, c.self.invariant.1)
 
 pub returns : goal.returns
-returns c = creates_told c.self.inside.things.rows.items (rendering_of c.self.inside.renderer) c.self.inside.is_shown c.self.inside.renderer.sink.capacity c.self.inside.core c.create_texture-answer.new.self (create_texture c.args.of.width c.args.of.height (format_seen c.args.of.format) c.args.of.blit_dst (own_source_seen c.args.source)) c.keep.result c.create_texture-answer.result c.keep.new.self c.keep.ensures.told c.create_texture-answer.ensures.answer c.keep.ensures.given _ c.self.view_is
+returns c = creates_told c.self.inside.things.rows.items (rendering_of c.self.inside.renderer) c.self.inside.standing c.self.inside.renderer.sink.capacity c.self.inside.core c.create_texture-answer.new.self (create_texture c.args.of.width c.args.of.height (format_seen c.args.of.format) c.args.of.blit_dst (own_source_seen c.args.source)) c.keep.result c.create_texture-answer.result c.keep.new.self c.keep.ensures.told c.create_texture-answer.ensures.answer c.keep.ensures.given _ c.self.view_is

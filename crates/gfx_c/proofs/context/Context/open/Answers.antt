@@ -12,6 +12,6 @@ returns c =
       state = ap (λ (v : CoreView). v.state) c.in_ok-boxes.ensures;
       rows = c.in_ok-things.ensures;
       renderer = drawn;
-      is_shown = refl;
+      standing = refl;
       most = most_is c.args.width c.args.height (rendering_of c.in_ok-renderer.renderer) c.in_ok-renderer.renderer.sink.capacity refl drawn;
     }

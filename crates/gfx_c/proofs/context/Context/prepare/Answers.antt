@@ -1,4 +1,4 @@
-use Rattle.std.proofs.Common.{◌≡◌, refl, ap, ◌∙◌, subst}
+use Rattle.std.proofs.Common.{◌≡◌, refl, subst}
 use Rattle.context_core.specs.Ended.{Prepares}
 use Rattle.gfx_c.specs.Rendered.{rendering_of}
 use Rattle.gfx_c.specs.Views.{ContextView}
@@ -7,7 +7,7 @@ use Rattle.gfx_c.proofs.Told.{context_with}
 use Rattle.gfx_c.proofs.context.Context.prepare.Goals as goal
 
 pub prepare-requires : goal.prepare-requires
-prepare-requires c = record { running = ap (λ (v : ContextView). v.core.state.is_ended) c.self.view_is ∙ c.requires }
+prepare-requires c = record { running = c.self.invariant.0.runs }
 
 pub invariant_of-self : goal.invariant_of-self
 invariant_of-self c = (on_prepares c.self.invariant.0 c.prepare.new.self c.prepare.result c.prepare.ensures, c.self.invariant.1)
@@ -16,4 +16,4 @@ pub returns-clause-prepares : goal.returns-clause-prepares
 returns-clause-prepares c = subst (λ (v : ContextView). Prepares c.prepare.result v.core c.prepare.new.self) c.self.view_is c.prepare.ensures
 
 pub returns-clause-same : goal.returns-clause-same
-returns-clause-same c = subst (λ (v : ContextView). (context_with c.self.inside.things.rows.items (rendering_of c.self.inside.renderer) c.self.inside.is_shown c.self.inside.renderer.sink.capacity) c.prepare.new.self ≡ record v { core = c.prepare.new.self }) c.self.view_is refl
+returns-clause-same c = subst (λ (v : ContextView). (context_with c.self.inside.things.rows.items (rendering_of c.self.inside.renderer) c.self.inside.standing c.self.inside.renderer.sink.capacity) c.prepare.new.self ≡ record v { core = c.prepare.new.self }) c.self.view_is refl

@@ -8,4 +8,4 @@ pub invariant_of-self : goal.invariant_of-self
 invariant_of-self c = (on_changes c.self.invariant.0 c.set_view_target.new.self (set_view_target c.args.view c.args.target) c.set_view_target.result c.set_view_target.ensures, c.self.invariant.1)
 
 pub returns : goal.returns
-returns c = changes_told c.self.inside.things.rows.items (rendering_of c.self.inside.renderer) c.self.inside.is_shown c.self.inside.renderer.sink.capacity c.self.inside.core c.set_view_target.new.self (set_view_target c.args.view c.args.target) c.told.result c.set_view_target.result c.told.ensures c.set_view_target.ensures _ c.self.view_is
+returns c = changes_told c.self.inside.things.rows.items (rendering_of c.self.inside.renderer) c.self.inside.standing c.self.inside.renderer.sink.capacity c.self.inside.core c.set_view_target.new.self (set_view_target c.args.view c.args.target) c.told.result c.set_view_target.result c.told.ensures c.set_view_target.ensures _ c.self.view_is

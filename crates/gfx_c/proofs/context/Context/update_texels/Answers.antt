@@ -9,4 +9,4 @@ pub invariant_of-self : goal.invariant_of-self
 invariant_of-self c = (on_updates c.self.invariant.0 c.update_texture.new.self (update_texture c.args.texture (rect_seen c.args.rect) c.args.bytes.now) c.update_texture.result c.update_texture.ensures, c.self.invariant.1)
 
 pub returns : goal.returns
-returns c = updates_told c.self.inside.things.rows.items (rendering_of c.self.inside.renderer) c.self.inside.is_shown c.self.inside.renderer.sink.capacity c.self.inside.core c.update_texture.new.self (update_texture c.args.texture (rect_seen c.args.rect) c.args.bytes.now) c.told.result c.update_texture.result c.told.ensures c.update_texture.ensures _ c.self.view_is
+returns c = updates_told c.self.inside.things.rows.items (rendering_of c.self.inside.renderer) c.self.inside.standing c.self.inside.renderer.sink.capacity c.self.inside.core c.update_texture.new.self (update_texture c.args.texture (rect_seen c.args.rect) c.args.bytes.now) c.told.result c.update_texture.result c.told.ensures c.update_texture.ensures _ c.self.view_is
