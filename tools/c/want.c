@@ -1,7 +1,9 @@
 /* A heap that gives up: of a fixed list of calls each allocation fails in turn. A call answers VGFX_ERROR_OUT_OF_MEMORY only where one failed in it;
- * then the things that it was given are as before, and the same call is done when it is made again, with the same pictures in the end. After
- * a vgfx_frame that wants memory the context is ended. All blocks are given back. The program writes how many allocations failed, and how many
- * calls answered so. It has the library's heap itself, in place of tools/c/heap.c. */
+ * then the things that it was given are as before, and the same call is done when it is made again, with the same pictures in the end. So is a
+ * vgfx_frame, unless its render wanted memory: then the context is ended. State that is set and taken back changes no picture, and an encoder
+ * that is dropped ends its context; neither wants memory. All blocks are given back. The program writes how many allocations
+ * failed, how many calls answered so, and how many frames of them were done when they were ended again, and how many were not. It has the
+ * library's heap itself, in place of tools/c/heap.c. */
 #include "vgfx.h"
 
 #include <stdbool.h>
@@ -53,7 +55,7 @@ void rattle_dealloc(void *at) {
 
 /* ---- the calls */
 
-static unsigned long wants;
+static unsigned long wants, again, lost;
 
 static void wrong(const char *what) {
     fprintf(stderr, "want: %s\n", what);
@@ -61,7 +63,8 @@ static void wrong(const char *what) {
 }
 
 /* Makes a call, and where it wants memory makes it again. */
-#define MUST(call)                                                               \
+#define MUST(call) ANSWERS(call, VGFX_OK)
+#define ANSWERS(call, wanted)                                                    \
     do {                                                                         \
         failed = false;                                                          \
         vgfx_status status = (call);                                              \
@@ -70,7 +73,7 @@ static void wrong(const char *what) {
             wants++;                                                             \
             status = (call);                                                     \
         }                                                                        \
-        if (status != VGFX_OK) wrong(#call);                                    \
+        if (status != (wanted)) wrong(#call);                                    \
     } while (0)
 
 /* The same of a call that writes a word, which is as before where memory is wanting. */
@@ -90,15 +93,11 @@ static void wrong(const char *what) {
 
 static uint8_t picture[FRAMES][PICTURE], first[FRAMES][PICTURE];
 
-/* A context whose frame wanted memory: no encoder begins, no frame ends, and the buffer is as before. */
-static void is_ended(vgfx_context *context, int frame) {
-    vgfx_encoder encoder = {0};
-    vgfx_frame_report framed = {7, 7, 7};
+/* A frame that did not end: the buffer is as before, and nothing was told. */
+static void is_untold(int frame, const vgfx_frame_report *framed) {
     for (int i = 0; i < PICTURE; i++)
         if (picture[frame][i] != 9) wrong("a picture was written where memory was wanting");
-    if (vgfx_encoder_begin(context, &encoder, 1, 0, 0) != VGFX_ERROR_ENDED) wrong("an encoder began after a frame that wanted memory");
-    if (vgfx_frame(context, picture[frame], PICTURE, &framed) != VGFX_ERROR_ENDED) wrong("a frame ended after one that wanted memory");
-    if (framed.number != 7 || framed.picture != 7 || framed.dropped != 7) wrong("a frame was told that did not end");
+    if (framed->number != 7 || framed->picture != 7 || framed->dropped != 7) wrong("a frame was told that did not end");
 }
 
 /* The pixels that are read are those of the picture. Nothing is taken for it. */
@@ -108,6 +107,56 @@ static void is_read(vgfx_context *context, const uint8_t *colors) {
     if (vgfx_read_pixels(context, 0, VGFX_PIXELS_RGBA8, pixels, sizeof pixels, 4 * WIDTH) != VGFX_OK || failed) wrong("vgfx_read_pixels");
     for (int i = 0; i < WIDTH * HEIGHT; i++)
         if (memcmp(pixels + 4 * i, colors + 3 * i, 3) != 0) wrong("the pixels that were read");
+}
+
+/* Ends a frame, and where that wants memory ends it again. Answers whether it has a picture: where its render wanted memory the context is ended. */
+static bool is_shown(vgfx_context *context, int frame) {
+    vgfx_frame_report framed = {7, 7, 7};
+    vgfx_encoder encoder = {0};
+    memset(picture[frame], 9, PICTURE);
+    failed = false;
+    vgfx_status status = vgfx_frame(context, picture[frame], PICTURE, &framed);
+    if (status == VGFX_ERROR_OUT_OF_MEMORY) {
+        if (!failed) wrong("no allocation failed in vgfx_frame");
+        wants++;
+        is_untold(frame, &framed);
+        status = vgfx_frame(context, picture[frame], PICTURE, &framed);
+        if (status == VGFX_ERROR_ENDED) {
+            is_untold(frame, &framed);
+            if (vgfx_encoder_begin(context, &encoder, 1, 0, 0) != VGFX_ERROR_ENDED) wrong("an encoder began after a render that wanted memory");
+            lost++;
+            return false;
+        }
+        again++;
+    }
+    if (status != VGFX_OK || framed.number != (uint32_t)frame || framed.dropped != 2) wrong("vgfx_frame");
+    is_read(context, picture[frame] + framed.picture - 3 * WIDTH * HEIGHT);
+    return true;
+}
+
+/* State by which nothing is drawn, which is taken back. */
+static void take_back(vgfx_encoder *encoder, const vgfx_id *of) {
+    failed = false;
+    if (vgfx_encoder_set_state(encoder, 0) != VGFX_OK || vgfx_encoder_set_scissor(encoder, 0, 0, 0, 0) != VGFX_OK) wrong("a state that draws nothing");
+    if (vgfx_encoder_set_vertices(encoder, of[1], 0, 0) != VGFX_OK) wrong("no vertices");
+    if (vgfx_encoder_discard(encoder, VGFX_DISCARD_ALL) != VGFX_OK || failed) wrong("vgfx_encoder_discard");
+}
+
+/* An encoder that is dropped: no encoder begins and no frame ends from then on. */
+static void give_up(vgfx_context *context) {
+    vgfx_encoder encoder = {0}, next = {0};
+    vgfx_frame_report framed = {7, 7, 7};
+    uint8_t text[PICTURE] = {9};
+    uint32_t out = 9;
+    MUST(vgfx_encoder_begin(context, &encoder, 1, 0, 0));
+    MUST(vgfx_encoder_touch(&encoder, 0));
+    failed = false;
+    if (vgfx_encoder_drop(&encoder) != VGFX_OK || vgfx_encoder_drop(&encoder) != VGFX_ERROR_NO_OBJECT) wrong("vgfx_encoder_drop");
+    if (vgfx_collect(context, &out) != VGFX_OK || out != 1) wrong("an encoder that was dropped has come");
+    for (int i = 0; i < 2; i++)
+        if (vgfx_frame(context, text, PICTURE, &framed) != VGFX_ERROR_ENDED) wrong("a frame ended behind an encoder that was dropped");
+    if (failed || text[0] != 9 || framed.number != 7) wrong("what a frame left that did not end");
+    ANSWERS(vgfx_encoder_begin(context, &next, 1, 0, 0), VGFX_ERROR_ENDED);
 }
 
 /* A draw by both kinds of vertices, with a texture that is copied first. */
@@ -177,25 +226,18 @@ static int play(void) {
     MUST(vgfx_set_view_mode(&context, 0, VGFX_VIEW_MODE_SEQUENTIAL));
     for (; frame < FRAMES; frame++) {
         vgfx_encoder encoders[2] = {{0}, {0}};
-        vgfx_frame_report framed;
         MUST(vgfx_update_buffer(&context, of[1], 0, corners, sizeof corners));
         MUST(vgfx_update_texture(&context, of[4], 0, 0, 2, 2, texels, sizeof texels));
         for (int k = 0; k < 2; k++) MUST(vgfx_encoder_begin(&context, &encoders[k], 8, 64, 4));
         MAKES(vgfx_create_index_buffer(&context, order, sizeof order, &more), more);
-        for (int k = 0; k < 2; k++) record(&encoders[k], of);
-        MUST(vgfx_destroy(&context, more));
-        memset(picture[frame], 9, PICTURE);
-        failed = false;
-        vgfx_status status = vgfx_frame(&context, picture[frame], PICTURE, &framed);
-        if (status == VGFX_ERROR_OUT_OF_MEMORY) {
-            if (!failed) wrong("no allocation failed in vgfx_frame");
-            wants++;
-            is_ended(&context, frame);
-            break;
+        for (int k = 0; k < 2; k++) {
+            if (frame > 0) take_back(&encoders[k], of);
+            record(&encoders[k], of);
         }
-        if (status != VGFX_OK || framed.dropped != 2) wrong("vgfx_frame");
-        is_read(&context, picture[frame] + framed.picture - 3 * WIDTH * HEIGHT);
+        MUST(vgfx_destroy(&context, more));
+        if (!is_shown(&context, frame)) break;
     }
+    if (frame == FRAMES) give_up(&context);
     MUST(vgfx_shutdown(&context));
     if (blocks != 0) wrong("blocks were not given back");
     return frame;
@@ -203,6 +245,7 @@ static int play(void) {
 
 int main(void) {
     if (play() != FRAMES || wants != 0) wrong("calls without want");
+    if (memcmp(picture[0], picture[1], PICTURE) != 0) wrong("state that was taken back changed a picture");
     memcpy(first, picture, sizeof first);
     unsigned long n = 0;
     do {
@@ -210,6 +253,7 @@ int main(void) {
         int frames = play();
         if (memcmp(first, picture, (size_t)frames * PICTURE) != 0) wrong("a picture is another where memory was wanting");
     } while (until == 0);
-    printf("each of %lu allocations failed: %lu calls wanted memory\n", n - 1, wants);
+    if (again == 0 || lost == 0) wrong("no frame wanted memory before its render, or none in it");
+    printf("each of %lu allocations failed: %lu calls wanted memory, of which %lu frames were done again and %lu were not\n", n - 1, wants, again, lost);
     return 0;
 }
