@@ -16,10 +16,12 @@ fn halves() -> Result<VertexLayout, Refusal> {
 #[test]
 fn halves_and_bytes(rt: HostRuntime) -> Result<(), Fail> {
     let layout = halves()?;
-    assert_eq!(rt; layout.stride(), 7);
-    assert_eq!(rt; layout.offset_of(Attr::Position), Some(0));
-    assert_eq!(rt; layout.offset_of(Attr::Color0), Some(4));
-    assert_eq!(rt; layout.offset_of(Attr::Normal), None);
+    let offsets = [
+        layout.offset_of(Attr::Position),
+        layout.offset_of(Attr::Color0),
+        layout.offset_of(Attr::Normal),
+    ];
+    assert_eq!(rt; (layout.stride(), offsets), (7, [Some(0), Some(4), None]));
     let vertex = Vertex {
         position: Point {
             x: 32768,
@@ -29,9 +31,12 @@ fn halves_and_bytes(rt: HostRuntime) -> Result<(), Fail> {
         color: [255, 128, 0, 255],
         texcoord: [0, 0],
     };
-    assert_eq!(rt; layout.fetch(&BYTES, 0), Some(vertex));
-    assert_eq!(rt; layout.fetch(&BYTES, 1), None);
-    assert_eq!(rt; layout.fetch(&BYTES, u32::MAX), None);
+    let fetched = [
+        layout.fetch(&BYTES, 0),
+        layout.fetch(&BYTES, 1),
+        layout.fetch(&BYTES, u32::MAX),
+    ];
+    assert!(rt; fetched == [Some(vertex), None, None]);
     Ok(())
 }
 
@@ -79,26 +84,35 @@ fn is_refused(builder: LayoutBuilder) -> bool {
     }
 }
 
+// Attributes of one kind, and bytes that are skipped before them, if any.
+fn of_normals(skipped: u8, counts: &[u8]) -> LayoutBuilder {
+    let mut builder = LayoutBuilder::new();
+    if skipped > 0 {
+        builder.skip(skipped);
+    }
+    for count in counts {
+        builder.add(Attr::Normal, AttrType::U8, *count);
+    }
+    builder
+}
+
+// One attribute of no numbers, and bytes that are skipped behind it.
+fn of_none() -> LayoutBuilder {
+    let mut builder = LayoutBuilder::new();
+    builder.add(Attr::Normal, AttrType::U8, 0);
+    builder.skip(4);
+    builder
+}
+
 #[test]
 fn refused_layouts(rt: HostRuntime) {
-    assert!(rt; is_refused(LayoutBuilder::new()));
-    let mut twice = LayoutBuilder::new();
-    twice.add(Attr::Normal, AttrType::U8, 1);
-    twice.add(Attr::Normal, AttrType::U8, 1);
-    assert!(rt; is_refused(twice));
-    let mut none = LayoutBuilder::new();
-    none.add(Attr::Normal, AttrType::U8, 0);
-    none.skip(4);
-    assert!(rt; is_refused(none));
-    let mut five = LayoutBuilder::new();
-    five.add(Attr::Normal, AttrType::U8, 5);
-    assert!(rt; is_refused(five));
-    let mut long = LayoutBuilder::new();
-    long.skip(252);
-    long.add(Attr::Normal, AttrType::U8, 4);
-    assert!(rt; is_refused(long));
-    let mut longest = LayoutBuilder::new();
-    longest.skip(251);
-    longest.add(Attr::Normal, AttrType::U8, 4);
-    assert!(rt; !is_refused(longest));
+    let refused = [
+        is_refused(LayoutBuilder::new()),
+        is_refused(of_normals(0, &[1, 1])),
+        is_refused(of_none()),
+        is_refused(of_normals(0, &[5])),
+        is_refused(of_normals(252, &[4])),
+        is_refused(of_normals(251, &[4])),
+    ];
+    assert_eq!(rt; refused, [true, true, true, true, true, false]);
 }
