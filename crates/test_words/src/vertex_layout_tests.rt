@@ -13,35 +13,38 @@ fn halves() -> Result<VertexLayout, Refusal> {
     builder.end()
 }
 
-#[test]
-fn halves_and_bytes(rt: HostRuntime) -> Result<(), Fail> {
+// What is told of a layout: its stride, two offsets, and the vertex at an index.
+type Told = (u8, [Option<u8>; 2], Option<Vertex>);
+
+fn halves_told(index: u32) -> Result<Told, Refusal> {
     let layout = halves()?;
     let offsets = [
         layout.offset_of(Attr::Position),
         layout.offset_of(Attr::Color0),
-        layout.offset_of(Attr::Normal),
     ];
-    assert_eq!(rt; (layout.stride(), offsets), (7, [Some(0), Some(4), None]));
-    let vertex = Vertex {
-        position: Point {
-            x: 32768,
-            y: -32768,
-            z: 0,
-        },
-        color: [255, 128, 0, 255],
-        texcoord: [0, 0],
-    };
-    let fetched = [
-        layout.fetch(&BYTES, 0),
-        layout.fetch(&BYTES, 1),
-        layout.fetch(&BYTES, u32::MAX),
-    ];
-    assert!(rt; fetched == [Some(vertex), None, None]);
-    Ok(())
+    Ok((layout.stride(), offsets, layout.fetch(&BYTES, index)))
+}
+
+fn vertex(x: i32, y: i32, z: i32, color: [u8; 4], texcoord: [i32; 2]) -> Option<Vertex> {
+    Some(Vertex {
+        position: Point { x, y, z },
+        color,
+        texcoord,
+    })
 }
 
 #[test]
-fn texcoords_behind_a_gap(rt: HostRuntime) -> Result<(), Fail> {
+fn halves_and_bytes(rt: HostRuntime) -> Result<(), Fail> {
+    let offsets = [Some(0), Some(4)];
+    let first = vertex(32768, -32768, 0, [255, 128, 0, 255], [0, 0]);
+    assert!(rt; halves_told(0)? == (7, offsets, first));
+    assert!(rt; halves_told(1)? == (7, offsets, None));
+    assert!(rt; halves_told(u32::MAX)? == (7, offsets, None));
+    assert_eq!(rt; halves()?.offset_of(Attr::Normal), None);
+    Ok(())
+}
+
+fn gap_told() -> Result<Told, Refusal> {
     let mut builder = LayoutBuilder::new();
     builder.skip(2);
     builder.add(Attr::Texcoord0, AttrType::Fixed, 1);
@@ -49,32 +52,35 @@ fn texcoords_behind_a_gap(rt: HostRuntime) -> Result<(), Fail> {
     builder.skip(1);
     let layout = builder.end()?;
     let bytes = [9, 9, 0xff, 0xff, 0xff, 0xff, 1, 2, 3, 4, 9];
-    assert_eq!(rt; layout.stride(), 11);
-    assert_eq!(rt; layout.offset_of(Attr::Texcoord0), Some(2));
-    let vertex = Vertex {
-        position: Point { x: 0, y: 0, z: 0 },
-        color: [1, 2, 3, 4],
-        texcoord: [-1, 0],
-    };
-    assert_eq!(rt; layout.fetch(&bytes, 0), Some(vertex));
-    Ok(())
+    let offsets = [layout.offset_of(Attr::Texcoord0), None];
+    Ok((layout.stride(), offsets, layout.fetch(&bytes, 0)))
 }
 
 #[test]
-fn positions_of_one_to_three_numbers(rt: HostRuntime) -> Result<(), Fail> {
-    let bytes = [0, 0, 1, 0, 0, 0, 0xff, 0xff, 1, 0, 0, 0];
-    for (count, y, z) in [(1, 0, 0), (2, -65536, 0), (3, -65536, 1)] {
-        let mut builder = LayoutBuilder::new();
-        builder.add(Attr::Position, AttrType::Fixed, count);
-        let layout = builder.end()?;
-        let vertex = Vertex {
-            position: Point { x: 65536, y, z },
-            color: [255; 4],
-            texcoord: [0; 2],
-        };
-        assert_eq!(rt; layout.fetch(&bytes, 0), Some(vertex), "of {count}");
-    }
+fn texcoords_behind_a_gap(rt: HostRuntime) -> Result<(), Fail> {
+    let wanted = vertex(0, 0, 0, [1, 2, 3, 4], [-1, 0]);
+    assert!(rt; gap_told()? == (11, [Some(2), None], wanted));
     Ok(())
+}
+
+// The vertex of positions of so many numbers.
+fn with_numbers(count: u8) -> Result<Option<Vertex>, Refusal> {
+    let bytes = [0, 0, 1, 0, 0, 0, 0xff, 0xff, 1, 0, 0, 0];
+    let mut builder = LayoutBuilder::new();
+    builder.add(Attr::Position, AttrType::Fixed, count);
+    let layout = builder.end()?;
+    Ok(layout.fetch(&bytes, 0))
+}
+
+#[test]
+fn positions_of_one_to_three_numbers(rt: HostRuntime) {
+    let found = [with_numbers(1), with_numbers(2), with_numbers(3)];
+    let wanted = [
+        Ok(vertex(65536, 0, 0, [255; 4], [0; 2])),
+        Ok(vertex(65536, -65536, 0, [255; 4], [0; 2])),
+        Ok(vertex(65536, -65536, 1, [255; 4], [0; 2])),
+    ];
+    assert!(rt; found == wanted);
 }
 
 fn is_refused(builder: LayoutBuilder) -> bool {
