@@ -331,3 +331,12 @@ impl<P: Sink> Renderer<P> {
         self.sink
     }
 }
+
+impl<P: Sink + Drop> Renderer<P> {
+    /// The back buffer and what was made, as the frames so far left them. The sink is given up, as is all else.
+    pub fn into_stores(self) -> RenderStores
+        ensures { result ≡ self.canvas.stores }
+    {
+        self.canvas.stores
+    }
+}
