@@ -1,5 +1,5 @@
 // The first state of the calls.
-ghost use Rattle.std.specs.Prelude.{◌≡◌, ◌≤◌, [], map, IfOk};
+ghost use Rattle.std.specs.Prelude.{◌≡◌, ◌≤◌, [], ◌∷◌, map, take, drop, IfOk};
 ghost use Rattle.gfx_model.specs.Words.{all_kinds};
 ghost use Rattle.gfx_model.specs.Views.{IsViewCount};
 ghost use Rattle.gfx_words.specs.Kinds.{kind_seen};
@@ -37,17 +37,36 @@ fn stack_of(alloc: Global, kind: Kind) -> Result<Stack, AllocError>
     Stack::new(alloc, kind.greatest())
 }
 
-fn stacks(alloc: Global) -> Result<[Stack; 7], AllocError>
-    ensures { IfOk result (λ s. s ≡ map new_stack all_kinds) }
+// The stacks of the first four kinds.
+fn first_stacks(alloc: Global) -> Result<(Stack, Stack, Stack, Stack), AllocError>
+    ensures { IfOk result (λ s. s.0 ∷ s.1 ∷ s.2 ∷ s.3 ∷ [] ≡ map new_stack (take 4 all_kinds)) }
 {
-    Ok([
+    Ok((
         stack_of(alloc, Kind::Layout)?,
         stack_of(alloc, Kind::VertexBuffer)?,
         stack_of(alloc, Kind::IndexBuffer)?,
         stack_of(alloc, Kind::Texture)?,
+    ))
+}
+
+// The stacks of the last three kinds.
+fn last_stacks(alloc: Global) -> Result<(Stack, Stack, Stack), AllocError>
+    ensures { IfOk result (λ s. s.0 ∷ s.1 ∷ s.2 ∷ [] ≡ map new_stack (drop 4 all_kinds)) }
+{
+    Ok((
         stack_of(alloc, Kind::FrameBuffer)?,
         stack_of(alloc, Kind::Program)?,
         stack_of(alloc, Kind::Uniform)?,
+    ))
+}
+
+fn stacks(alloc: Global) -> Result<[Stack; 7], AllocError>
+    ensures { IfOk result (λ s. s ≡ map new_stack all_kinds) }
+{
+    let (layouts, vertices, indices, textures) = first_stacks(alloc)?;
+    let (targets, programs, uniforms) = last_stacks(alloc)?;
+    Ok([
+        layouts, vertices, indices, textures, targets, programs, uniforms,
     ])
 }
 

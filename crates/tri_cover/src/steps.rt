@@ -57,6 +57,35 @@ pub(crate) fn are_narrow(at: &Three, right: &Three, down: &Three) -> bool
     is_narrow(at) && is_narrow(right) && is_narrow(down)
 }
 
+/// As `sum_within`, by narrow weights.
+#[inline(always)]
+fn narrow_within(by: &Three, v: i64, w: i64, limit: u64) -> Option<i64>
+    requires b { unsigned_abs by.now.b < 2 ^ 30 }
+    requires c { unsigned_abs by.now.c < 2 ^ 30 }
+    requires v { unsigned_abs v < 2 ^ 32 }
+    requires w { unsigned_abs w < 2 ^ 32 }
+    ensures value { IfSome result (λ z. z ≡ by.now.b *ℤ v +ℤ by.now.c *ℤ w) }
+    ensures near { IfSome result (λ z. unsigned_abs z ≤ limit) }
+    ensures some { unsigned_abs (by.now.b *ℤ v +ℤ by.now.c *ℤ w) ≤ limit → IsSome result }
+{
+    let sum = narrow_sum(by.b, by.c, v, w);
+    limited(sum, limit)
+}
+
+/// As `sum_within`, by any weights.
+#[inline(always)]
+fn wide_within(by: &Three, v: i64, w: i64, limit: u64) -> Option<i64>
+    requires v { unsigned_abs v < 2 ^ 32 }
+    requires w { unsigned_abs w < 2 ^ 32 }
+    requires limit { limit ≤ 2 ^ 62 }
+    ensures value { IfSome result (λ z. z ≡ by.now.b *ℤ v +ℤ by.now.c *ℤ w) }
+    ensures near { IfSome result (λ z. unsigned_abs z ≤ limit) }
+    ensures some { unsigned_abs (by.now.b *ℤ v +ℤ by.now.c *ℤ w) ≤ limit → IsSome result }
+{
+    let sum = pair_sum(by.b, by.c, v, w);
+    wide_limited(sum, limit)
+}
+
 /// The sum of 0 and two values by their weights; none where it is further from 0 than a limit.
 #[inline(always)]
 fn sum_within(by: &Three, narrow: bool, v: i64, w: i64, limit: u64) -> Option<i64>
@@ -70,9 +99,9 @@ fn sum_within(by: &Three, narrow: bool, v: i64, w: i64, limit: u64) -> Option<i6
     ensures some { unsigned_abs (by.now.b *ℤ v +ℤ by.now.c *ℤ w) ≤ limit → IsSome result }
 {
     if narrow {
-        limited(narrow_sum(by.b, by.c, v, w), limit)
+        narrow_within(by, v, w, limit)
     } else {
-        wide_limited(pair_sum(by.b, by.c, v, w), limit)
+        wide_within(by, v, w, limit)
     }
 }
 
