@@ -35,10 +35,6 @@ pub record IsPrepared (b : BookView) (gathered : List Recording) (p : Prepared) 
   pub told : map entry_seen p.told.items ≡ collected (recordings_seen gathered)
   pub room : (p.room.items ≡ []) × (8 ≤ vec_capacity p.room)
 
--- the state with no frame to follow
-abbrev pub ended_core : CoreView → CoreView
-ended_core v = record v { state = record v.state { is_ended = true } }
-
 -- all is ready: no encoder is off, and the definition does not refuse. What was written is taken
 pub record IsReady (p : Prepared) (old new : CoreView) : Type 0 where
   pub none_off : old.state.seat.off ≡ []
@@ -46,11 +42,11 @@ pub record IsReady (p : Prepared) (old new : CoreView) : Type 0 where
   pub prepared : IsPrepared old.state.book old.state.gathered p
   pub after : new ≡ record old { state = record old.state { book = with_nothing_written old.state.book } }
 
--- why it is not: an encoder is off; then the definition refuses; then memory is wanting, and no frame follows
+-- why it is not: an encoder is off; then the definition refuses; then memory is wanting. Nothing changed
 abbrev pub IsNotReady : NotReady → (old new : CoreView) → Type 0
 IsNotReady causes.EncodersOff old new = (0 < length old.state.seat.off) × (new ≡ old)
 IsNotReady causes.FramesSpent old new = (old.state.seat.off ≡ []) × (frame_refusal (state_of old.state) end_frame ≡ Some model.frames_spent) × (new ≡ old)
-IsNotReady causes.OutOfMemory old new = (old.state.seat.off ≡ []) × (frame_refusal (state_of old.state) end_frame ≡ None) × (new ≡ ended_core old)
+IsNotReady causes.OutOfMemory old new = (old.state.seat.off ≡ []) × (frame_refusal (state_of old.state) end_frame ≡ None) × (new ≡ old)
 
 -- the end of a frame is prepared, or not
 abbrev pub Prepares : Result Prepared NotReady → (old new : CoreView) → Type 0
@@ -121,6 +117,10 @@ pub record Gives (work : Work) (f : Frame) (old new : CoreView) : Type 0 where
       out = old.state.out + 1;
     };
   }
+
+-- the state with no frame to follow
+abbrev pub ended_core : CoreView → CoreView
+ended_core v = record v { state = record v.state { is_ended = true } }
 
 -- a frame is made exactly where the one that came back was shown; else no frame follows
 abbrev pub Finishes : Bool → Work → Option Frame → (old new : CoreView) → Type 0

@@ -45,7 +45,7 @@ pub enum NotReady {
     EncodersOff,
     /// All frame numbers are used. Nothing changed.
     FramesSpent,
-    /// There was no memory. No frame follows.
+    /// There was no memory. Nothing changed.
     OutOfMemory,
 }
 
@@ -103,7 +103,7 @@ impl ContextCore {
     /// Prepares the end of the frame: takes what was written, and all memory that is needed. The core is not ended.
     ///
     /// `EncodersOff` exactly where an encoder of the frame was begun and not gathered; then `FramesSpent` exactly where the
-    /// number is 1,073,741,823. After want of memory the core is ended, and nothing else changed.
+    /// number is 1,073,741,823. Whatever cause is answered, nothing changed; after want of memory it can be tried again.
     pub fn prepare(&mut self) -> Result<Prepared, NotReady>
         requires running { self.old.state.is_ended ≡ false }
         ensures { Prepares result self.old self.new }
@@ -114,13 +114,10 @@ impl ContextCore {
         if self.book.frame() >= GREATEST_FRAME {
             return Err(NotReady::FramesSpent);
         }
-        match prepare(self.alloc, &mut self.book, self.gathered.as_slice()) {
-            Ok(prepared) => Ok(prepared),
-            Err(_) => {
-                self.is_ended = true;
-                Err(NotReady::OutOfMemory)
-            }
-        }
+        let Ok(prepared) = prepare(self.alloc, &mut self.book, self.gathered.as_slice()) else {
+            return Err(NotReady::OutOfMemory);
+        };
+        Ok(prepared)
     }
 
     // The frame of the work and of what was gathered, which is given from then on.

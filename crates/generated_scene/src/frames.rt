@@ -1,5 +1,6 @@
 // The frames of the scene.
-ghost use Rattle.std.specs.Prelude.{◌≡◌, ◌≤◌, ◌<◌, ◌++◌, ◌∷◌, [], IfOk, OnOk, codes, map};
+ghost use Rattle.std.specs.Prelude.{◌≡◌, ◌≤◌, ◌<◌, ◌+◌, ◌++◌, ◌∷◌, [], IfOk, OnOk, codes, map};
+ghost use Rattle.std.specs.List.{range_with_len};
 ghost use Rattle.scene_model.specs.Generated.{draw_lines, block_of, first_lines, lines_before, generated_frame, generated};
 ghost use Rattle.generated_scene.specs.Draws.{lines_of_draw};
 ghost use Rattle.scene_text.specs.Seen.{encoder_line_seen, resource_line_seen, block_seen, frame_seen, name_seen, scene_seen};
@@ -10,6 +11,7 @@ use scene_text::{
     Clear, EncBlock, EncLine, LayoutPart, ResLine, Room, Scene, SceneFrame, SceneName, Sequence,
 };
 use std::alloc::{AllocError, Global};
+use std::thread::{Threads, available_parallelism, join};
 use vertex_layout::{Attr, AttrType};
 
 // Stores all channels, tests depth by less, and stores depth.
@@ -156,17 +158,72 @@ fn names(alloc: Global) -> Result<Vec<SceneName>, AllocError>
     Ok(names)
 }
 
+/// So many frames of the scene, from one on.
+fn frames_from(alloc: Global, from: u32, count: u32) -> Result<Vec<SceneFrame>, AllocError>
+    requires { from + count ≤ 512 }
+    ensures { IfOk result (λ v. map frame_seen v.items ≡ map generated_frame (range_with_len from count)) }
+{
+    let mut frames = Vec::with_capacity(alloc, count as usize)?;
+    for step in 0..count {
+        let made = frame_of(alloc, from + step)?;
+        frames.push(made)?;
+    }
+    Ok(frames)
+}
+
+/// The same in parts side by side: the last by this thread, and each other by a thread that this one starts.
+fn frames_in_parts<R: Threads>(
+    rt: &R,
+    alloc: Global,
+    from: u32,
+    count: u32,
+    parts: u32,
+) -> Result<Vec<SceneFrame>, AllocError>
+    requires { from + count ≤ 512 }
+    ensures { IfOk result (λ v. map frame_seen v.items ≡ map generated_frame (range_with_len from count)) }
+{
+    if parts < 2 {
+        return frames_from(alloc, from, count);
+    }
+    let more = parts - 1;
+    let share = count / parts;
+    let rest = count - share;
+    let next = from + share;
+    let (first, others) = join(
+        rt,
+        move || -> Result<Vec<SceneFrame>, AllocError>
+            requires { from + share ≤ 512 }
+            ensures { IfOk result (λ v. map frame_seen v.items ≡ map generated_frame (range_with_len from share)) }
+        { frames_from(alloc, from, share) },
+        move || -> Result<Vec<SceneFrame>, AllocError>
+            requires { next + rest ≤ 512 }
+            ensures { IfOk result (λ v. map frame_seen v.items ≡ map generated_frame (range_with_len next rest)) }
+        { frames_in_parts(rt, alloc, next, rest, more) },
+    );
+    let mut all = first?;
+    let mut others = others?;
+    all.append(&mut others)?;
+    Ok(all)
+}
+
+// Fewer frames than this do not pay for a thread.
+const LEAST_PAID: u32 = 16;
+
+/// In how many parts so many frames are made: as many as there are processors, where that pays.
+fn parts_of<R: Threads>(rt: &R, count: u32) -> u32 {
+    match available_parallelism(rt) {
+        Ok(processors) => (count / LEAST_PAID).min(8).min(processors.get().min(8) as u32),
+        Err(_) => 1,
+    }
+}
+
 /// The generated scene of 1 to 512 frames. `Err` only for want of memory.
-pub fn make_scene(alloc: Global, count: u32) -> Result<Scene, AllocError>
+pub fn make_scene<R: Threads>(rt: &R, alloc: Global, count: u32) -> Result<Scene, AllocError>
     requires { (1 ≤ count) × (count ≤ 512) }
     ensures { IfOk result (λ s. scene_seen s ≡ generated count) }
 {
     let names = names(alloc)?;
-    let mut frames = Vec::with_capacity(alloc, count as usize)?;
-    for frame in 0..count {
-        let made = frame_of(alloc, frame)?;
-        frames.push(made)?;
-    }
+    let frames = frames_in_parts(rt, alloc, 0, count, parts_of(rt, count))?;
     Ok(Scene {
         version: 1,
         width: 640,

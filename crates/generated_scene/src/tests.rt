@@ -30,7 +30,7 @@ fn count_of(text: &[u8], byte: u8) -> usize {
 
 #[test]
 fn as_text(rt: HostRuntime) -> Result<(), Fail> {
-    let scene = make_scene(rt.alloc(), 2)?;
+    let scene = make_scene(&rt, rt.alloc(), 2)?;
     let text = write(rt.alloc(), &scene)?;
     assert!(rt; text.starts_with(FRONT));
     assert_eq!(rt; count_of(&text, b'\n'), 7218);

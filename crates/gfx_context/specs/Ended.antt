@@ -5,9 +5,9 @@ use Rattle.gfx_model.specs.Frames.{collected}
 use Rattle.gfx_model.specs.FrameCalls.{end_frame, shut_down, frame_refusal, frame_effect, is_given}
 use Rattle.gfx_words.specs.declared.journal.JournalEntry.{JournalEntry}
 use Rattle.gfx_words.specs.declared.refusals.Refusal.{Refusal}
-use Rattle.gfx_words.specs.Seen.{refusal_seen}
 use Rattle.schedule_model.specs.Held.{count_of}
 use Rattle.hold_table.specs.Views.{SeatView, advanced, joined_with}
+use Rattle.resource_book.specs.Answered.{IsFirstRefusalOrOutOfMemory}
 use Rattle.resource_book.specs.Works.{with_nothing_written}
 use Rattle.resource_book.specs.declared.frames.Work.{Work}
 use Rattle.draw_encoder.specs.declared.items.Recording.{Recording}
@@ -122,15 +122,12 @@ pub record Ends {L : Type 0} (report : FrameReport) (old new : ContextView L) : 
   pub state : state_of new ≡ (frame_effect (is_shown report.back) (state_of old) end_frame).after
   pub gives : GivesWhere report.given old new
 
--- the end of a frame whose bundles are collected; a refused one changes nothing. Memory is wanting only where no test refuses; then the context is ended,
--- and nothing else changes
+-- the end of a frame whose bundles are collected; a refused one changes nothing. Memory is wanting only where no test refuses
 abbrev pub IsEnd : {L : Type 0} → Result FrameReport Refusal → (old new : ContextView L) → Type 0
 IsEnd result old new =
     MatchResult result
     (λ report. Ends report old new)
-    (λ r. MatchOption (refusal_seen r)
-    ((frame_refusal (state_of old) end_frame ≡ None) × (new ≡ record old { is_ended = true }))
-    (λ x. (frame_refusal (state_of old) end_frame ≡ Some x) × (new ≡ old)))
+    (λ r. IsFirstRefusalOrOutOfMemory (frame_refusal (state_of old) end_frame) r × (new ≡ old))
 
 -- the journal of the frame that was given last is the order of the numbers that its encoders drew: its recordings are those that the core gathered for it, their
 -- numbers are those that the core's seat gathered from the encoders' seats, and the entries are theirs by number. The journal that is told is the frame's

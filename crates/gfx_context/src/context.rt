@@ -22,8 +22,8 @@ use std::marker::Model;
 
 /// The state of the calls of one thread: a core on the named table, the queue of the bundles, and the link to which its frames go.
 ///
-/// It is ended exactly after a frame that was not given and after want of memory in `frame`; then no encoder begins and no frame ends,
-/// and `shutdown` is all that is of use.
+/// It is ended exactly after a frame that was not given; then no encoder begins and no frame ends, and `shutdown` is all that is of
+/// use. Want of memory ends no context.
 ///
 /// What a frame that is out names stays in its place: the things that its recordings name, and the targets of its views.
 /// Contracts see a `ContextView`.

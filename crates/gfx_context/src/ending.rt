@@ -81,8 +81,8 @@ impl<'t, C: Naming, L: FrameLink + Drop> Context<'t, C, L> {
     /// gives this frame, and starts the next one. Where the frame that came back was not shown, this one is not given, and the
     /// context is ended. It is called where the context is not ended.
     ///
-    /// `FramesSpent` exactly where the number is 1,073,741,823. After want of memory nothing came back or was given, and the
-    /// context is ended.
+    /// `FramesSpent` exactly where the number is 1,073,741,823. A refused end changes nothing; after want of memory it can be tried
+    /// again.
     pub fn end(&mut self) -> Result<FrameReport, Refusal>
         requires running { self.old.is_ended ≡ false }
         requires none_off { self.old.seat.off ≡ [] }
@@ -115,8 +115,8 @@ impl<'t, C: Naming, L: FrameLink + Drop> Context<'t, C, L> {
     /// the frame that came back was not shown, this one is not given, and the context is ended. It is called where the context is
     /// not ended.
     ///
-    /// The bundles are collected whatever is answered. `FramesSpent` exactly where the number is 1,073,741,823. After want of
-    /// memory nothing came back or was given, and the context is ended.
+    /// The bundles are collected whatever is answered. `FramesSpent` exactly where the number is 1,073,741,823. A refused frame
+    /// changes nothing else; after want of memory it can be tried again.
     pub fn frame<R: Wait>(&mut self, rt: &R) -> Result<FrameReport, Refusal>
         requires running { self.old.is_ended ≡ false }
         ensures answer { CollectsAndEnds C.admits C.views result self.old self.new }

@@ -1,5 +1,5 @@
 -- Lines of a block that are run one after the other.
-use Rattle.std.proofs.Common.{◌≡◌, ◌≤◌, ℕ, ◌+◌, ◌<◌, List, [], ◌∷◌, ◌++◌, append_assoc, Option, Some, None, Result, Ok, Err, inl, inr, refl, ap, sym, ◌∙◌, subst, arith}
+use Rattle.std.proofs.Common.{◌≡◌, ◌≤◌, ℕ, ◌+◌, ◌<◌, List, [], ◌∷◌, ◌++◌, append_assoc, Option, Some, None, Result, Ok, Err, refl, ap, sym, ◌∙◌, subst, arith}
 use Rattle.std.specs.Option.{MatchOption, IsSome}
 use Rattle.gfx_model.specs.Words.{Handle}
 use Rattle.gfx_model.specs.Resources.{ResourceCall, destroy}
@@ -10,7 +10,7 @@ use Rattle.gfx_context.specs.declared.report.FrameReport.{FrameReport}
 use Rattle.schedule_model.specs.Held.{count_of}
 use Rattle.load_text.specs.Loads.{BlockLine, destroy_line, frame_line}
 use Rattle.res_lock.specs.Histories.{LockCall, on_things, ends_frame, Reply, done, refused, LockEntry, part_of}
-use Rattle.res_lock.specs.Called.{Calls, Stays, IsRefusedBy, IsCreated, IsChanged, IsOutOfMemory, IsFrameRefused, IsFramed, reply_of}
+use Rattle.res_lock.specs.Called.{Calls, Stays, IsRefusedBy, IsCreated, IsChanged, IsFramed, reply_of}
 use Rattle.res_lock.specs.Seats.{pass_view, caller_of, made_by}
 use Rattle.res_lock.specs.declared.table.ResPass.{ResPass}
 use Rattle.res_lock.specs.declared.entry.LockRefusal.{LockRefusal}
@@ -43,18 +43,9 @@ pub changed_same : (start : CallState) (call : LockCall) (a : Result (Unit {0}) 
 changed_same start call (Ok h) old new c = calls_same c
 changed_same start call (Err r) old new c = refused_same start call r old new c
 
-wanting_same : (start : CallState) (old new : ResPass) → IsOutOfMemory start old new → IsSameBut (pass_view old) (pass_view new)
-wanting_same start old new (inl h) = stays_same h
-wanting_same start old new (inr h) = calls_same h.1
-
-unframed_same : (start : CallState) (reply : Reply) (o : Option model.Refusal) (old new : ResPass) → MatchOption o (IsOutOfMemory start old new) (λ x. Calls start ends_frame reply old new) → IsSameBut (pass_view old) (pass_view new)
-unframed_same start reply None old new h = wanting_same start old new h
-unframed_same start reply (Some x) old new h = calls_same h
-
 pub framed_same : (start : CallState) (a : Result FrameReport LockRefusal) (old new : ResPass) → IsFramed start a old new → IsSameBut (pass_view old) (pass_view new)
 framed_same start (Ok report) old new c = calls_same c
-framed_same start (Err (lock_refusals.Refused r)) old new c = unframed_same start (refused r) (refusal_seen r) old new c
-framed_same start (Err (lock_refusals.Ended frame)) old new c = calls_same c
+framed_same start (Err r) old new c = refused_same start ends_frame r old new c
 
 -- ---- answers that stand in the history
 
@@ -85,18 +76,9 @@ destroy_answered start things n h r old new e c a = destroys start things n h (r
 pub destroys_nothing : (start : CallState) (things : List (Option Handle)) (n : ℕ) (old : ResPass) → thing_of things n ≡ None → RunsLine start (destroy_line n) things things old old
 destroys_nothing start things n old e = rw e (refl, record { view = refl; made = refl })
 
--- the end of a frame is refused
-unframed_calls : (start : CallState) (reply : Reply) (o : Option model.Refusal) (old new : ResPass) → MatchOption o (IsOutOfMemory start old new) (λ x. Calls start ends_frame reply old new) → IsSome o → Calls start ends_frame reply old new
-unframed_calls start reply None old new h e = absurd (cc e)
-unframed_calls start reply (Some x) old new h e = h
-
-unframed_answered : (start : CallState) (r : LockRefusal) (old new : ResPass) → IsFrameRefused start r old new → IsEntered r → Calls start ends_frame (refusal_reply r) old new
-unframed_answered start (lock_refusals.Refused r) old new c e = unframed_calls start (refused r) (refusal_seen r) old new c e
-unframed_answered start (lock_refusals.Ended frame) old new c e = c
-
 pub frame_runs : (start : CallState) (things : List (Option Handle)) (a : Result FrameReport LockRefusal) (old new : ResPass) → IsFramed start a old new → IsAnswered a → RunsLine start frame_line things things old new
 frame_runs start things (Ok report) old new c e = (reply_of report.given report.number report.back, refl, c)
-frame_runs start things (Err r) old new c e = (refusal_reply r, refl, unframed_answered start r old new c e)
+frame_runs start things (Err r) old new c e = (refusal_reply r, refl, refused_calls start ends_frame r old new c e)
 
 -- ---- how often a pass made a call
 

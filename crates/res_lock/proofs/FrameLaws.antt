@@ -1,5 +1,5 @@
 -- The state behind the lock is kept where a frame ends and where an encoder begins.
-use Rattle.std.proofs.Common.{◌≡◌, inl, inr, ℕ, ◌+◌, ◌-◌, ◌==◌, ◌||◌, Bool, true, false, if◌then◌else◌, List, [], ◌∷◌, ◌++◌, sym, refl, ap, ◌∙◌, subst, Option, Some, None, MatchOption, IfOk, Result, Ok, Err, ◌≤◌, arith, cond, eq-eqb}
+use Rattle.std.proofs.Common.{◌≡◌, inl, inr, ℕ, ◌+◌, ◌-◌, ◌==◌, ◌||◌, Bool, true, false, if◌then◌else◌, List, [], ◌∷◌, ◌++◌, sym, refl, ap, ◌∙◌, subst, Option, Some, None, MatchOption, Result, Ok, Err, ◌≤◌, arith, cond, eq-eqb}
 use Rattle.std.proofs.lemmas.Option.{none-some}
 use Rattle.gfx_model.specs.World.{Item}
 use Rattle.gfx_model.specs.Recorder.{Room}
@@ -12,27 +12,25 @@ use Rattle.gfx_words.specs.Seen.{refusal_seen}
 use Rattle.resource_laws.specs.Bare.{bare_of}
 use Rattle.resource_laws.proofs.RunLaws.{bare_started}
 use Rattle.resource_book.specs.Written.{BookView}
+use Rattle.resource_book.specs.Works.{with_nothing_written}
 use Rattle.resource_book.specs.Answered.{IsFirstRefusalOrOutOfMemory}
 use Rattle.hold_table.specs.Views.{SeatView, fresh, joined_with}
 use Rattle.draw_encoder.specs.declared.items.Recording.{Recording}
 use Rattle.draw_encoder.specs.Calls.{EncoderView}
-use Rattle.frame_record.specs.declared.frame.Outcome.TheVariants as outcomes
 use Rattle.gfx_context.specs.States.{ContextView, state_of}
 use Rattle.gfx_context.specs.Kept.{IsContext, IsTied}
 use Rattle.gfx_context.specs.Calls as context_calls
-use Rattle.gfx_context.specs.Ended.{Gathers, is_shown, is_shown_outcome, started, MakesWay, GivesWhere, IsEnd, CollectsAndEnds}
+use Rattle.gfx_context.specs.Ended.{Gathers, is_shown, is_shown_outcome, started, MakesWay, GivesWhere, Ends, CollectsAndEnds}
 use Rattle.gfx_context.specs.declared.report.BackNote.{BackNote}
 use Rattle.gfx_context.specs.declared.report.FrameReport.{FrameReport}
 use Rattle.res_lock.specs.Histories.{LockCall, ends_frame, begins, Reply, given, begun, refused, ending, LockEntry, IsToldOrRefused, IsFrameReply, IsRunningReply, after_reply, state_after}
 use Rattle.res_lock.specs.Written.{written_where, book_after}
 use Rattle.res_lock.specs.Seats.{pass_view}
-use Rattle.res_lock.specs.Called.{entry_of, reply_of, refusal_reply, frame_reply, Calls, Begins, IsOutOfMemory, IsFramed}
+use Rattle.res_lock.specs.Called.{entry_of, reply_of, Begins}
 use Rattle.res_lock.specs.Locked.{log_entries, bared, End, end_where, end_in, CameWith, EndedAs, IsKept, IsReport, Adds}
-use Rattle.res_lock.specs.declared.entry.LockRefusal.{LockRefusal}
-use Rattle.res_lock.specs.declared.entry.LockRefusal.TheVariants as lock_refusals
 use Rattle.res_lock.specs.declared.log.Log.{Log}
 use Rattle.res_lock.specs.declared.table.ResPass.{ResPass}
-use Rattle.res_lock.proofs.KeptLaws.{RunsAs, Both, runs_on, entry_kept, running, Refuses, Refused, refused_by}
+use Rattle.res_lock.proofs.KeptLaws.{Both, runs_on, entry_kept, running, Refuses, Refused, refused_by}
 
 -- ---- the end of a frame, over states of the calls
 
@@ -43,9 +41,9 @@ or_true false = refl
 -- the reply is the definition's, and the state is that after it
 pub record Follows (s : CallState) (call : LockCall) (reply : Reply) (y : CallState) : Type 0 where
   pub replies : IsRunningReply s call reply
-  pub state : y ≡ bared (after_reply s call reply) y
+  pub state : y ≡ bared (after_reply s call reply)
 
-module _ (s x y : CallState) (same : x ≡ bared s x) where
+module _ (s x y : CallState) (same : x ≡ bared s) where
   frame_refusal_is : frame_refusal x end_frame ≡ frame_refusal s end_frame
   frame_refusal_is = ap (λ (z : CallState). frame_refusal z end_frame) same
 
@@ -55,24 +53,11 @@ module _ (s x y : CallState) (same : x ≡ bared s x) where
   not_refused : (number : ℕ) (reply : Reply) → frame_refusal x end_frame ≡ None → IsFrameReply None number reply → IsFrameReply (frame_refusal s end_frame) number reply
   not_refused number reply e is = subst (λ (o : Option model.Refusal). IsFrameReply o number reply) (sym (sym frame_refusal_is ∙ e)) is
 
-  given_state : y ≡ frames.given x → y ≡ bared (frames.given s) y
-  given_state e =
-      let t : CallState = frames.given s in
-      let n : ℕ = x.out + 1 - backs_at_end (bared s x) in
-      let first : y ≡ record t { resources = start_frame (s.resources.frame + 1) (bare_of s.resources); out = n } = e ∙ ap frames.given same in
-      first
-      ∙ (ap (λ r. record t { resources = r; out = n }) (bare_started s.resources (s.resources.frame + 1))
-      ∙ ap (λ (m : ℕ). record t { resources = bare_of (start_frame (s.resources.frame + 1) s.resources); out = m }) (sym (ap (λ (z : CallState). z.out) first)))
+  given_state : y ≡ frames.given x → y ≡ bared (frames.given s)
+  given_state e = e ∙ (ap frames.given same ∙ ap (λ r. record (frames.given s) { resources = r }) (bare_started s.resources (s.resources.frame + 1)))
 
-  ended_state : y ≡ frames.ended x → y ≡ bared (frames.ended s) y
-  ended_state e =
-      let first : y ≡ record s { resources = bare_of s.resources; out = x.out - backs_at_end (bared s x); is_ended = true } = e ∙ ap frames.ended same in
-      first ∙ ap (λ (m : ℕ). record s { resources = bare_of s.resources; out = m; is_ended = true }) (sym (ap (λ (z : CallState). z.out) first))
-
-  stopped_state : y ≡ record x { is_ended = true } → y ≡ bared (frames.ended s) y
-  stopped_state e =
-      let first : y ≡ record s { resources = bare_of s.resources; out = x.out; is_ended = true } = e ∙ ap (λ (z : CallState). record z { is_ended = true }) same in
-      first ∙ ap (λ (m : ℕ). record s { resources = bare_of s.resources; out = m; is_ended = true }) (sym (ap (λ (z : CallState). z.out) first))
+  ended_state : y ≡ frames.ended x → y ≡ bared (frames.ended s)
+  ended_state e = e ∙ ap frames.ended same
 
   or_false : (a b : Bool) → (a || b) ≡ false → b ≡ false
   or_false true b e = cc e
@@ -90,53 +75,15 @@ module _ (s x y : CallState) (same : x ≡ bared s x) where
     state = ended_state (state ∙ ap (λ (b : Bool). if b then frames.given x else frames.ended x) (sym e));
   }
 
-  pub refusal_follows : (r : Refusal) (number : ℕ) → number ≡ x.resources.frame → (o : Option model.Refusal) → refusal_seen r ≡ o
-      → MatchOption o ((frame_refusal x end_frame ≡ None) × (y ≡ record x { is_ended = true })) (λ z. (frame_refusal x end_frame ≡ Some z) × (y ≡ x)) → Follows s ends_frame (refusal_reply number r o) y
-  refusal_follows r number is None seen m = record {
-    replies = not_refused s.resources.frame (ending number outcomes.OutOfMemory) m.0 (inr (outcomes.OutOfMemory, ap (λ (n : ℕ). ending n outcomes.OutOfMemory) (is ∙ frame_is), refl));
-    state = stopped_state m.1;
-  }
-  refusal_follows r number is (Some z) seen m = record {
-    replies = subst (λ (o : Option model.Refusal). IsFrameReply o s.resources.frame (refused r)) (sym (sym frame_refusal_is ∙ m.0)) (r, refl, seen);
-    state = m.1 ∙ (same ∙ ap (λ (u : CallState). bared s u) (sym m.1));
-  }
+-- ---- what is written
 
--- the answers of a context
-pub end_follows : {L : Type 0} (s : CallState) (c d : ContextView L) → state_of c ≡ bared s (state_of c) → (number : ℕ) → number ≡ c.book.resources.frame → (result : Result FrameReport Refusal) → IsEnd result c d → Follows s ends_frame (frame_reply number result) (state_of d)
-end_follows s c d same number is (Ok report) m = report_follows s (state_of c) (state_of d) same report.given report.back report.number m.number m.accepted m.given m.state
-end_follows s c d same number is (Err r) m = refusal_follows s (state_of c) (state_of d) same r number is (refusal_seen r) refl (stated (refusal_seen r) m)
+end_as : {L : Type 0} (b : BookView) (c d : ContextView L) → c.book ≡ b → (report : FrameReport) → Ends report c d → d.book ≡ written_where b ends_frame (reply_of report.given report.number report.back)
+end_as b c d has report m = by report.given report.back m.given m.gives
   where
-    stated : (o : Option model.Refusal) → MatchOption o ((frame_refusal (state_of c) end_frame ≡ None) × (d ≡ record c { is_ended = true })) (λ x. (frame_refusal (state_of c) end_frame ≡ Some x) × (d ≡ c))
-        → MatchOption o ((frame_refusal (state_of c) end_frame ≡ None) × (state_of d ≡ record (state_of c) { is_ended = true })) (λ z. (frame_refusal (state_of c) end_frame ≡ Some z) × (state_of d ≡ state_of c))
-    stated None m = (m.0, ap state_of m.1)
-    stated (Some z) m = (m.0, ap state_of m.1)
-
--- ---- what is written, and how many frames are out
-
-true_false : true ≡ false → ⊥
-true_false e = cc e
-
-given_out : (s x : CallState) → x ≡ bared s x → x.out ≡ s.out → (frames.given x).out ≡ (frames.given s).out
-given_out s x same out =
-    let whole : x ≡ record s { resources = bare_of s.resources } = same ∙ ap (λ (n : ℕ). record s { resources = bare_of s.resources; out = n }) out in
-    ap (λ (z : CallState). (frames.given z).out) whole
-
-end_as : {L : Type 0} (b : BookView) (s : CallState) (c d : ContextView L) → state_of c ≡ bared s (state_of c) → c.book ≡ b → c.out ≡ s.out → (number : ℕ) (result : Result FrameReport Refusal) → IsEnd result c d
-    → RunsAs (written_where b ends_frame (frame_reply number result)) (after_reply s ends_frame (frame_reply number result)) d
-end_as b s c d same has out number (Ok report) m = by report.given report.back m.given m.gives
-  where
-    by : (is_in : Bool) (back : Option BackNote) → is_in ≡ is_given (is_shown report.back) (state_of c) → GivesWhere is_in c d → RunsAs (written_where b ends_frame (reply_of is_in report.number back)) (after_reply s ends_frame (reply_of is_in report.number back)) d
-    by true back is g = λ runs. (
-      ap (λ v. v.book) g.same ∙ ap started has,
-      ap (λ (z : CallState). z.out) (m.state ∙ ap (λ (t : Bool). if t then frames.given (state_of c) else frames.ended (state_of c)) (sym is)) ∙ given_out s (state_of c) same out,
-    )
-    by false back is g = λ runs. absurd (true_false (sym (ap (λ v. v.is_ended) g) ∙ runs))
-end_as b s c d same has out number (Err r) m = by (refusal_seen r) m
-  where
-    by : (o : Option model.Refusal) → MatchOption o ((frame_refusal (state_of c) end_frame ≡ None) × (d ≡ record c { is_ended = true })) (λ x. (frame_refusal (state_of c) end_frame ≡ Some x) × (d ≡ c))
-        → RunsAs (written_where b ends_frame (refusal_reply number r o)) (after_reply s ends_frame (refusal_reply number r o)) d
-    by None m = λ runs. absurd (true_false (sym (ap (λ v. v.is_ended) m.1) ∙ runs))
-    by (Some x) m = λ runs. (ap (λ v. v.book) m.1 ∙ has, ap (λ v. v.out) m.1 ∙ out)
+    by : (is_in : Bool) (back : Option BackNote) → is_in ≡ is_given (is_shown back) (state_of c) → GivesWhere is_in c d → d.book ≡ written_where b ends_frame (reply_of is_in report.number back)
+    by true back is g = ap (λ v. v.book) g.same ∙ ap started has
+    by false None is g = let no_way : false ≡ true = is ∙ or_true (backs_at_end (state_of c) == 0) in cc no_way
+    by false (Some note) is g = ap (λ v. v.book) g ∙ ap with_nothing_written has
 
 -- ---- how a context was ended
 
@@ -146,8 +93,8 @@ ended_out x some full =
     let one : backs_at_end x ≡ 1 = ap (λ (b : Bool). if b then 1 else 0) (eq-eqb x.out x.resources.latency full) in
     omega arith
 
-end_told : {L : Type 0} (s : CallState) (o : Option End) (c d : ContextView L) → c.is_ended ≡ false → EndedAs o c → 1 ≤ c.book.resources.latency → c.out ≡ s.out → (number : ℕ) (result : Result FrameReport Refusal) → IsEnd result c d → EndedAs (end_where s o (frame_reply number result)) d
-end_told s o c d runs told some out number (Ok report) m = by report.given report.back m.given m.gives m.back m.state
+end_told : {L : Type 0} (s : CallState) (o : Option End) (c d : ContextView L) → c.is_ended ≡ false → EndedAs o c → 1 ≤ c.book.resources.latency → c.out ≡ s.out → (report : FrameReport) → Ends report c d → EndedAs (end_where s o (reply_of report.given report.number report.back)) d
+end_told s o c d runs told some out report m = by report.given report.back m.given m.gives m.back m.state
   where
     by : (is_in : Bool) (back : Option BackNote) → is_in ≡ is_given (is_shown back) (state_of c) → GivesWhere is_in c d → MakesWay back c d.back → state_of d ≡ (frame_effect (is_shown back) (state_of c) end_frame).after → EndedAs (end_where s o (reply_of is_in report.number back)) d
     by true back is g way state = runs_on o c d runs (ap (λ (z : CallState). z.is_ended) (state ∙ ap (λ (t : Bool). if t then frames.given (state_of c) else frames.ended (state_of c)) (sym is)) ∙ runs) told
@@ -156,32 +103,47 @@ end_told s o c d runs told some out number (Ok report) m = by report.given repor
         let left : d.out ≡ (frames.ended (state_of c)).out = ap (λ (z : CallState). z.out) (state ∙ ap (λ (t : Bool). if t then frames.given (state_of c) else frames.ended (state_of c)) (sym is)) in
         let fewer : d.out + 1 ≡ s.out = ap (λ (n : ℕ). n + 1) left ∙ (ended_out (state_of c) some way.0 ∙ out) in
         let came : CameWith note.outcome d.back = record { before = c.back; newest = way.1.rendered; last = way.1.oldest.back; same = sym (ap (λ (n : BackNote). n.outcome) way.1.note) } in
-        (ap (λ v. v.is_ended) g, inl (came, fewer))
-end_told {L} s o c d runs told some out number (Err r) m = by (refusal_seen r) m
-  where
-    by : (z : Option model.Refusal) → MatchOption z ((frame_refusal (state_of c) end_frame ≡ None) × (d ≡ record c { is_ended = true })) (λ x. (frame_refusal (state_of c) end_frame ≡ Some x) × (d ≡ c))
-        → EndedAs (end_where s o (refusal_reply number r z)) d
-    by None m = (ap (λ v. v.is_ended) m.1, inr (refl, ap (λ v. v.out) m.1 ∙ out))
-    by (Some x) m = subst (λ (v : ContextView L). EndedAs o v) (sym m.1) told
+        (ap (λ v. v.is_ended) g, (came, fewer))
+
+-- ---- bundles are gathered
+
+ended_still : {L : Type 0} (o : Option End) (c : ContextView L) (seat : SeatView) (rs : List Recording) → EndedAs o c → EndedAs o (record c { seat = seat; gathered = rs })
+ended_still None c seat rs e = e
+ended_still (Some x) c seat rs e = e
+
+-- the history tells nothing of it
+with_gathers : {L : Type 0} (start : CallState) (book : BookView) (c : ContextView L) (h : List LockEntry) → IsKept start book (record { context = c; history = h }) → (seat : SeatView) (rs : List Recording) (d : ContextView L) → d ≡ record c { seat = seat; gathered = rs }
+    → IsKept start book (record { context = d; history = h })
+with_gathers start book c h k seat rs d after = subst (λ (x : ContextView _). IsKept start book (record { context = x; history = h })) (sym after) (record {
+  legal = k.legal;
+  same = k.same;
+  written = k.written;
+  told = ended_still (end_in start h) c seat rs k.told;
+})
+
+pub gathered_kept : {L : Type 0} (start : CallState) (book : BookView) (c : ContextView L) (h : List LockEntry) → IsKept start book (record { context = c; history = h }) → (r : Recording) (seat : SeatView) (d : ContextView L) → Gathers r seat c d
+    → IsKept start book (record { context = d; history = h })
+gathered_kept start book c h k r seat d g = with_gathers start book c h k (joined_with c.seat seat) (c.gathered ++ r ∷ []) d g.after
 
 -- ---- entries
 
 module _ {L : Type 0} {book : BookView} (start : CallState) (c : ContextView L) (h : List LockEntry) (k : IsKept start book (record { context = c; history = h })) (old new : Log) (p q : ResPass) (log_same : log_entries old ≡ h) where
-  pub framed_kept : {admits : ℕ → ℕ → List Item → ℕ → Type 0} {views : ℕ} → c.is_ended ≡ false → 1 ≤ c.book.resources.latency → (result : Result FrameReport Refusal) (d : ContextView L) (number : ℕ) (reply : Reply) → number ≡ c.book.resources.frame → reply ≡ frame_reply number result
-      → CollectsAndEnds admits views result c d → Adds ends_frame reply old new p q → Both start book d ends_frame (frame_reply number result) new p q h
-  framed_kept runs some result d number reply is told m a =
-      let gathered : state_of m.collected ≡ state_of c = ap state_of m.collects.same in
-      let going : m.collected.is_ended ≡ false = ap (λ v. v.is_ended) m.collects.same ∙ runs in
-      let same : state_of m.collected ≡ bared (state_after start h) (state_of m.collected) = gathered ∙ (k.same ∙ ap (bared (state_after start h)) (sym gathered)) in
-      let f = end_follows (state_after start h) m.collected d same number (is ∙ ap (λ (z : CallState). z.resources.frame) (sym gathered)) result m.ends in
-      entry_kept start c h k old new p q log_same d ends_frame (frame_reply number result) (subst (λ (x : Reply). Adds ends_frame x old new p q) told a) (running start c h k old new p q log_same runs ends_frame (frame_reply number result) f.replies) f.state
-      (end_as (book_after book h) (state_after start h) m.collected d same (ap (λ v. v.book) m.collects.same ∙ k.written runs) (ap (λ v. v.out) m.collects.same ∙ k.out runs) number result m.ends)
-      (end_told (state_after start h) (end_in start h) m.collected d going (runs_on (end_in start h) c m.collected runs going k.told) (subst (λ v. 1 ≤ v.book.resources.latency) (sym m.collects.same) some) (ap (λ v. v.out) m.collects.same ∙ k.out runs) number result m.ends)
+  pub framed_kept : {admits : ℕ → ℕ → List Item → ℕ → Type 0} {views : ℕ} → c.is_ended ≡ false → 1 ≤ c.book.resources.latency → (report : FrameReport) (d : ContextView L) (reply : Reply) → reply ≡ reply_of report.given report.number report.back
+      → CollectsAndEnds admits views (Ok report) c d → Adds ends_frame reply old new p q → Both start book d ends_frame (reply_of report.given report.number report.back) new p q h
+  framed_kept runs some report d reply told m a =
+      let told_as : Reply = reply_of report.given report.number report.back in
+      let mid : ContextView L = m.collected in
+      let going : mid.is_ended ≡ false = ap (λ v. v.is_ended) m.collects.same ∙ runs in
+      let kept : IsKept start book (record { context = mid; history = h }) = with_gathers start book c h k mid.seat mid.gathered mid m.collects.same in
+      let f = report_follows (state_after start h) (state_of mid) (state_of d) kept.same report.given report.back report.number m.ends.number m.ends.accepted m.ends.given m.ends.state in
+      entry_kept start c h k old new p q log_same d ends_frame told_as (subst (λ (x : Reply). Adds ends_frame x old new p q) told a) (running start c h k old new p q log_same runs ends_frame told_as f.replies) f.state
+      (end_as (book_after book h) mid d kept.written report m.ends)
+      (end_told (state_after start h) (end_in start h) mid d going kept.told (subst (λ v. 1 ≤ v.book.resources.latency) (sym m.collects.same) some) (ap (λ (z : CallState). z.out) kept.same) report m.ends)
 
-  pub reported : {admits : ℕ → ℕ → List Item → ℕ → Type 0} {views : ℕ} → c.is_ended ≡ false → IsContext admits views c → (result : Result FrameReport Refusal) (d : ContextView L) (number : ℕ) (reply : Reply) → number ≡ c.book.resources.frame → reply ≡ frame_reply number result
-      → CollectsAndEnds admits views result c d → Adds ends_frame reply old new p q → (report : FrameReport) → result ≡ Ok report → IsReport L admits views start book report (pass_view q).seen
-  reported {admits} {views} runs keeps result d number reply is told m a report ok =
-      let b = framed_kept runs keeps.latency.0 result d number reply is told m a in
+  pub reported : {admits : ℕ → ℕ → List Item → ℕ → Type 0} {views : ℕ} → c.is_ended ≡ false → IsContext admits views c → (report : FrameReport) (d : ContextView L) (reply : Reply) → reply ≡ reply_of report.given report.number report.back
+      → CollectsAndEnds admits views (Ok report) c d → Adds ends_frame reply old new p q → IsReport L admits views start book report (pass_view q).seen
+  reported runs keeps report d reply told m a =
+      let b = framed_kept runs keeps.latency.0 report d reply told m a in
       let seen : (pass_view q).seen ≡ log_entries new = ap (λ u. u.seen) a.view in
       record {
         before = h;
@@ -192,9 +154,30 @@ module _ {L : Type 0} {book : BookView} (start : CallState) (c : ContextView L) 
         kept_before = k;
         runs = runs;
         keeps = keeps;
-        ends = subst (λ (x : Result FrameReport Refusal). CollectsAndEnds admits views x c d) ok m;
+        ends = m;
         kept = subst (λ l. IsKept start book (record { context = d; history = l })) (sym seen) b.kept;
       }
+
+  -- a frame that is refused: its bundles stand as collected
+  pub frame_refused : {admits : ℕ → ℕ → List Item → ℕ → Type 0} {views : ℕ} → c.is_ended ≡ false → (r : Refusal) (d : ContextView L) → CollectsAndEnds admits views (Err r) c d → Refuses start c h k old new p q log_same ends_frame r (refusal_seen r)
+      → Refused start c h k old new p q log_same d ends_frame r (refusal_seen r)
+  frame_refused runs r d m a = let b = by (refusal_seen r) refl m.ends.0 a in record { kept = b.kept; answer = b.answer }
+    where
+      mid : ContextView L
+      mid = m.collected
+
+      held : IsKept start book (record { context = mid; history = h })
+      held = with_gathers start book c h k mid.seat mid.gathered mid m.collects.same
+
+      s : CallState
+      s = state_after start h
+
+      is_refused : (x : model.Refusal) → refusal_seen r ≡ Some x → frame_refusal (state_of mid) end_frame ≡ Some x → IsFrameReply (frame_refusal s end_frame) s.resources.frame (refused r)
+      is_refused x seen first = subst (λ (o : Option model.Refusal). IsFrameReply o s.resources.frame (refused r)) (sym first ∙ ap (λ (z : CallState). frame_refusal z end_frame) held.same) (r, refl, seen)
+
+      by : (o : Option model.Refusal) → refusal_seen r ≡ o → MatchOption o (frame_refusal (state_of mid) end_frame ≡ None) (λ x. frame_refusal (state_of mid) end_frame ≡ Some x) → Refuses start mid h held old new p q log_same ends_frame r o → Refused start mid h held old new p q log_same d ends_frame r o
+      by None seen first a = refused_by start mid h held old new p q log_same d m.ends.1 ends_frame r None (λ x e. absurd (none-some x e)) a
+      by (Some x) seen first a = refused_by start mid h held old new p q log_same d m.ends.1 ends_frame r (Some x) (λ y e. running start mid h held old new p q log_same (ap (λ v. v.is_ended) m.collects.same ∙ runs) ends_frame (refused r) (is_refused x seen first)) a
 
   begin_refusal_is : (room : Room) → frame_refusal (state_of c) (begin_encoder room) ≡ frame_refusal (state_after start h) (begin_encoder room)
   begin_refusal_is room = ap (λ (z : CallState). frame_refusal z (begin_encoder room)) k.same
@@ -213,11 +196,9 @@ module _ {L : Type 0} {book : BookView} (start : CallState) (c : ContextView L) 
       let made : (frame_effect true s (begin_encoder room)).made ≡ Some (record { encoder = e.seat.encoder; recorder = e.recorder }) = sym (ap (λ (z : CallState). (frame_effect true z (begin_encoder room)).made) k.same) ∙ m.made in
       let named : s.encoders ≡ e.seat.encoder = number_is _ _ made in
       let reply : IsToldOrRefused (frame_refusal s (begin_encoder room)) (begun s.encoders) (begun e.seat.encoder) = subst (λ (o : Option model.Refusal). IsToldOrRefused o (begun s.encoders) (begun e.seat.encoder)) (sym (sym (begin_refusal_is room) ∙ m.accepted)) (ap begun (sym named)) in
-      let state : state_of d ≡ bared (frame_effect true s (begin_encoder room)).after (state_of d) =
-      let first : state_of d ≡ record s { resources = bare_of s.resources; encoders = s.encoders + 1; out = c.out } = m.state ∙ ap (λ (z : CallState). record z { encoders = z.encoders + 1 }) k.same in
-      first ∙ ap (λ (n : ℕ). record s { resources = bare_of s.resources; encoders = s.encoders + 1; out = n }) (sym (ap (λ (z : CallState). z.out) first)) in
+      let state : state_of d ≡ bared (frame_effect true s (begin_encoder room)).after = m.state ∙ ap (λ (z : CallState). record z { encoders = z.encoders + 1 }) k.same in
       let b = entry_kept start c h k old new p q log_same d (begins room) (begun e.seat.encoder) (subst (λ (n : ℕ). Adds (begins room) (begun n) old new p q) is a) (running start c h k old new p q log_same runs (begins room) (begun e.seat.encoder) reply) state
-      (λ _. (ap (λ v. v.book) m.after ∙ k.written runs, ap (λ v. v.out) m.after ∙ k.out runs))
+      (ap (λ v. v.book) m.after ∙ k.written)
       (runs_on (end_in start h) c d runs (ap (λ v. v.is_ended) m.after ∙ runs) k.told) in
       let frame : e.seat.frame ≡ s.resources.frame = ap (λ (v : SeatView). v.frame) m.seat ∙ (sym keeps.tied.frame ∙ ap (λ (z : CallState). z.resources.frame) k.same) in
       record {
@@ -240,38 +221,3 @@ module _ {L : Type 0} {book : BookView} (start : CallState) (c : ContextView L) 
       by : (o : Option model.Refusal) → refusal_seen r ≡ o → MatchOption o (frame_refusal (state_of c) (begin_encoder room) ≡ None) (λ x. frame_refusal (state_of c) (begin_encoder room) ≡ Some x) → Refuses start c h k old new p q log_same (begins room) r o → Refused start c h k old new p q log_same d (begins room) r o
       by None seen first a = refused_by start c h k old new p q log_same d m.1 (begins room) r None (λ x e. absurd (none-some x e)) a
       by (Some x) seen first a = refused_by start c h k old new p q log_same d m.1 (begins room) r (Some x) (λ y e. running start c h k old new p q log_same runs (begins room) (refused r) (subst (λ (o : Option model.Refusal). IsToldOrRefused o (begun (state_after start h).encoders) (refused r)) (sym (sym (begin_refusal_is room) ∙ first)) (r, refl, seen))) a
-
--- ---- a bundle is gathered
-
-ended_still : {L : Type 0} (o : Option End) (c : ContextView L) (seat : SeatView) (rs : List Recording) → EndedAs o c → EndedAs o (record c { seat = seat; gathered = rs })
-ended_still None c seat rs e = e
-ended_still (Some x) c seat rs e = e
-
--- the history tells nothing of it
-pub gathered_kept : {L : Type 0} (start : CallState) (book : BookView) (c : ContextView L) (h : List LockEntry) → IsKept start book (record { context = c; history = h }) → (r : Recording) (seat : SeatView) (d : ContextView L) → Gathers r seat c d
-    → IsKept start book (record { context = d; history = h })
-gathered_kept start book c h k r seat d g = subst (λ (x : ContextView _). IsKept start book (record { context = x; history = h })) (sym g.after) (record {
-  legal = k.legal;
-  same = k.same;
-  written = k.written;
-  out = k.out;
-  told = ended_still (end_in start h) c (joined_with c.seat seat) (c.gathered ++ r ∷ []) k.told;
-})
-
--- ---- what a caller is told of the end of a frame
-
-pub ok_reported : (P : FrameReport → Type 0) (answer : Result FrameReport Refusal) (result : Result FrameReport LockRefusal) (report : FrameReport) → answer ≡ Ok report → result ≡ Ok report → ((x : FrameReport) → answer ≡ Ok x → P x) → IfOk result P
-ok_reported P answer result report is e told = subst (λ (x : Result FrameReport LockRefusal). IfOk x P) (sym e) (told report is)
-
-pub err_reported : (P : FrameReport → Type 0) (result : Result FrameReport LockRefusal) (r : LockRefusal) → result ≡ Err r → IfOk result P
-err_reported P result r e = subst (λ (x : Result FrameReport LockRefusal). IfOk x P) (sym e) tt
-
-pub ok_framed : (start : CallState) (p q : ResPass) (number : ℕ) (answer : Result FrameReport Refusal) (result : Result FrameReport LockRefusal) (report : FrameReport) → answer ≡ Ok report → result ≡ Ok report → Calls start ends_frame (frame_reply number answer) p q → IsFramed start result p q
-ok_framed start p q number answer result report is e m = subst (λ (x : Result FrameReport LockRefusal). IsFramed start x p q) (sym e) (subst (λ (x : Result FrameReport Refusal). Calls start ends_frame (frame_reply number x) p q) is m)
-
-pub err_framed : (start : CallState) (p q : ResPass) (number : ℕ) (answer : Result FrameReport Refusal) (result : Result FrameReport LockRefusal) (r : Refusal) → answer ≡ Err r → result ≡ Err (lock_refusals.Refused r) → Calls start ends_frame (frame_reply number answer) p q → IsFramed start result p q
-err_framed start p q number answer result r is e m = subst (λ (x : Result FrameReport LockRefusal). IsFramed start x p q) (sym e) (by (refusal_seen r) (subst (λ (x : Result FrameReport Refusal). Calls start ends_frame (frame_reply number x) p q) is m))
-  where
-    by : (o : Option model.Refusal) → Calls start ends_frame (refusal_reply number r o) p q → MatchOption o (IsOutOfMemory start p q) (λ x. Calls start ends_frame (refused r) p q)
-    by None m = inr (number, m)
-    by (Some x) m = m

@@ -5,14 +5,13 @@ use Rattle.std.specs.List.{AllByRecursion}
 use Rattle.gfx_model.specs.World.{Item}
 use Rattle.gfx_model.specs.Words.{Handle}
 use Rattle.gfx_model.specs.Resources as model
-use Rattle.gfx_model.specs.FrameCalls.{CallState, end_frame, frame_refusal, backs_at_end, is_given}
+use Rattle.gfx_model.specs.FrameCalls.{CallState, backs_at_end, is_given}
 use Rattle.gfx_words.specs.declared.refusals.Refusal.{Refusal}
 use Rattle.gfx_words.specs.Seen.{refusal_seen}
 use Rattle.hold_table.specs.Views.{SeatView}
 use Rattle.resource_book.specs.Written.{BookView}
 use Rattle.draw_encoder.specs.declared.items.Recording.{Recording}
 use Rattle.frame_record.specs.declared.frame.Frame.{Frame}
-use Rattle.frame_record.specs.declared.frame.Outcome.TheVariants as outcomes
 use Rattle.context_core.specs.Ended as cores
 use Rattle.gfx_context.specs.Gathered.{AreOfFrame}
 use Rattle.gfx_context.specs.States.{ContextView, state_of}
@@ -22,7 +21,7 @@ use Rattle.gfx_context.specs.declared.report.BackNote.{BackNote}
 use Rattle.gfx_context.specs.declared.report.FrameReport.{FrameReport}
 use Rattle.res_lock.specs.Histories.{LockCall, on_things, ends_frame, begins, Reply, made, done, given, refused, ending, LockEntry, state_after}
 use Rattle.res_lock.specs.Written.{book_after}
-use Rattle.res_lock.specs.Called.{entry_of, CreatesBy, ChangesBy, reply_of, refusal_reply, frame_reply}
+use Rattle.res_lock.specs.Called.{entry_of, CreatesBy, ChangesBy, reply_of}
 use Rattle.res_lock.specs.Locked.{log_entries, IsKept, Adds}
 use Rattle.res_lock.specs.Given.{told_given, given_in, IsGivenIn, HasGiven}
 use Rattle.res_lock.specs.declared.log.Log.{Log}
@@ -138,7 +137,7 @@ module _ (admits : ℕ → ℕ → List Item → ℕ → Type 0) (views : ℕ) (
             by true back is gives a =
                 let e : LockEntry = entry_of ends_frame (given report.number) p in
                 let same_book : m.collected.book ≡ c.book = ap (λ v. v.book) m.collects.same in
-                let written : m.collected.book ≡ book_after book h = same_book ∙ k.written runs in
+                let written : m.collected.book ≡ book_after book h = same_book ∙ k.written in
                 let number : report.number ≡ gives.frame.number = m.ends.number ∙ sym gives.is_of.number in
                 let frame : c.seat.frame ≡ gives.frame.number = sym keeps.tied.frame ∙ (ap (λ (b : BookView). b.resources.frame) (sym same_book) ∙ sym gives.is_of.number) in
                 let begun : c.begun ≡ (state_after start h).encoders = ap (λ (z : CallState). z.encoders) k.same in
@@ -158,21 +157,19 @@ module _ (admits : ℕ → ℕ → List Item → ℕ → Type 0) (views : ℕ) (
             by false None is gives a = let no_way : false ≡ true = is ∙ or_true (backs_at_end (state_of m.collected) == 0) in cc no_way
             by false (Some note) is gives a = still_given d ends_frame (ending report.number note.outcome) a (ap (λ v. v.given) gives ∙ before_same) refl
 
-        pub framed_given : (result : Result FrameReport Refusal) (d : ContextView L) (number : ℕ) (reply : Reply) → reply ≡ frame_reply number result → CollectsAndEnds admits views result c d → Adds ends_frame reply old new p q → Given d (log_entries new)
-        framed_given result d number reply told m a = by result m (subst (λ (x : Reply). Adds ends_frame x old new p q) told a)
-          where
-            by : (result : Result FrameReport Refusal) → CollectsAndEnds admits views result c d → Adds ends_frame (frame_reply number result) old new p q → Given d (log_entries new)
-            by (Ok report) m a = by_report report d m a
-            by (Err r) m a = refusal (refusal_seen r) m.ends a
-              where
-                before_same : m.collected.given ≡ c.given
-                before_same = ap (λ v. v.given) m.collects.same
+        pub framed_given : (report : FrameReport) (d : ContextView L) (reply : Reply) → reply ≡ reply_of report.given report.number report.back → CollectsAndEnds admits views (Ok report) c d → Adds ends_frame reply old new p q → Given d (log_entries new)
+        framed_given report d reply told m a = by_report report d m (subst (λ (x : Reply). Adds ends_frame x old new p q) told a)
 
-                refusal : (o : Option model.Refusal)
-                    → MatchOption o ((frame_refusal (state_of m.collected) end_frame ≡ None) × (d ≡ record m.collected { is_ended = true })) (λ x. (frame_refusal (state_of m.collected) end_frame ≡ Some x) × (d ≡ m.collected))
-                    → Adds ends_frame (refusal_reply number r o) old new p q → Given d (log_entries new)
-                refusal None e a = still_given d ends_frame (ending number outcomes.OutOfMemory) a (ap (λ v. v.given) e.1 ∙ before_same) refl
-                refusal (Some x) e a = still_given d ends_frame (refused r) a (ap (λ v. v.given) e.1 ∙ before_same) refl
+        -- a refused frame, which gives none
+        pub not_framed_given : (r : Refusal) (d : ContextView L) → CollectsAndEnds admits views (Err r) c d → MatchOption (refusal_seen r) ((new ≡ old) × (q ≡ p)) (λ x. Adds ends_frame (refused r) old new p q) → Given d (log_entries new)
+        not_framed_given r d m a = by (refusal_seen r) a
+          where
+            same : d.given ≡ c.given
+            same = ap (λ v. v.given) m.ends.1 ∙ ap (λ v. v.given) m.collects.same
+
+            by : (o : Option model.Refusal) → MatchOption o ((new ≡ old) × (q ≡ p)) (λ x. Adds ends_frame (refused r) old new p q) → Given d (log_entries new)
+            by None a = moved d h (log_entries new) (ap log_entries a.0 ∙ log_same) (same_given c d h g same)
+            by (Some x) a = still_given d ends_frame (refused r) a same refl
 
     -- a bundle is gathered
     pub gathered_given : (c d : ContextView L) (h : List LockEntry) → Given c h → (r : Recording) (seat : SeatView) → Gathers r seat c d → Given d h

@@ -24,10 +24,6 @@ use Rattle.res_lock.proofs.HistoryLaws.{after_snoc, book_snoc, end_snoc, legal_s
 
 -- ---- an entry more
 
--- what a context that runs has written, and how many frames are out
-abbrev pub RunsAs : {L : Type 0} → BookView → CallState → ContextView L → Type 0
-RunsAs b s d = d.is_ended ≡ false → (d.book ≡ b) × (d.out ≡ s.out)
-
 -- a context that runs on, where no end is told
 pub runs_on : {L : Type 0} (o : Option End) (c d : ContextView L) → c.is_ended ≡ false → d.is_ended ≡ false → EndedAs o c → EndedAs o d
 runs_on None c d runs still is = still
@@ -40,8 +36,8 @@ pub record Both {L : Type 0} (start : CallState) (book : BookView) (context : Co
   pub before_is : calls.before ≡ h
 
 module _ {L : Type 0} {book : BookView} (start : CallState) (c : ContextView L) (h : List LockEntry) (k : IsKept start book (record { context = c; history = h })) (old new : Log) (p q : ResPass) (same : log_entries old ≡ h) where
-  pub entry_kept : (d : ContextView L) (call : LockCall) (reply : Reply) → Adds call reply old new p q → IsReply (state_after start h) call reply → state_of d ≡ bared (after_reply (state_after start h) call reply) (state_of d)
-      → RunsAs (written_where (book_after book h) call reply) (after_reply (state_after start h) call reply) d → EndedAs (end_where (state_after start h) (end_in start h) reply) d → Both start book d call reply new p q h
+  pub entry_kept : (d : ContextView L) (call : LockCall) (reply : Reply) → Adds call reply old new p q → IsReply (state_after start h) call reply → state_of d ≡ bared (after_reply (state_after start h) call reply)
+      → d.book ≡ written_where (book_after book h) call reply → EndedAs (end_where (state_after start h) (end_in start h) reply) d → Both start book d call reply new p q h
   entry_kept d call reply a is state held told =
       let e : LockEntry = entry_of call reply p in
       let own : part_of (caller_of p) (log_entries old) ≡ part_of (caller_of p) (pass_view p).seen = a.on.1 (caller_of p) p.is_caller in
@@ -51,9 +47,8 @@ module _ {L : Type 0} {book : BookView} (start : CallState) (c : ContextView L) 
       record {
         kept = record {
           legal = subst (IsLegal start) (sym entries) legal;
-          same = state ∙ ap (λ x. bared x (state_of d)) (sym (ap (state_after start) entries ∙ after_snoc start h e));
-          written = λ runs. (held runs).0 ∙ sym (ap (book_after book) entries ∙ book_snoc book h e);
-          out = λ runs. (held runs).1 ∙ sym (ap (λ l. (state_after start l).out) entries ∙ ap (λ (x : CallState). x.out) (after_snoc start h e));
+          same = state ∙ ap bared (sym (ap (state_after start) entries ∙ after_snoc start h e));
+          written = held ∙ sym (ap (book_after book) entries ∙ book_snoc book h e);
           told = subst (λ (o : Option End). EndedAs o d) (sym (ap (end_in start) entries ∙ end_snoc start None h e)) told;
         };
         calls = record {
@@ -82,8 +77,8 @@ module _ {L : Type 0} {book : BookView} (start : CallState) (c : ContextView L) 
   refusal_is call = ap (λ (x : CallState). refusal_of x.resources call) k.same ∙ (bare_law (state_after start h).resources call).0
 
   -- the context stays as it was
-  stays_as : (d : ContextView L) → d ≡ c → RunsAs (book_after book h) (state_after start h) d
-  stays_as d is = subst (λ (u : ContextView L). RunsAs (book_after book h) (state_after start h) u) (sym is) (λ runs. (k.written runs, k.out runs))
+  stays_as : (d : ContextView L) → d ≡ c → d.book ≡ book_after book h
+  stays_as d is = ap (λ (u : ContextView L). u.book) is ∙ k.written
 
   -- no end is told by a call that changes no more than what was written
   still_told : (d : ContextView L) → c.is_ended ≡ false → d.is_ended ≡ c.is_ended → EndedAs (end_in start h) d
@@ -101,14 +96,11 @@ module _ {L : Type 0} {book : BookView} (start : CallState) (c : ContextView L) 
   told o x y e is = subst (λ (z : Option model.Refusal). IsToldOrRefused z x y) (sym e) is
 
   -- the state after an accepted call
-  done_state : (d : ContextView L) (call : ResourceCall) (handle : Option Handle) → Does call handle c d → state_of d ≡ bared (record (state_after start h) { resources = (effect (state_after start h).resources call).after }) (state_of d)
+  done_state : (d : ContextView L) (call : ResourceCall) (handle : Option Handle) → Does call handle c d → state_of d ≡ bared (record (state_after start h) { resources = (effect (state_after start h).resources call).after })
   done_state d call handle m =
       let s : CallState = state_after start h in
       let step : CallState → CallState = λ x. record x { resources = bare_of (effect x.resources call).after } in
-      m.state
-      ∙ (ap step k.same
-      ∙ (ap (λ r. record s { resources = r; out = c.out }) (bare_law s.resources call).1.after
-      ∙ ap (λ (n : ℕ). record s { resources = bare_of (effect s.resources call).after; out = n }) (sym (ap (λ (x : CallState). x.out) m.state))))
+      m.state ∙ (ap step k.same ∙ ap (λ r. record s { resources = r }) (bare_law s.resources call).1.after)
 
   made_is : (call : ResourceCall) (handle : Option Handle) (d : ContextView L) → Does call handle c d → (effect (state_after start h).resources call).made ≡ handle
   made_is call handle d m = sym (ap (λ (x : CallState). (effect x.resources call).made) k.same ∙ (bare_law (state_after start h).resources call).1.made) ∙ m.made_is
@@ -116,17 +108,17 @@ module _ {L : Type 0} {book : BookView} (start : CallState) (c : ContextView L) 
   accepted_is : (call : ResourceCall) (handle : Option Handle) (d : ContextView L) → c.is_ended ≡ false → (reply : Reply) → told_of handle ≡ reply → Does call handle c d → IsReply (state_after start h) (on_things call) reply
   accepted_is call handle d runs reply tells m = running runs (on_things call) reply (told _ _ _ (sym (refusal_is call) ∙ m.accepted) (sym (ap told_of (made_is call handle d m) ∙ tells)))
 
-  done_as : (d : ContextView L) (call : ResourceCall) (handle : Option Handle) → c.is_ended ≡ false → Does call handle c d → RunsAs (after_in call handle (book_after book h)) (state_after start h) d
-  done_as d call handle runs m = λ _. (m.book ∙ ap (after_in call handle) (k.written runs), ap (λ (x : CallState). x.out) m.state ∙ k.out runs)
+  done_as : (d : ContextView L) (call : ResourceCall) (handle : Option Handle) → Does call handle c d → d.book ≡ after_in call handle (book_after book h)
+  done_as d call handle m = m.book ∙ ap (after_in call handle) k.written
 
   pub made_kept : c.is_ended ≡ false → (call : LockCall) (handle : Handle) (d : ContextView L) → CreatesBy call (Ok handle) c d → Adds call (made handle) old new p q → Both start book d call (made handle) new p q h
-  made_kept runs (on_things call) handle d m a = entry_kept d (on_things call) (made handle) a (accepted_is call (Some handle) d runs (made handle) refl m) (done_state d call (Some handle) m) (done_as d call (Some handle) runs m)
+  made_kept runs (on_things call) handle d m a = entry_kept d (on_things call) (made handle) a (accepted_is call (Some handle) d runs (made handle) refl m) (done_state d call (Some handle) m) (done_as d call (Some handle) m)
       (still_told d runs (ap (λ (x : CallState). x.is_ended) m.state))
   made_kept runs ends_frame handle d m a = absurd m
   made_kept runs (begins room) handle d m a = absurd m
 
   pub done_kept : c.is_ended ≡ false → (call : LockCall) (u : Unit {0}) (d : ContextView L) → ChangesBy call (Ok u) c d → Adds call done old new p q → Both start book d call done new p q h
-  done_kept runs (on_things call) u d m a = entry_kept d (on_things call) done a (accepted_is call None d runs done refl m) (done_state d call None m) (done_as d call None runs m)
+  done_kept runs (on_things call) u d m a = entry_kept d (on_things call) done a (accepted_is call None d runs done refl m) (done_state d call None m) (done_as d call None m)
       (still_told d runs (ap (λ (x : CallState). x.is_ended) m.state))
   done_kept runs ends_frame u d m a = absurd m
   done_kept runs (begins room) u d m a = absurd m
@@ -151,7 +143,7 @@ module _ {L : Type 0} {book : BookView} (start : CallState) (c : ContextView L) 
       stays : IsKept start book (record { context = d; history = log_entries new })
       stays = subst (λ (v : LockView L). IsKept start book v) (λ j. record { context = sym is j; history = (sym same ∙ ap log_entries (sym a.0)) j }) k
   refused_by d is call r (Some x) legal a =
-      let b = entry_kept d call (refused r) a (legal x refl) (ap state_of is ∙ (k.same ∙ ap (λ (u : ContextView L). bared (state_after start h) (state_of u)) (sym is))) (stays_as d is)
+      let b = entry_kept d call (refused r) a (legal x refl) (ap state_of is ∙ k.same) (stays_as d is)
       (subst (λ (u : ContextView L). EndedAs (end_in start h) u) (sym is) k.told) in
       record { kept = b.kept; answer = b.calls }
 
@@ -175,9 +167,8 @@ module _ {L : Type 0} {book : BookView} (start : CallState) (c : ContextView L) 
 pub opening_kept : {L : Type 0} (start : CallState) (book : BookView) (c : ContextView L) (h : List LockEntry) → state_of c ≡ start → IsOpening start → c.book ≡ book → h ≡ [] → IsKept start book (record { context = c; history = h })
 opening_kept start book c h is opens has none = subst (λ (l : List LockEntry). IsKept start book (record { context = c; history = l })) (sym none) (record {
   legal = record { replies = tt; ordered = λ caller. refl };
-  same = is ∙ (ap (λ r. record start { resources = r }) bared_is ∙ ap (λ (n : ℕ). record start { resources = bare_of start.resources; out = n }) (sym (ap (λ (x : CallState). x.out) is)));
-  written = λ runs. has;
-  out = λ runs. ap (λ (x : CallState). x.out) is;
+  same = is ∙ ap (λ r. record start { resources = r }) bared_is;
+  written = has;
   told = ap (λ (x : CallState). x.is_ended) is ∙ opens.runs;
 })
   where

@@ -1,5 +1,5 @@
 -- How the calls through the lock are answered.
-use Rattle.std.specs.Prelude.{◌≡◌, ◌⊎◌, ℕ, ◌+◌, Bool, true, false, List, [], ◌∷◌, ◌++◌, Option, Some, None, Result, Ok, Err, MatchResult, MatchOption, ⊤}
+use Rattle.std.specs.Prelude.{◌≡◌, ℕ, ◌+◌, Bool, true, false, List, [], ◌∷◌, ◌++◌, Option, Some, None, Result, Ok, Err, MatchResult, MatchOption, ⊤}
 use Rattle.gfx_model.specs.Words.{Handle}
 use Rattle.gfx_model.specs.Recorder.{Room}
 use Rattle.gfx_model.specs.Resources as model
@@ -7,7 +7,6 @@ use Rattle.gfx_model.specs.Resources.{ResourceCall, refusal_of, effect}
 use Rattle.gfx_model.specs.FrameCalls.{CallState, begin_encoder, frame_effect}
 use Rattle.gfx_words.specs.declared.refusals.Refusal.{Refusal}
 use Rattle.gfx_words.specs.Seen.{refusal_seen}
-use Rattle.frame_record.specs.declared.frame.Outcome.TheVariants as outcomes
 use Rattle.hold_table.specs.Views.{SeatView, fresh}
 use Rattle.draw_encoder.specs.Calls.{EncoderView}
 use Rattle.resource_laws.specs.Bare.{bare_of}
@@ -126,28 +125,9 @@ reply_of true number back = given number
 reply_of false number None = given number
 reply_of false number (Some note) = ending number note.outcome
 
--- how a refused end of a frame is told: where there was no memory in the context, the frame is not given
-abbrev pub refusal_reply : ℕ → Refusal → Option model.Refusal → Reply
-refusal_reply number r None = ending number outcomes.OutOfMemory
-refusal_reply number r (Some x) = refused r
-
--- how the context's answer is told
-abbrev pub frame_reply : ℕ → Result FrameReport Refusal → Reply
-frame_reply number (Ok report) = reply_of report.given report.number report.back
-frame_reply number (Err r) = refusal_reply number r (refusal_seen r)
-
--- the end of a frame for which there was no memory: none for the entry, and nothing happened; or none in the context, which is ended
-abbrev pub IsOutOfMemory : CallState → (old new : ResPass) → Type 0
-IsOutOfMemory start old new = Stays old new ⊎ ((frame : ℕ) × Calls start ends_frame (ending frame outcomes.OutOfMemory) old new)
-
--- a refused end of a frame
-abbrev pub IsFrameRefused : CallState → LockRefusal → (old new : ResPass) → Type 0
-IsFrameRefused start (lock_refusals.Refused r) old new = MatchOption (refusal_seen r) (IsOutOfMemory start old new) (λ x. Calls start ends_frame (refused r) old new)
-IsFrameRefused start (lock_refusals.Ended frame) old new = Calls start ends_frame (ended frame) old new
-
 -- the end of a frame through the lock
 abbrev pub IsFramed : CallState → Result FrameReport LockRefusal → (old new : ResPass) → Type 0
-IsFramed start result old new = MatchResult result (λ report. Calls start ends_frame (reply_of report.given report.number report.back) old new) (λ r. IsFrameRefused start r old new)
+IsFramed start result old new = MatchResult result (λ report. Calls start ends_frame (reply_of report.given report.number report.back) old new) (λ r. IsRefusedBy start ends_frame r old new)
 
 -- an encoder that begins through the lock is the definition's after the history before; its seat is one of that frame, knows the places of the things
 -- that the history before has, and has drawn and asked nothing

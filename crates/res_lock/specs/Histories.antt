@@ -21,7 +21,7 @@ pub data LockCall : Type 0 where
   begins : Room → LockCall
 
 -- how a call was answered: a thing was made; nothing is told; the frame of a number was given; an encoder of a number begins; it was refused; the frame of
--- a number was not given, by the outcome of a frame that came back or for want of memory; or an earlier frame, of this number, was not given
+-- a number was not given, by the outcome of a frame that came back; or an earlier frame, of this number, was not given
 pub data Reply : Type 0 where
   made : Handle → Reply
   done : Reply

@@ -1,12 +1,11 @@
 -- What lies behind the lock.
-use Rattle.std.specs.Prelude.{ℕ, ◌≡◌, ◌⊎◌, true, false, ◌<◌, ◌+◌, List, [], ◌∷◌, ◌++◌, Option, Some, None, Ok, vec_len, vec_capacity}
+use Rattle.std.specs.Prelude.{ℕ, ◌≡◌, true, false, ◌<◌, ◌+◌, List, [], ◌∷◌, ◌++◌, Option, Some, None, Ok, vec_len, vec_capacity}
 use Rattle.atomic_table.specs.Seated.{TableId}
 use Rattle.gfx_model.specs.World.{Item}
 use Rattle.gfx_model.specs.FrameCalls.{CallState}
 use Rattle.resource_laws.specs.Bare.{bare_of}
 use Rattle.resource_book.specs.Written.{BookView}
 use Rattle.frame_record.specs.declared.frame.Outcome.{Outcome}
-use Rattle.frame_record.specs.declared.frame.Outcome.TheVariants as outcomes
 use Rattle.frame_record.specs.declared.frame.RenderedFrame.{RenderedFrame}
 use Rattle.gfx_context.specs.States.{ContextView, state_of}
 use Rattle.gfx_context.specs.Kept.{IsContext}
@@ -53,9 +52,9 @@ pub record IsOpening (s : CallState) : Type 0 where
   pub none_begun : s.encoders ≡ 0
   pub runs : s.is_ended ≡ false
 
--- a state of the calls without contents. How many frames are out is the context's to say, since a frame that is not given may have taken one back or not
-abbrev pub bared : CallState → CallState → CallState
-bared s context = record s { resources = bare_of s.resources; out = context.out }
+-- a state of the calls without contents
+abbrev pub bared : CallState → CallState
+bared s = record s { resources = bare_of s.resources }
 
 -- ---- how a context was ended
 
@@ -85,9 +84,9 @@ pub record CameWith (outcome : Outcome) (back : List RenderedFrame) : Type 0 whe
   pub last : back ≡ before ++ newest ∷ []
   pub same : newest.outcome ≡ outcome
 
--- the context ended so: a frame came back, the last one, with the outcome that was told; or memory was wanting, and none came back
+-- the context ended so: a frame came back, the last one, with the outcome that was told
 abbrev pub HasEnded : {L : Type 0} → End → ContextView L → Type 0
-HasEnded e v = (CameWith e.outcome v.back × (v.out + 1 ≡ e.out)) ⊎ ((e.outcome ≡ outcomes.OutOfMemory) × (v.out ≡ e.out))
+HasEnded e v = CameWith e.outcome v.back × (v.out + 1 ≡ e.out)
 
 -- the context runs where no end is told, and else it ended as it is told
 abbrev pub EndedAs : {L : Type 0} → Option End → ContextView L → Type 0
@@ -96,13 +95,12 @@ EndedAs (Some e) v = (v.is_ended ≡ true) × HasEnded e v
 
 -- ---- what is kept
 
--- the history is legal from its start, and the context's state is that after it: so it is ended exactly where the history has an ending, and it ended as that
--- tells. While it runs, what it has written in this frame is what the history's calls write, and as many frames are out as the definition says
+-- the history is legal from its start, and the context's state is that after it, with as many frames out: so it is ended exactly where the history has an
+-- ending, and it ended as that tells. What it has written in this frame is what the history's calls write
 pub record IsKept {L : Type 0} (start : CallState) (book : BookView) (v : LockView L) : Type 0 where
   pub legal : IsLegal start v.history
-  pub same : state_of v.context ≡ bared (state_after start v.history) (state_of v.context)
-  pub written : v.context.is_ended ≡ false → v.context.book ≡ book_after book v.history
-  pub out : v.context.is_ended ≡ false → v.context.out ≡ (state_after start v.history).out
+  pub same : state_of v.context ≡ bared (state_after start v.history)
+  pub written : v.context.book ≡ book_after book v.history
   pub told : EndedAs (end_in start v.history) v.context
 
 -- a report is one that a context can give: the context was in the state after all entries but the last, ended its frame with this report, and is in the

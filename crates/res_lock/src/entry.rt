@@ -122,8 +122,8 @@ pub enum ResReply {
     Begun { number: u8 },
     /// The call was refused. It is never for want of memory.
     Refused { refusal: Refusal },
-    /// The frame of this number was not given: the frame that came back had this outcome, or there was no memory. The context is
-    /// ended. The outcome is never that of a frame that was shown.
+    /// The frame of this number was not given: the frame that came back had this outcome, which is never that of a frame that was
+    /// shown. The context is ended.
     Ending { frame: u32, outcome: Outcome },
     /// The frame of this number was not given before.
     Ended { frame: u32 },

@@ -30,9 +30,8 @@ use std::sync::{Mutex, Wait};
 /// entry first, and touches the context only then. After the call the pass has seen the history up to it: it begins with what the
 /// pass had seen before, has no call of the pass between, and ends with the call.
 ///
-/// A call makes an entry, except where it answers want of memory. The end of a frame for which there was no memory in the context
-/// makes one as well, since the context is ended then. Want of memory is free: a call that the context would refuse, or that comes
-/// behind its end, may be answered so too, and then has no entry.
+/// A call makes an entry, except where it answers want of memory. Want of memory is free: a call that the context would refuse, or that
+/// comes behind its end, may be answered so too, and then has no entry.
 #[derive(Drop)]
 pub struct ResLock<'t, C: Naming, L: FrameLink + Drop, H: HistoryNaming> {
     pub(crate) alloc: Global,
@@ -94,9 +93,8 @@ impl<'t, C: Naming, L: FrameLink + Drop, H: HistoryNaming> ResLock<'t, C, L, H> 
     }
 
     /// Ends the lock. All other passes were joined into this one, the first, which so has seen the whole history. The context comes
-    /// back, in the state after the history. Where it is not ended, it has written just what the calls of the frame that is recorded
-    /// write, with the bytes, texels and names of the history. Of an ended context that is not said; the frame that came back last has
-    /// the outcome that the history tells, or it tells want of memory and none came back.
+    /// back, in the state after the history. It has written just what the calls of the frame that is recorded write, with the bytes,
+    /// texels and names of the history. Of an ended context the frame that came back last has the outcome that the history tells.
     ///
     /// What was given behind the named frames is a frame for each entry that tells one, in their order: of its number, with what the calls
     /// before the entry wrote, and with one recording of each encoder that was begun in it.
@@ -128,7 +126,7 @@ impl<'t, C: Naming, L: FrameLink + Drop, H: HistoryNaming> ResLock<'t, C, L, H> 
     ///
     /// `Ended` exactly where an earlier frame was not given; then `FramesSpent` exactly where the number is 1,073,741,823. A frame that
     /// is not given makes an entry that ends the context, with the outcome of `FrameReport.back`, which is that of the frame that came
-    /// back, or with want of memory where the context had none; then the answer is `OutOfMemory`.
+    /// back. After want of memory the history is as before, and the frame can be ended again.
     pub fn frame<R: Wait>(&self, rt: &R, pass: &mut ResPass) -> Result<FrameReport, LockRefusal>
         requires table { pass_table pass.old ≡ H.table }
         requires few { made_by pass.old < 4294967295 }

@@ -9,7 +9,7 @@ ghost use Rattle.res_lock.specs.Seen.{call_seen, reply_seen};
 ghost use Rattle.res_lock.specs.Seats.{log_table, pass_table, pass_view, pen_table, pen_log, made_by};
 ghost use Rattle.res_lock.specs.Locked.{IsOpening, IsKept, IsReport, table_of_log, log_entries};
 ghost use Rattle.res_lock.specs.Given.{HasGiven};
-ghost use Rattle.res_lock.specs.Called.{IsCreate, IsChange, IsSamePass, IsCreated, IsChanged, IsFramed, IsBegun, reply_of, frame_reply};
+ghost use Rattle.res_lock.specs.Called.{IsCreate, IsChange, IsSamePass, IsCreated, IsChanged, IsFramed, IsBegun, reply_of};
 
 use crate::entry::{LockRefusal, ResCall, ResReply};
 use crate::log::Log;
@@ -17,7 +17,7 @@ use crate::naming::HistoryNaming;
 use crate::table::{LogTable, Pen, ResPass};
 use crate::things::{change, create};
 use draw_encoder::{Bundle, Encoder, Naming};
-use frame_record::{FrameLink, Outcome};
+use frame_record::FrameLink;
 use gfx_context::{BackNote, Context, FrameReport};
 use gfx_words::{Handle, Refusal, Room};
 use std::alloc::Global;
@@ -145,7 +145,7 @@ impl<'t, C: Naming, L: FrameLink + Drop, H: HistoryNaming> LockState<'t, C, L, H
         }
     }
 
-    /// Ends the frame. It makes an entry also where there is no memory in the context.
+    /// Ends the frame.
     pub fn frame<R: Wait>(
         &mut self,
         rt: &R,
@@ -161,19 +161,20 @@ impl<'t, C: Naming, L: FrameLink + Drop, H: HistoryNaming> LockState<'t, C, L, H
         if self.log.reserve().is_err() {
             return Err(LockRefusal::Refused(Refusal::OutOfMemory));
         }
-        let frame = self.context.frame_number();
         if self.context.is_ended() {
+            let frame = self.context.frame_number();
             self.log
                 .append(table, pass, ResCall::Frame, ResReply::Ended { frame });
             return Err(LockRefusal::Ended { frame });
         }
         self.context.tell_facts();
-        let answer = self.context.frame(rt);
-        let reply = reply_to(frame, &answer);
-        self.log.append(table, pass, ResCall::Frame, reply);
-        match answer {
-            Ok(report) => Ok(report),
-            Err(refusal) => Err(LockRefusal::Refused(refusal)),
+        match self.context.frame(rt) {
+            Ok(report) => {
+                let reply = told(report.given, report.number, &report.back);
+                self.log.append(table, pass, ResCall::Frame, reply);
+                Ok(report)
+            }
+            Err(refusal) => Err(self.log.refuse(table, pass, ResCall::Frame, refusal)),
         }
     }
 
@@ -221,19 +222,6 @@ impl<'t, C: Naming, L: FrameLink + Drop, H: HistoryNaming> LockState<'t, C, L, H
 }
 
 // How the end of a frame is told.
-fn reply_to(number: u32, answer: &Result<FrameReport, Refusal>) -> ResReply
-    ensures { reply_seen result ≡ frame_reply number answer.now }
-{
-    match answer {
-        Ok(report) => told(report.given, report.number, &report.back),
-        Err(Refusal::OutOfMemory) => ResReply::Ending {
-            frame: number,
-            outcome: Outcome::OutOfMemory,
-        },
-        Err(refusal) => ResReply::Refused { refusal: *refusal },
-    }
-}
-
 fn told(given: bool, number: u32, back: &Option<BackNote>) -> ResReply
     ensures { reply_seen result ≡ reply_of given number back.now }
 {

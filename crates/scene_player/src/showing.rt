@@ -202,7 +202,7 @@ pub(crate) fn make<R: Threads + Wait + Sync, P: Sink + Send + Drop, N: Sink, G: 
     ensures sure { (P.sure result.pictures ≡ P.sure pictures) × (N.sure notes.new ≡ N.sure notes.old) }
     ensures no_fewer { (P.faults pictures ≤ P.faults result.pictures) × (N.faults notes.old ≤ N.faults notes.new) }
 {
-    let Ok(scene) = make_scene(alloc, count) else {
+    let Ok(scene) = make_scene(rt, alloc, count) else {
         return blank(alloc, Status::OutOfMemory, pictures);
     };
     generated_law();

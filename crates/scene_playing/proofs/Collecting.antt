@@ -1,10 +1,7 @@
 -- The bundles of a frame are gathered, one after another.
 use Rattle.std.proofs.Common.{◌≡◌, ℕ, ◌+◌, Bool, true, false, List, [], ◌∷◌, ◌++◌, length, Option, Some, None, Result, Ok, Err, MatchOption, sym, ap, ◌∙◌, subst, arith, append_assoc}
 use Rattle.gfx_model.specs.World.{Item}
-use Rattle.gfx_model.specs.Resources.{Refusal}
-use Rattle.gfx_model.specs.FrameCalls.{end_frame, frame_refusal}
 use Rattle.gfx_words.specs.declared.refusals.Refusal as words
-use Rattle.gfx_words.specs.Seen.{refusal_seen}
 use Rattle.hold_table.specs.Views.{SeatView, joined_with}
 use Rattle.draw_encoder.specs.declared.items.Recording.{Recording}
 use Rattle.gfx_context.specs.Gathered.{AreGathered, with_gathered}
@@ -65,12 +62,7 @@ none_off_given : {L : Type 0} (given : Bool) (mid new : ContextView L) → Gives
 none_off_given true mid new g none = ap (λ (s : SeatView). s.off) g.seat ∙ none
 none_off_given {L} false mid new g none = ap (λ (c : ContextView L). c.seat.off) g ∙ none
 
-none_off_refused : {L : Type 0} (r : Option Refusal) (mid new : ContextView L)
-    → MatchOption r ((frame_refusal (state_of mid) end_frame ≡ None) × (new ≡ record mid { is_ended = true })) (λ x. (frame_refusal (state_of mid) end_frame ≡ Some x) × (new ≡ mid)) → mid.seat.off ≡ [] → new.seat.off ≡ []
-none_off_refused {L} None mid new e none = ap (λ (c : ContextView L). c.seat.off) e.1 ∙ none
-none_off_refused {L} (Some x) mid new e none = ap (λ (c : ContextView L). c.seat.off) e.1 ∙ none
-
 -- no encoder is off after it
 pub none_off_ended : {L : Type 0} (result : Result FrameReport words.Refusal) (mid new : ContextView L) → IsEnd result mid new → mid.seat.off ≡ [] → new.seat.off ≡ []
 none_off_ended (Ok report) mid new e none = none_off_given report.given mid new e.gives none
-none_off_ended (Err r) mid new e none = none_off_refused (refusal_seen r) mid new e none
+none_off_ended {L} (Err r) mid new e none = ap (λ (c : ContextView L). c.seat.off) e.1 ∙ none
