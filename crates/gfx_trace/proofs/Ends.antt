@@ -1,15 +1,16 @@
 -- What each status says of what the source told, and what stands after a job from its parts.
 use Rattle.std.proofs.Common.{inl, inr, arith, ◌≤◌, ◌<◌, ◌≡◌, ◌⊎◌, ℕ, ◌+◌, Bool, true, false, ◌&&◌, if◌then◌else◌, nat_lt, List, ◌++◌, length, Option, Some, None, refl, sym, ap, subst, ◌∙◌, [], append-nil}
 use Rattle.std.proofs.lemmas.Bool.Decides.{nat_tests}
-use Rattle.std.proofs.lemmas.List.{length-append}
+use Rattle.std.proofs.lemmas.List.{length-append, take_all}
 use Rattle.std.proofs.lemmas.Option.{same_Some, none-some}
 use Rattle.io_edge.specs.Edge.{with_front, with_back, IsSpent}
 use Rattle.io_whole.specs.Whole.{longest, HasMoreThan}
 use Rattle.scene_model.specs.Scene.{Scene}
 use Rattle.scene_model.specs.Journal.{Journal}
 use Rattle.gfx_trace.specs.Asked.{Asked, scene_by, asked_of}
-use Rattle.gfx_trace.specs.Ended.{place_status, asked_status, status_of, text_of, IsPut, IsAnswered, EndsJob, Ends, IsGiven, EndsAs}
-use Rattle.io_whole.specs.Runs.{Reading, Putting, HasFailedToTake, IsUntouched, HasPutFront, HasTried}
+use Rattle.gfx_trace.specs.Ended.{place_status, asked_status, status_of, text_of, notes_of, IsPut, IsNoted, HasFailedToNote, HasStopped, IsStopped, IsAnswered, EndsJob, Ends, IsGiven, AreTaken, EndsAs}
+use Rattle.io_whole.specs.Runs.{Reading, Putting, HasFailedToTake, IsUntouched, HasPut, HasPutFront, HasTried}
+use Rattle.io_whole.proofs.Pieces.{with_back-nothing}
 use Rattle.gfx_trace.specs.Io.{IsRead}
 use Rattle.gfx_trace.specs.Refusals.{refusal_line, MayRefuse}
 use Rattle.gfx_trace.specs.declared.words.Job.{Job}
@@ -50,36 +51,100 @@ status_long job bytes source told h =
 
 -- ---- how a run ends
 
-job_ends_as : (st : TraceStatus) (job : Job) (source : Reading) (sink notes : Putting) (bytes : List ℕ) → EndsJob st job source sink notes → IsGiven (Some job) source bytes → (status_of (Some job) bytes ≡ status.Done → HasFailedToTake sink → ⊥) → EndsAs (status_of (Some job) bytes) st
+sink-taken : (job : Job) (sink notes : Putting) → AreTaken (Some job) sink notes → HasFailedToTake sink → ⊥
+sink-taken (jobs.Pixel p) sink notes t = t
+sink-taken (jobs.Steps frame) sink notes t = t.0
+
+notes-taken : (job : Job) (bytes : List ℕ) (sink notes : Putting) → AreTaken (Some job) sink notes → HasFailedToNote job bytes sink notes → ⊥
+notes-taken (jobs.Pixel p) bytes sink notes t h = h
+notes-taken (jobs.Steps frame) bytes sink notes t h = t.1 h.2
+
+job_ends_as : (st : TraceStatus) (job : Job) (source : Reading) (sink notes : Putting) (bytes : List ℕ) → EndsJob st job source sink notes → IsGiven (Some job) source bytes → (status_of (Some job) bytes ≡ status.Done → AreTaken (Some job) sink notes) → EndsAs (status_of (Some job) bytes) st
 job_ends_as status.Done job source sink notes bytes (b, r, h) given cut = inl (sym (status_told job bytes b status.Done source given.0 r h.0))
 job_ends_as status.Usage job source sink notes bytes (b, r, h) given cut = absurd h
 job_ends_as (status.Scene line cause) job source sink notes bytes (b, r, h) given cut = inl (sym (status_told job bytes b (status.Scene line cause) source given.0 r h.0))
 job_ends_as status.ReadFault job source sink notes bytes h given cut = absurd (given.1 h.0)
-job_ends_as status.PictureFault job source sink notes bytes (b, r, h) given cut = absurd (cut (status_told job bytes b status.Done source given.0 r h.0) h.2)
+job_ends_as status.PictureFault job source sink notes bytes (b, r, h) given cut = absurd (sink-taken job sink notes (cut (status_told job bytes b status.Done source given.0 r h.0)) h.2)
+job_ends_as status.NoteFault job source sink notes bytes (b, r, h) given cut = absurd (notes-taken job b sink notes (cut (status_told job bytes b status.Done source given.0 r h.0)) h.1)
 job_ends_as status.TooLong job source sink notes bytes h given cut = inl (sym (status_long job bytes source given.0 h.0))
 job_ends_as (status.Journal place) job source sink notes bytes (b, r, h) given cut = inl (sym (status_told job bytes b (status.Journal place) source given.0 r h.0))
 job_ends_as status.OutOfMemory job source sink notes bytes h given cut = inr refl
 job_ends_as status.NoFrame job source sink notes bytes (b, r, h) given cut = inl (sym (status_told job bytes b status.NoFrame source given.0 r h.0))
 job_ends_as status.NoPixel job source sink notes bytes (b, r, h) given cut = inl (sym (status_told job bytes b status.NoPixel source given.0 r h.0))
 
--- where the sink did not fail, or the definition refuses the run, it ends as the definition says, or for want of memory
-pub ends_as : (st : TraceStatus) (o : Option Job) (source : Reading) (sink notes : Putting) (bytes : List ℕ) → Ends st o source sink notes → IsGiven o source bytes → (status_of o bytes ≡ status.Done → HasFailedToTake sink → ⊥) → EndsAs (status_of o bytes) st
+-- where nothing failed to take what was put, or the definition refuses the run, it ends as the definition says, or for want of memory
+pub ends_as : (st : TraceStatus) (o : Option Job) (source : Reading) (sink notes : Putting) (bytes : List ℕ) → Ends st o source sink notes → IsGiven o source bytes → (status_of o bytes ≡ status.Done → AreTaken o sink notes) → EndsAs (status_of o bytes) st
 ends_as st None source sink notes bytes h given cut = inl h.0
 ends_as st (Some job) source sink notes bytes h given cut = job_ends_as st job source sink notes bytes h given cut
 
 -- ---- what stands after a job
 
-pub put_answered : (st : TraceStatus) (job : Job) (bytes text : List ℕ) (sink notes : Putting) → asked_status job (asked_of bytes) ≡ status.Done → text_of job bytes ≡ text → IsPut st text sink → IsUntouched notes → IsAnswered st job bytes sink notes
-put_answered status.Done job bytes text sink notes is same h quiet = (is, h ∙ ap (with_back sink.before) (sym same), quiet)
-put_answered status.Usage job bytes text sink notes is same h quiet = absurd h
-put_answered (status.Scene line cause) job bytes text sink notes is same h quiet = absurd h
-put_answered status.ReadFault job bytes text sink notes is same h quiet = absurd h
-put_answered status.PictureFault job bytes text sink notes is same h quiet = (is, subst (λ (t : List ℕ). HasPutFront t sink) (sym same) h.0, h.1, quiet)
-put_answered status.TooLong job bytes text sink notes is same h quiet = absurd h
-put_answered (status.Journal place) job bytes text sink notes is same h quiet = absurd h
-put_answered status.OutOfMemory job bytes text sink notes is same h quiet = (h, quiet)
-put_answered status.NoFrame job bytes text sink notes is same h quiet = absurd h
-put_answered status.NoPixel job bytes text sink notes is same h quiet = absurd h
+-- a pixel
+pub put_answered : (st : TraceStatus) (p : Place) (bytes text : List ℕ) (sink notes : Putting) → asked_status (jobs.Pixel p) (asked_of bytes) ≡ status.Done → text_of (jobs.Pixel p) bytes ≡ text → IsPut st text sink → IsUntouched notes
+    → IsAnswered st (jobs.Pixel p) bytes sink notes
+put_answered status.Done p bytes text sink notes is same h quiet = (is, h ∙ ap (with_back sink.before) (sym same), quiet)
+put_answered status.Usage p bytes text sink notes is same h quiet = absurd h
+put_answered (status.Scene line cause) p bytes text sink notes is same h quiet = absurd h
+put_answered status.ReadFault p bytes text sink notes is same h quiet = absurd h
+put_answered status.PictureFault p bytes text sink notes is same h quiet = (is, subst (λ (t : List ℕ). HasPutFront t sink) (sym same) h.0, h.1, quiet)
+put_answered status.NoteFault p bytes text sink notes is same h quiet = absurd h
+put_answered status.TooLong p bytes text sink notes is same h quiet = absurd h
+put_answered (status.Journal place) p bytes text sink notes is same h quiet = absurd h
+put_answered status.OutOfMemory p bytes text sink notes is same h quiet = (h, quiet)
+put_answered status.NoFrame p bytes text sink notes is same h quiet = absurd h
+put_answered status.NoPixel p bytes text sink notes is same h quiet = absurd h
+
+-- all is a front
+all_front : (text : List ℕ) (sink : Putting) → HasPut text sink → HasPutFront text sink
+all_front text sink h = (length text, h ∙ ap (with_back sink.before) (sym (take_all (length text) text (omega arith))))
+
+-- nothing is a front
+none_front : (text : List ℕ) (sink : Putting) → IsUntouched sink → HasPutFront text sink
+none_front text sink h = (0, h ∙ with_back-nothing sink.before)
+
+-- steps whose pictures were put, by how their lines were
+pub noted_answered : (st : TraceStatus) (frame : ℕ) (bytes text lines : List ℕ) (sink notes : Putting) → asked_status (jobs.Steps frame) (asked_of bytes) ≡ status.Done → text_of (jobs.Steps frame) bytes ≡ text → notes_of (jobs.Steps frame) bytes ≡ lines
+    → HasPut text sink → IsNoted st lines notes → IsAnswered st (jobs.Steps frame) bytes sink notes
+noted_answered st frame bytes text lines sink notes is text_is lines_are put noted = go st noted
+  where
+    whole : HasPut (text_of (jobs.Steps frame) bytes) sink
+    whole = put ∙ ap (with_back sink.before) (sym text_is)
+
+    go : (st : TraceStatus) → IsNoted st lines notes → IsAnswered st (jobs.Steps frame) bytes sink notes
+    go status.Done h = (is, whole, h ∙ ap (with_back notes.before) (sym lines_are))
+    go status.Usage h = absurd h
+    go (status.Scene line cause) h = absurd h
+    go status.ReadFault h = absurd h
+    go status.PictureFault h = absurd h
+    go status.NoteFault h = (is, whole, subst (λ (t : List ℕ). HasPutFront t notes) (sym lines_are) h.0, h.1)
+    go status.TooLong h = absurd h
+    go (status.Journal place) h = absurd h
+    go status.OutOfMemory h = (all_front (text_of (jobs.Steps frame) bytes) sink whole, h)
+    go status.NoFrame h = absurd h
+    go status.NoPixel h = absurd h
+
+-- steps whose pictures the sink did not take, or for which memory ran out
+pub cut_answered : (frame : ℕ) (bytes text : List ℕ) (sink notes : Putting) → asked_status (jobs.Steps frame) (asked_of bytes) ≡ status.Done → text_of (jobs.Steps frame) bytes ≡ text → HasPutFront text sink → HasFailedToTake sink → IsUntouched notes
+    → IsAnswered status.PictureFault (jobs.Steps frame) bytes sink notes
+cut_answered frame bytes text sink notes is same front failed quiet = (is, subst (λ (t : List ℕ). HasPutFront t sink) (sym same) front, failed, quiet)
+
+pub stopped_answered : (frame : ℕ) (bytes text : List ℕ) (sink notes : Putting) → text_of (jobs.Steps frame) bytes ≡ text → HasPutFront text sink → IsUntouched notes → IsAnswered status.OutOfMemory (jobs.Steps frame) bytes sink notes
+stopped_answered frame bytes text sink notes same front quiet = (subst (λ (t : List ℕ). HasPutFront t sink) (sym same) front, quiet)
+
+-- nothing was put where memory ran out
+none_stopped : (job : Job) (bytes : List ℕ) (sink : Putting) → IsUntouched sink → HasStopped job bytes sink
+none_stopped (jobs.Pixel p) bytes sink h = h
+none_stopped (jobs.Steps frame) bytes sink h = none_front (text_of (jobs.Steps frame) bytes) sink h
+
+pub memory_answered : (job : Job) (bytes : List ℕ) (sink notes : Putting) → IsUntouched sink → IsUntouched notes → IsAnswered status.OutOfMemory job bytes sink notes
+memory_answered job bytes sink notes u q = (none_stopped job bytes sink u, q)
+
+pub memory_ends : (job : Job) (source : Reading) (sink notes : Putting) → IsUntouched sink → IsUntouched notes → EndsJob status.OutOfMemory job source sink notes
+memory_ends job source sink notes u q = (go job, q)
+  where
+    go : (job : Job) → IsStopped job source sink
+    go (jobs.Pixel p) = u
+    go (jobs.Steps frame) = inl u
 
 -- the statuses with which a job over bytes is refused
 abbrev pub IsRefusal : TraceStatus → Type 0
@@ -95,6 +160,7 @@ refusal_is status.Usage job bytes sink notes r is u t = absurd r
 refusal_is (status.Scene line cause) job bytes sink notes r is u t = (is, u, t)
 refusal_is status.ReadFault job bytes sink notes r is u t = absurd r
 refusal_is status.PictureFault job bytes sink notes r is u t = absurd r
+refusal_is status.NoteFault job bytes sink notes r is u t = absurd r
 refusal_is status.TooLong job bytes sink notes r is u t = absurd r
 refusal_is (status.Journal place) job bytes sink notes r is u t = (is, u, t)
 refusal_is status.OutOfMemory job bytes sink notes r is u t = absurd r
@@ -105,7 +171,11 @@ pub refused_answered : (wanted st : TraceStatus) (job : Job) (bytes line : List 
     → IsAnswered st job bytes sink notes
 refused_answered wanted st job bytes line sink notes r is same u (inl (e, t)) =
     subst (λ (x : TraceStatus). IsAnswered x job bytes sink notes) (sym e) (refusal_is wanted job bytes sink notes r is u (subst (λ (l : List ℕ). HasTried l notes) (sym same) t))
-refused_answered wanted st job bytes line sink notes r is same u (inr (e, q)) = subst (λ (x : TraceStatus). IsAnswered x job bytes sink notes) (sym e) (u, q)
+refused_answered wanted st job bytes line sink notes r is same u (inr (e, q)) = subst (λ (x : TraceStatus). IsAnswered x job bytes sink notes) (sym e) (none_stopped job bytes sink u, q)
+
+stopped_ends : (job : Job) (bytes : List ℕ) (source : Reading) (sink : Putting) → IsRead bytes source → HasStopped job bytes sink → IsStopped job source sink
+stopped_ends (jobs.Pixel p) bytes source sink r h = h
+stopped_ends (jobs.Steps frame) bytes source sink r h = inr (bytes, r, h)
 
 pub answered_ends : (st : TraceStatus) (job : Job) (bytes : List ℕ) (source : Reading) (sink notes : Putting) → IsRead bytes source → IsAnswered st job bytes sink notes → EndsJob st job source sink notes
 answered_ends status.Done job bytes source sink notes r h = (bytes, r, h)
@@ -113,9 +183,10 @@ answered_ends status.Usage job bytes source sink notes r h = absurd h
 answered_ends (status.Scene line cause) job bytes source sink notes r h = (bytes, r, h)
 answered_ends status.ReadFault job bytes source sink notes r h = absurd h
 answered_ends status.PictureFault job bytes source sink notes r h = (bytes, r, h)
+answered_ends status.NoteFault job bytes source sink notes r h = (bytes, r, h)
 answered_ends status.TooLong job bytes source sink notes r h = absurd h
 answered_ends (status.Journal place) job bytes source sink notes r h = (bytes, r, h)
-answered_ends status.OutOfMemory job bytes source sink notes r h = h
+answered_ends status.OutOfMemory job bytes source sink notes r h = (stopped_ends job bytes source sink r h.0, h.1)
 answered_ends status.NoFrame job bytes source sink notes r h = (bytes, r, h)
 answered_ends status.NoPixel job bytes source sink notes r h = (bytes, r, h)
 
@@ -136,6 +207,23 @@ module _ (s : Scene) (p : Place) where
 
   pub is_there : nat_lt p.frame (length s.frames) ≡ true → is_inside ≡ true → place_status s (jobs.Pixel p) ≡ status.Done
   is_there e f = ap (λ b. by_tests b is_inside) e ∙ ap (by_tests true) f
+
+module _ (s : Scene) (frame : ℕ) where
+  abbrev by_frame : Bool → TraceStatus
+  by_frame has = if has then status.Done else status.NoFrame
+
+  pub no_steps : nat_lt frame (length s.frames) ≡ false → place_status s (jobs.Steps frame) ≡ status.NoFrame
+  no_steps e = ap by_frame e
+
+  pub are_there : nat_lt frame (length s.frames) ≡ true → place_status s (jobs.Steps frame) ≡ status.Done
+  are_there e = ap by_frame e
+
+  steps_frame : (b : Bool) → nat_lt frame (length s.frames) ≡ b → by_frame b ≡ status.Done → frame < length s.frames
+  steps_frame true is e = grind (arith, nat_tests)
+  steps_frame false is e = absurd (cc e)
+
+  pub steps_there : place_status s (jobs.Steps frame) ≡ status.Done → frame < length s.frames
+  steps_there e = steps_frame (nat_lt frame (length s.frames)) refl e
 
 first : (a b : Bool) → by_tests a b ≡ status.Done → a ≡ true
 first true b e = refl
@@ -174,3 +262,13 @@ pub pixel_is_there : (st : TraceStatus) (o : Option Job) (source : Reading) (sin
     → source.before ≡ Some bytes → asked_of bytes ≡ scene_by s j → IsThere s p
 pixel_is_there st o source sink notes bytes s j p h done words told asked =
     pixel_done p source sink notes bytes s j (subst (λ (i : Option Job). Ends status.Done i source sink notes) words (subst (λ (t : TraceStatus). Ends t o source sink notes) done h)) told asked
+
+steps_done : (frame : ℕ) (source : Reading) (sink notes : Putting) (bytes : List ℕ) (s : Scene) (j : Journal) → EndsJob status.Done (jobs.Steps frame) source sink notes → source.before ≡ Some bytes → asked_of bytes ≡ scene_by s j → frame < length s.frames
+steps_done frame source sink notes bytes s j (b, r, h) told asked =
+    steps_there s frame (ap (asked_status (jobs.Steps frame)) (sym asked ∙ ap asked_of (sym (read_told bytes b source told r))) ∙ h.0)
+
+-- a frame whose steps were put is there
+pub frame_is_there : (st : TraceStatus) (o : Option Job) (source : Reading) (sink notes : Putting) (bytes : List ℕ) (s : Scene) (j : Journal) (frame : ℕ) → Ends st o source sink notes → st ≡ status.Done → o ≡ Some (jobs.Steps frame)
+    → source.before ≡ Some bytes → asked_of bytes ≡ scene_by s j → frame < length s.frames
+frame_is_there st o source sink notes bytes s j frame h done words told asked =
+    steps_done frame source sink notes bytes s j (subst (λ (i : Option Job). Ends status.Done i source sink notes) words (subst (λ (t : TraceStatus). Ends t o source sink notes) done h)) told asked

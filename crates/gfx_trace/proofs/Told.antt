@@ -11,12 +11,16 @@ use Rattle.scene_model.specs.Journal.{Entry, Journal, fault_place, frame_content
 use Rattle.scene_model.specs.JournalText.{journal_of}
 use Rattle.scene_model.proofs.FaultLaws.{fault-law}
 use Rattle.scene_progress.specs.Laws.{PlanCountLaw}
-use Rattle.trace_laws.specs.Laws.{MomentLaw, ScenePixelLaw}
+use Rattle.std.specs.Prelude.{flat_map}
+use Rattle.scene_model.specs.Output.{picture_text}
+use Rattle.trace_laws.specs.Laws.{MomentLaw, ScenePixelLaw, StepLaw}
 use Rattle.trace_laws.specs.Moments.{Moment, moments_from}
 use Rattle.trace_lines.specs.Numbered.{lines_at}
 use Rattle.item_lines.specs.Items.{item_lines}
+use Rattle.trace_lines.specs.Steps.{step_lines}
+use Rattle.scene_tracing.specs.Steps.{doers_at, steps_at}
 use Rattle.gfx_trace.specs.Asked.{Asked, scene_by, no_scene, no_journal, unless_fault, by_journal, behind_front, alone_or_front, asked_of}
-use Rattle.gfx_trace.specs.Lines.{IsTold}
+use Rattle.gfx_trace.specs.Lines.{AreSeen, IsTold}
 
 -- ---- a journal has a list for each frame
 
@@ -89,4 +93,28 @@ is-told moment_law pixel_law many bytes s j k x y asked frame column row =
       shows = shows;
       lines = λ i. lines_at (item_lines bytes s k) x y (m.at i) (plan.at i) (entries.at i);
       color = pixel_law s j k x y m.it (frame_step m.it.world m.it.content).back.color column row m.at shows;
+    }
+
+-- the pictures of the steps of a frame that is there, and their lines
+pub are-seen : MomentLaw → StepLaw → PlanCountLaw → (bytes : List ℕ) (s : Scene) (j : Journal) (k : ℕ) → asked_of bytes ≡ scene_by s j → k < length s.frames → AreSeen bytes s j k
+are-seen moment_law step_law many bytes s j k asked frame =
+    let lists = alone many s j bytes (scene_of whole_language bytes) asked in
+    let planned : length (plans s) ≡ length s.frames = many s in
+    let plan = has (plans s) k (omega (arith, planned, frame)) in
+    let entries = has j k (omega (arith, lists, frame)) in
+    let m = begun (first_world s.width s.height) (plans s) j k (omega (arith, planned, frame)) (omega (arith, lists, frame)) in
+    let shows = moment_law s j k ∙ ap (option_map (λ (n : Moment). (frame_step n.world n.content).back.color)) m.at in
+    record {
+      moment = m.it;
+      plan = plan.it;
+      entries = entries.it;
+      picture = (frame_step m.it.world m.it.content).back.color;
+      begins = m.at;
+      planned = plan.at;
+      ordered = entries.at;
+      shows = shows;
+      pictures = ap steps_at m.at;
+      steps = step_law m.it.world m.it.content;
+      last = (step_law m.it.world m.it.content).last;
+      lines = λ i. step_lines (item_lines bytes s k) 1 (doers_at (plan.at i) (entries.at i));
     }

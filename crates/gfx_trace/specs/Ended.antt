@@ -4,7 +4,8 @@ use Rattle.io_whole.specs.Whole.{longest, HasMoreThan}
 use Rattle.scene_model.specs.Scene.{Scene}
 use Rattle.scene_model.specs.Output.{length_line}
 use Rattle.gfx_trace.specs.Asked.{Asked, scene_by, no_scene, no_journal, asked_of}
-use Rattle.gfx_trace.specs.Lines.{history_text}
+use Rattle.scene_tracing.specs.Steps.{scene_steps_text}
+use Rattle.gfx_trace.specs.Lines.{history_text, step_notes}
 use Rattle.io_whole.specs.Runs.{Reading, HasFailedToGive, IsUnread, Putting, HasFailedToTake, IsUntouched, HasPut, HasPutFront, HasTried}
 use Rattle.gfx_trace.specs.Io.{IsRead}
 use Rattle.gfx_trace.specs.Refusals.{usage_line, refusal_line}
@@ -15,10 +16,11 @@ use Rattle.gfx_trace.specs.declared.status.TraceStatus.TheVariants as status
 
 -- ---- the status of the words and the bytes, where nothing fails
 
--- the frame is there, and then its pixel
+-- the frame is there, and then the pixel, where one is asked for
 abbrev pub place_status : Scene → Job → TraceStatus
 place_status s (jobs.Pixel p) =
     if nat_lt p.frame (length s.frames) then (if nat_lt p.x s.width && nat_lt p.y s.height then status.Done else status.NoPixel) else status.NoFrame
+place_status s (jobs.Steps frame) = if nat_lt frame (length s.frames) then status.Done else status.NoFrame
 
 -- what was asked for is there
 abbrev pub asked_status : Job → Asked → TraceStatus
@@ -33,14 +35,24 @@ status_of (Some job) bytes = if nat_lt longest (length bytes) then status.TooLon
 
 -- ---- what is put
 
--- the lines of the pixel in the frame
+-- the lines of the pixel in the frame, or the pictures of the frame's steps
 abbrev pub asked_text : Job → List ℕ → Asked → List ℕ
 asked_text (jobs.Pixel p) bytes (scene_by s j) = history_text bytes s j p.frame p.x p.y
+asked_text (jobs.Steps frame) bytes (scene_by s j) = scene_steps_text s j frame
 asked_text job bytes _ = []
 
 -- the text that a job over an input puts
 abbrev pub text_of : Job → List ℕ → List ℕ
 text_of job bytes = asked_text job bytes (asked_of bytes)
+
+-- the lines of the frame's steps
+abbrev pub asked_notes : Job → List ℕ → Asked → List ℕ
+asked_notes (jobs.Steps frame) bytes (scene_by s j) = step_notes bytes s j frame
+asked_notes job bytes _ = []
+
+-- the text that a job over an input puts into the notes
+abbrev pub notes_of : Job → List ℕ → List ℕ
+notes_of job bytes = asked_notes job bytes (asked_of bytes)
 
 -- a text was put, a front of it, or nothing
 abbrev pub IsPut : TraceStatus → List ℕ → Putting → Type 0
@@ -49,24 +61,52 @@ IsPut status.PictureFault text sink = HasPutFront text sink × HasFailedToTake s
 IsPut status.OutOfMemory text sink = IsUntouched sink
 IsPut _ text sink = ⊥
 
+-- a text was put into the notes, a front of it, or nothing
+abbrev pub IsNoted : TraceStatus → List ℕ → Putting → Type 0
+IsNoted status.Done text notes = HasPut text notes
+IsNoted status.NoteFault text notes = HasPutFront text notes × HasFailedToTake notes
+IsNoted status.OutOfMemory text notes = IsUntouched notes
+IsNoted _ text notes = ⊥
+
 -- ---- what stands after each status
+
+-- what is in the notes after a job that was done: of a pixel nothing
+abbrev pub HasNoted : Job → (bytes : List ℕ) → (notes : Putting) → Type 0
+HasNoted (jobs.Pixel p) bytes notes = IsUntouched notes
+HasNoted (jobs.Steps frame) bytes notes = HasPut (notes_of (jobs.Steps frame) bytes) notes
+
+-- the notes failed, when all pictures of the steps were put; it is no end of a pixel
+abbrev pub HasFailedToNote : Job → (bytes : List ℕ) → (sink notes : Putting) → Type 0
+HasFailedToNote (jobs.Pixel p) bytes sink notes = ⊥
+HasFailedToNote (jobs.Steps frame) bytes sink notes = HasPut (text_of (jobs.Steps frame) bytes) sink × HasPutFront (notes_of (jobs.Steps frame) bytes) notes × HasFailedToTake notes
+
+-- what was put where memory ran out: of a pixel nothing, of steps a front of their pictures
+abbrev pub HasStopped : Job → (bytes : List ℕ) → (sink : Putting) → Type 0
+HasStopped (jobs.Pixel p) bytes sink = IsUntouched sink
+HasStopped (jobs.Steps frame) bytes sink = HasPutFront (text_of (jobs.Steps frame) bytes) sink
 
 -- what stands after a run over bytes
 abbrev pub IsAnswered : TraceStatus → Job → (bytes : List ℕ) → (sink notes : Putting) → Type 0
-IsAnswered status.Done job bytes sink notes = (asked_status job (asked_of bytes) ≡ status.Done) × HasPut (text_of job bytes) sink × IsUntouched notes
+IsAnswered status.Done job bytes sink notes = (asked_status job (asked_of bytes) ≡ status.Done) × HasPut (text_of job bytes) sink × HasNoted job bytes notes
 IsAnswered status.PictureFault job bytes sink notes =
     (asked_status job (asked_of bytes) ≡ status.Done) × HasPutFront (text_of job bytes) sink × HasFailedToTake sink × IsUntouched notes
-IsAnswered status.OutOfMemory job bytes sink notes = IsUntouched sink × IsUntouched notes
+IsAnswered status.NoteFault job bytes sink notes = (asked_status job (asked_of bytes) ≡ status.Done) × HasFailedToNote job bytes sink notes
+IsAnswered status.OutOfMemory job bytes sink notes = HasStopped job bytes sink × IsUntouched notes
 IsAnswered status.Usage job bytes sink notes = ⊥
 IsAnswered status.ReadFault job bytes sink notes = ⊥
 IsAnswered status.TooLong job bytes sink notes = ⊥
 IsAnswered st job bytes sink notes = (asked_status job (asked_of bytes) ≡ st) × IsUntouched sink × HasTried (refusal_line job st) notes
 
+-- the same where memory ran out, and it is not said how far the source was read
+abbrev pub IsStopped : Job → Reading → (sink : Putting) → Type 0
+IsStopped (jobs.Pixel p) source sink = IsUntouched sink
+IsStopped (jobs.Steps frame) source sink = IsUntouched sink ⊎ ((bytes : List ℕ) × IsRead bytes source × HasPutFront (text_of (jobs.Steps frame) bytes) sink)
+
 -- what stands after a run of a job
 abbrev pub EndsJob : TraceStatus → Job → Reading → (sink notes : Putting) → Type 0
 EndsJob status.ReadFault job source sink notes = HasFailedToGive source × IsUntouched sink × IsUntouched notes
 EndsJob status.TooLong job source sink notes = HasMoreThan longest source.before × IsUntouched sink × HasTried length_line notes
-EndsJob status.OutOfMemory job source sink notes = IsUntouched sink × IsUntouched notes
+EndsJob status.OutOfMemory job source sink notes = IsStopped job source sink × IsUntouched notes
 EndsJob st job source sink notes = (bytes : List ℕ) × IsRead bytes source × IsAnswered st job bytes sink notes
 
 -- the end of a run: words that are no job are refused, and nothing is read
@@ -80,6 +120,11 @@ Ends st (Some job) source sink notes = EndsJob st job source sink notes
 abbrev pub IsGiven : Option Job → Reading → List ℕ → Type 0
 IsGiven None source bytes = ⊤
 IsGiven (Some job) source bytes = (source.before ≡ Some bytes) × (HasFailedToGive source → ⊥)
+
+-- nothing failed of what a run puts into: the sink, and of steps the notes too
+abbrev pub AreTaken : Option Job → (sink notes : Putting) → Type 0
+AreTaken (Some (jobs.Steps frame)) sink notes = (HasFailedToTake sink → ⊥) × (HasFailedToTake notes → ⊥)
+AreTaken o sink notes = HasFailedToTake sink → ⊥
 
 -- the run ends so, or for want of memory
 abbrev pub EndsAs : (wanted st : TraceStatus) → Type 0

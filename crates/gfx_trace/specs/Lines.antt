@@ -1,14 +1,19 @@
--- The lines of a pixel's history in a scene's text, and what they tell.
-use Rattle.std.specs.Prelude.{◌≡◌, ℕ, ◌+◌, ◌*◌, List, Some, slice_get, slice_index_or}
+-- The lines of a pixel's history in a scene's text and those of a frame's steps, and what they tell.
+use Rattle.std.specs.Prelude.{◌≡◌, ℕ, ◌+◌, ◌*◌, List, Some, length, flat_map, slice_get, slice_index_or}
 use Rattle.gfx_model.specs.Raster.{Texels, no_color}
 use Rattle.scene_model.specs.Scene.{Scene}
 use Rattle.scene_model.specs.Fold.{FramePlan, plans}
 use Rattle.scene_model.specs.Journal.{Entry, Journal, pictures}
+use Rattle.scene_model.specs.Output.{picture_text}
+use Rattle.trace_laws.specs.Deeds.{deeds, step_pictures}
 use Rattle.trace_laws.specs.Doers.{doers}
 use Rattle.trace_laws.specs.History.{after_history, pixel_at, pixel_history}
+use Rattle.trace_laws.specs.Laws.{AreSteps}
 use Rattle.trace_laws.specs.Moments.{Moment, moments}
 use Rattle.trace_lines.specs.Numbered.{numbered_lines, scene_numbered_lines}
+use Rattle.trace_lines.specs.Steps.{step_lines}
 use Rattle.item_lines.specs.Items.{item_lines}
+use Rattle.scene_tracing.specs.Steps.{scene_doers, scene_steps_text}
 
 -- the lines of a pixel in a frame of a scene by a journal, each item with the number of the line of the scene's text that records it
 abbrev pub history_text : (bytes : List ℕ) → Scene → Journal → (frame x y : ℕ) → List ℕ
@@ -31,3 +36,23 @@ pub record IsTold (bytes : List ℕ) (s : Scene) (j : Journal) (frame x y : ℕ)
   pub color :
       (after_history (pixel_at moment.world.back x y) (pixel_history moment.world moment.content x y)).color
       ≡ slice_index_or picture.texels (y * s.width + x) no_color
+
+-- the lines of the steps of a frame of a scene by a journal, each item with the number of the line of the scene's text that records it
+abbrev pub step_notes : (bytes : List ℕ) → Scene → Journal → (frame : ℕ) → List ℕ
+step_notes bytes s j frame = step_lines (item_lines bytes s frame) 1 (scene_doers s j frame)
+
+-- the frame has its moment, its plan, its entries and its picture; the pictures are those before its first deed and after each, from the
+-- moment on, and the last of them is the frame's; the lines are of its deeds, one after another
+pub record AreSeen (bytes : List ℕ) (s : Scene) (j : Journal) (frame : ℕ) : Type 0 where
+  pub moment : Moment
+  pub plan : FramePlan
+  pub entries : List Entry
+  pub picture : Texels
+  pub begins : slice_get (moments s j) frame ≡ Some moment
+  pub planned : slice_get (plans s) frame ≡ Some plan
+  pub ordered : slice_get j frame ≡ Some entries
+  pub shows : slice_get (pictures s j) frame ≡ Some picture
+  pub pictures : scene_steps_text s j frame ≡ flat_map picture_text (step_pictures moment.world moment.content)
+  pub steps : AreSteps moment.world moment.content
+  pub last : slice_get (step_pictures moment.world moment.content) (length (deeds moment.content)) ≡ Some picture
+  pub lines : step_notes bytes s j frame ≡ step_lines (item_lines bytes s frame) 1 (doers plan entries)

@@ -10,6 +10,7 @@ status_number status.Usage = 1
 status_number (status.Scene line cause) = 2
 status_number status.ReadFault = 3
 status_number status.PictureFault = 4
+status_number status.NoteFault = 5
 status_number status.TooLong = 6
 status_number (status.Journal place) = 7
 status_number status.OutOfMemory = 8

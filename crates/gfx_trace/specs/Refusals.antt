@@ -9,7 +9,7 @@ use Rattle.io_whole.specs.Runs.{Putting, IsUntouched, HasTried}
 
 -- the words are refused
 abbrev pub usage_line : List ℕ
-usage_line = codes "usage: gfx_trace pixel F X Y\n"
+usage_line = codes "usage: gfx_trace pixel F X Y | steps F\n"
 
 -- the scene has no such frame
 abbrev pub frame_line : ℕ → List ℕ
@@ -22,10 +22,12 @@ pixel_line x y = codes "there is no pixel " ++ (decimal x ++ (codes " " ++ (deci
 -- the line of the frame that a job names
 abbrev pub job_frame_line : Job → List ℕ
 job_frame_line (jobs.Pixel p) = frame_line p.frame
+job_frame_line (jobs.Steps frame) = frame_line frame
 
--- the line of the pixel that a job names
+-- the line of the pixel that a job names, if it names one
 abbrev pub job_pixel_line : Job → List ℕ
 job_pixel_line (jobs.Pixel p) = pixel_line p.x p.y
+job_pixel_line (jobs.Steps frame) = []
 
 -- the line with which a job is refused
 abbrev pub refusal_line : Job → TraceStatus → List ℕ

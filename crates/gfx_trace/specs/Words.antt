@@ -13,7 +13,13 @@ abbrev pub pixel_job : (frame x y : Option ℕ) → Option Job
 pixel_job (Some frame) (Some x) (Some y) = Some (jobs.Pixel (record { frame = frame; x = x; y = y }))
 pixel_job _ _ _ = None
 
--- what the words ask for: `pixel F X Y`
+-- the steps of a frame, where the word is a number
+abbrev pub steps_job : (frame : Option ℕ) → Option Job
+steps_job (Some frame) = Some (jobs.Steps frame)
+steps_job None = None
+
+-- what the words ask for: `pixel F X Y` or `steps F`
 abbrev pub job_of : List (List ℕ) → Option Job
 job_of (word ∷ frame ∷ x ∷ y ∷ []) = if bytes_eq word (codes "pixel") then pixel_job (number_of frame) (number_of x) (number_of y) else None
+job_of (word ∷ frame ∷ []) = if bytes_eq word (codes "steps") then steps_job (number_of frame) else None
 job_of words = None

@@ -1,19 +1,21 @@
 //! `gfx_trace pixel F X Y`: what the pixel in column X and row Y of frame F of the scene on standard input goes through, a line for each
-//! clear and each fragment, to standard output. A journal may stand behind the scene; else its items come as on one thread.
+//! clear and each fragment, to standard output. `gfx_trace steps F`: the pictures of frame F before its first deed and after each, to standard
+//! output, and a line for each deed, to standard error. A journal may stand behind the scene; else its items come as on one thread.
 //!
 //! What is refused is told on standard error. The exit status is the number of the run's status: 0 done, 1 refused words, 2 no scene, 3 a
-//! read failed, 4 a write failed, 6 an input that is too long, 7 a journal that is refused, 8 memory ran out, 9 no such frame, 10 no such
-//! pixel.
+//! read failed, 4 a write to standard output failed, 5 one to standard error, 6 an input that is too long, 7 a journal that is refused, 8
+//! memory ran out, 9 no such frame, 10 no such pixel.
 #![tactic(auto)]
 
 mod asked;
 mod numbers;
 mod refusing;
 mod status;
+mod steps;
 mod tracing;
 mod words;
 
-pub use crate::status::TraceStatus;
+pub use crate::status::{TraceStatus, Traced};
 pub use crate::tracing::trace;
 pub use crate::words::{Job, Place};
 use io_edge::{StdSink, StdSource};
@@ -41,8 +43,8 @@ fn main(rt: HostRuntime) -> ExitCode {
         Err(_) => Vec::new(rt.alloc()),
     };
     let mut source = StdSource::new(rt.stdin());
-    let mut sink = StdSink::new(rt.stdout());
+    let sink = StdSink::new(rt.stdout());
     let mut notes = StdSink::new(rt.stderr());
-    let status = trace(&rt, rt.alloc(), &words, &mut source, &mut sink, &mut notes);
-    ExitCode::from(status.number())
+    let traced = trace(&rt, rt.alloc(), &words, &mut source, sink, &mut notes);
+    ExitCode::from(traced.status.number())
 }

@@ -5,7 +5,7 @@ ghost use Rattle.gfx_trace.specs.Numbers.{status_number};
 /// The end of a run.
 #[derive(Clone, Copy, Debug, PartialEq, Eq, Drop)]
 pub enum TraceStatus {
-    /// The history was written; the source was read to its end.
+    /// What was asked for was written; the source was read to its end.
     Done,
     /// The words are refused.
     Usage,
@@ -13,8 +13,10 @@ pub enum TraceStatus {
     Scene { line: u32, cause: u8 },
     /// A read failed.
     ReadFault,
-    /// A write of the history failed.
+    /// A write of the history, or of the pictures of the steps, failed.
     PictureFault,
+    /// A write of the lines of the steps failed.
+    NoteFault,
     /// The source gave more than 16,777,216 bytes.
     TooLong,
     /// The journal behind the scene is refused: how many entries stand before its first fault.
@@ -28,7 +30,7 @@ pub enum TraceStatus {
 }
 
 impl TraceStatus {
-    /// The number with which the program ends: 0 to 4, or 6 to 10.
+    /// The number with which the program ends: 0 to 10.
     pub fn number(self) -> u8
         ensures { result ≡ status_number self }
     {
@@ -38,6 +40,7 @@ impl TraceStatus {
             TraceStatus::Scene { .. } => 2,
             TraceStatus::ReadFault => 3,
             TraceStatus::PictureFault => 4,
+            TraceStatus::NoteFault => 5,
             TraceStatus::TooLong => 6,
             TraceStatus::Journal { .. } => 7,
             TraceStatus::OutOfMemory => 8,
@@ -45,4 +48,11 @@ impl TraceStatus {
             TraceStatus::NoPixel => 10,
         }
     }
+}
+
+/// How a run ended, and the sink that it put into.
+#[derive(Drop)]
+pub struct Traced<P: Drop> {
+    pub status: TraceStatus,
+    pub sink: P,
 }

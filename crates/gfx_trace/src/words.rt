@@ -1,6 +1,6 @@
 // The words of the command line.
 ghost use Rattle.std.specs.Prelude.{◌≡◌, map, string_bytes};
-ghost use Rattle.gfx_trace.specs.Words.{job_of, number_of, pixel_job};
+ghost use Rattle.gfx_trace.specs.Words.{job_of, number_of, pixel_job, steps_job};
 
 use crate::numbers::number_of;
 
@@ -17,6 +17,8 @@ pub struct Place {
 pub enum Job {
     /// What a pixel goes through in a frame.
     Pixel(Place),
+    /// The pictures of a frame's steps.
+    Steps { frame: u32 },
 }
 
 /// The history of a pixel, where the three words are numbers.
@@ -29,7 +31,15 @@ fn pixel_job(frame: &str, x: &str, y: &str) -> Option<Job>
     Some(Job::Pixel(Place { frame, x, y }))
 }
 
-/// What the words ask for: `pixel F X Y`.
+/// The steps of a frame, where the word is a number.
+fn steps_job(frame: &str) -> Option<Job>
+    ensures { result ≡ steps_job (number_of frame.now) }
+{
+    let frame = number_of(frame.as_bytes())?;
+    Some(Job::Steps { frame })
+}
+
+/// What the words ask for: `pixel F X Y` or `steps F`.
 pub(crate) fn job_of(words: &[String]) -> Option<Job>
     ensures { result ≡ job_of (map string_bytes words.now) }
 {
@@ -39,6 +49,12 @@ pub(crate) fn job_of(words: &[String]) -> Option<Job>
                 return None;
             }
             pixel_job(frame.as_str(), x.as_str(), y.as_str())
+        }
+        [word, frame] => {
+            if word.as_str() != "steps" {
+                return None;
+            }
+            steps_job(frame.as_str())
         }
         _ => None,
     }

@@ -17,10 +17,10 @@ fold-more : {A B : Type 0} (f : B → A → B) (z : B) (xs : List A) (x : A) →
 fold-more f z [] x = refl
 fold-more f z (y ∷ ys) x = fold-more f (f z y) ys x
 
-stores-more : (a : Asked) (frames : List Frame) (f : Frame) → stores_behind a (frames ++ f ∷ []) ≡ frame_by_index (stores_behind a frames) (frame_seen f)
-stores-more a frames f =
-    ap (fold frame_by_index (first_stores (first_world a.width a.height).back)) (map-append frame_seen frames (f ∷ []))
-    ∙ fold-more frame_by_index (first_stores (first_world a.width a.height).back) (map frame_seen frames) (frame_seen f)
+stores-more : (width height : ℕ) (frames : List Frame) (f : Frame) → stores_behind width height (frames ++ f ∷ []) ≡ frame_by_index (stores_behind width height frames) (frame_seen f)
+stores-more width height frames f =
+    ap (fold frame_by_index (first_stores (first_world width height).back)) (map-append frame_seen frames (f ∷ []))
+    ∙ fold-more frame_by_index (first_stores (first_world width height).back) (map frame_seen frames) (frame_seen f)
 
 -- ---- lists with one more
 
@@ -45,40 +45,57 @@ all-taken (x ∷ xs) ys = ap (λ zs. x ∷ zs) (all-taken xs ys)
 
 -- ---- frames with one more
 
+-- of what is said of a frame and of the stores in which it begins, the frame at a place has this
+abbrev pub HasAt : (Stores → Frame → Type 0) → (width height k : ℕ) → List Frame → Type 0
+HasAt Q width height k frames = (k < length frames) × ((frame : Frame) → slice_get frames k ≡ Some frame → Q (stores_behind width height (take k frames)) frame)
+
 -- a frame after the one asked for is left alone
-traced-more : (a : Asked) (frames : List Frame) (f : Frame) (t : History) → HasTraced a frames t → HasTraced a (frames ++ f ∷ []) t
-traced-more a frames f t h =
+pub at-more : (Q : Stores → Frame → Type 0) (width height k : ℕ) (frames : List Frame) (f : Frame) → HasAt Q width height k frames → HasAt Q width height k (frames ++ f ∷ [])
+at-more Q width height k frames f h =
     let within = h.0 in
     let many = length-append frames (f ∷ []) in (
       omega (arith, within, many),
-      λ g at. subst (λ (fs : List Frame). IsTracedIn (stores_behind a fs) a.spot.x a.spot.y g t) (sym (front-taken frames a.spot.frame f (omega (arith, within)))) (h.1 g (front-at frames a.spot.frame f g within at)),
+      λ g at. subst (λ (fs : List Frame). Q (stores_behind width height fs) g) (sym (front-taken frames k f (omega (arith, within)))) (h.1 g (front-at frames k f g within at)),
     )
 
--- the frame asked for is traced
-traced-now : (a : Asked) (left : ℕ) (h : Stores) (frames : List Frame) (f : Frame) (t : History) → left ≡ 0 → IsBefore a left h frames → IsTracedIn h a.spot.x a.spot.y f t → HasTraced a (frames ++ f ∷ []) t
-traced-now a left h frames f t none b traced =
+-- the frame asked for comes next
+pub at-now : (Q : Stores → Frame → Type 0) (width height k left : ℕ) (h : Stores) (frames : List Frame) (f : Frame) → left ≡ 0 → IsBefore width height k left h frames → Q h f → HasAt Q width height k (frames ++ f ∷ [])
+at-now Q width height k left h frames f none b said =
     let number = b.0 in
     let many = length-append frames (f ∷ []) in
-    let same : a.spot.frame ≡ length frames = omega (arith, number, none) in (
+    let same : k ≡ length frames = omega (arith, number, none) in (
       omega (arith, same, many),
       λ g at.
           let is : f ≡ g = last-at frames f g (ap (slice_get (frames ++ f ∷ [])) (sym same) ∙ at) in
-          let front : take a.spot.frame (frames ++ f ∷ []) ≡ frames = ap (λ n. take n (frames ++ f ∷ [])) same ∙ all-taken frames (f ∷ []) in
-          subst (λ (fs : List Frame). IsTracedIn (stores_behind a fs) a.spot.x a.spot.y g t) (sym front)
-          (subst (λ (e : Frame). IsTracedIn (stores_behind a frames) a.spot.x a.spot.y e t) is (subst (λ (k : Stores). IsTracedIn k a.spot.x a.spot.y f t) b.1 traced)),
+          let front : take k (frames ++ f ∷ []) ≡ frames = ap (λ n. take n (frames ++ f ∷ [])) same ∙ all-taken frames (f ∷ []) in
+          subst (λ (fs : List Frame). Q (stores_behind width height fs) g) (sym front)
+          (subst (λ (e : Frame). Q (stores_behind width height frames) e) is (subst (λ (k : Stores). Q k f) b.1 said)),
     )
+
+-- the same of a history
+traced-more : (a : Asked) (frames : List Frame) (f : Frame) (t : History) → HasTraced a frames t → HasTraced a (frames ++ f ∷ []) t
+traced-more a frames f t h = at-more (λ st g. IsTracedIn st a.spot.x a.spot.y g t) a.width a.height a.spot.frame frames f h
+
+traced-now : (a : Asked) (left : ℕ) (h : Stores) (frames : List Frame) (f : Frame) (t : History) → left ≡ 0 → IsBefore a.width a.height a.spot.frame left h frames → IsTracedIn h a.spot.x a.spot.y f t → HasTraced a (frames ++ f ∷ []) t
+traced-now a left h frames f t none b traced = at-now (λ st g. IsTracedIn st a.spot.x a.spot.y g t) a.width a.height a.spot.frame left h frames f none b traced
 
 some-same : (a b : History) → Some a ≡ Some b → a ≡ b
 some-same a b is = cc is
+
+-- one frame more was rendered
+pub before-more : (width height frame left later : ℕ) (h next : Stores) (frames : List Frame) (f : Frame) → left ≡ later + 1 → next ≡ frame_by_index h (frame_seen f)
+    → IsBefore width height frame left h frames → IsBefore width height frame later next (frames ++ f ∷ [])
+before-more width height frame left later h next frames f less rendered b =
+    let number = b.0 in
+    let many = length-append frames (f ∷ []) in
+    (omega (arith, number, many, less), rendered ∙ ap (λ (g : Stores). frame_by_index g (frame_seen f)) b.1 ∙ sym (stores-more width height frames f))
 
 -- a frame before the one asked for is rendered
 pub render-reaches : (a : Asked) (left later : ℕ) (h next : Stores) (o : Option History) (frames : List Frame) (f : Frame) → o ≡ None → left ≡ later + 1 → next ≡ frame_by_index h (frame_seen f)
     → Reaches a left h o frames → Reaches a later next o (frames ++ f ∷ [])
 render-reaches a left later h next o frames f none less rendered r =
-    let b = r.0 none in
-    let number = b.0 in
-    let many = length-append frames (f ∷ []) in (
-      (λ e. (omega (arith, number, many, less), rendered ∙ ap (λ (g : Stores). frame_by_index g (frame_seen f)) b.1 ∙ sym (stores-more a frames f))),
+    let b = r.0 none in (
+      (λ e. before-more a.width a.height a.spot.frame left later h next frames f less rendered b),
       (λ t some. absurd (cc (sym none ∙ some))),
     )
 

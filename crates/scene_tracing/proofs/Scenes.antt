@@ -39,14 +39,14 @@ use Rattle.scene_tracing.proofs.Journals.{lawful-whole, asked-journal}
 -- ---- the frame at a place
 
 -- the plan and the entries of a frame behind others
-record HasAt (ps : List FramePlan) (j : Journal) (k : ℕ) (f : Frame) : Type 0 where
-  plan : FramePlan
-  entries : List Entry
-  planned : slice_get ps k ≡ Some plan
-  ordered : slice_get j k ≡ Some entries
-  has : HasPlan plan entries f
+pub record HasAt (ps : List FramePlan) (j : Journal) (k : ℕ) (f : Frame) : Type 0 where
+  pub plan : FramePlan
+  pub entries : List Entry
+  pub planned : slice_get ps k ≡ Some plan
+  pub ordered : slice_get j k ≡ Some entries
+  pub has : HasPlan plan entries f
 
-has-at : (ps : List FramePlan) (j : Journal) (front : List Frame) (f : Frame) (rest : List Frame) → HavePlans ps j (front ++ f ∷ rest) → HasAt ps j (length front) f
+pub has-at : (ps : List FramePlan) (j : Journal) (front : List Frame) (f : Frame) (rest : List Frame) → HavePlans ps j (front ++ f ∷ rest) → HasAt ps j (length front) f
 has-at [] j [] f rest h = absurd h
 has-at (p ∷ ps) [] [] f rest h = absurd h
 has-at (p ∷ ps) (e ∷ j) [] f rest h = record { plan = p; entries = e; planned = refl; ordered = refl; has = h.0 }
@@ -68,13 +68,13 @@ module _ (front : List Frame) (f : Frame) (rest : List Frame) (fs : List FrameDa
   parts : map frame_seen front ++ frame_seen f ∷ map frame_seen rest ≡ fs
   parts = sym (map-append frame_seen front (f ∷ rest)) ∙ seen
 
-  seen-at : slice_get fs (length front) ≡ Some (frame_seen f)
+  pub seen-at : slice_get fs (length front) ≡ Some (frame_seen f)
   seen-at =
       ap (λ (gs : List FrameData). slice_get gs (length front)) (sym parts)
       ∙ ap (slice_get (map frame_seen front ++ frame_seen f ∷ map frame_seen rest)) (sym (length-map front frame_seen))
       ∙ at-length (map frame_seen front) (frame_seen f) (map frame_seen rest)
 
-  seen-before : take (length front) fs ≡ map frame_seen front
+  pub seen-before : take (length front) fs ≡ map frame_seen front
   seen-before =
       ap (λ (gs : List FrameData). take (length front) gs) (sym parts)
       ∙ ap (λ n. take n (map frame_seen front ++ frame_seen f ∷ map frame_seen rest)) (sym (length-map front frame_seen))
@@ -82,17 +82,17 @@ module _ (front : List Frame) (f : Frame) (rest : List Frame) (fs : List FrameDa
 
 -- ---- the moment of a frame
 
-abbrev moment_of : World → FramePlan → List Entry → Moment
+abbrev pub moment_of : World → FramePlan → List Entry → Moment
 moment_of w p entries = record { world = w; content = frame_content p entries }
 
-record HasMoment (w : World) (ps : List FramePlan) (j : Journal) (k : ℕ) (p : FramePlan) (entries : List Entry) : Type 0 where
-  world : World
-  begins : slice_get (moments_from w ps j) k ≡ Some (moment_of world p entries)
+pub record HasMoment (w : World) (ps : List FramePlan) (j : Journal) (k : ℕ) (p : FramePlan) (entries : List Entry) : Type 0 where
+  pub world : World
+  pub begins : slice_get (moments_from w ps j) k ≡ Some (moment_of world p entries)
 
 some-same : {A : Type 0} (a b : A) → Some a ≡ Some b → a ≡ b
 some-same a b is = cc is
 
-has-moment : (w : World) (ps : List FramePlan) (j : Journal) (k : ℕ) (p : FramePlan) (entries : List Entry) → slice_get ps k ≡ Some p → slice_get j k ≡ Some entries → HasMoment w ps j k p entries
+pub has-moment : (w : World) (ps : List FramePlan) (j : Journal) (k : ℕ) (p : FramePlan) (entries : List Entry) → slice_get ps k ≡ Some p → slice_get j k ≡ Some entries → HasMoment w ps j k p entries
 has-moment w [] j k p entries a b = absurd (cc a)
 has-moment w (q ∷ ps) [] k p entries a b = absurd (cc b)
 has-moment w (q ∷ ps) (es ∷ j) zero p entries a b =
@@ -137,7 +137,7 @@ history-of traced_law doers_law s j wanted given notes is_whole a t colors ended
     let k : ℕ = a.spot.frame in
     let n = cut-at given k h.0 in
     let front : List Frame = take k given in
-    let stores : stores_behind a front ≡ fold frame_by_index (first_stores (first_world s.width s.height).back) (map frame_seen front) =
+    let stores : stores_behind a.width a.height front ≡ fold frame_by_index (first_stores (first_world s.width s.height).back) (map frame_seen front) =
     λ i. fold frame_by_index (first_stores (first_world (wide i) (high i)).back) (map frame_seen front) in
     let found : IsHistory s j (length front) a.spot.x a.spot.y t =
     history-at traced_law doers_law s j given a.spot.x a.spot.y t front n.frame (drop (suc k) given) colors (subst (λ (fs : List Frame). HavePlans (plans s) j fs) n.are ended.gathered)

@@ -1,3 +1,5 @@
 pub mod Asked
 pub mod Histories
 pub mod Tracing
+pub mod Steps
+pub mod Stepping

@@ -16,8 +16,8 @@ use Rattle.scene_tracing.specs.declared.history.History.{History}
 use Rattle.scene_tracing.specs.declared.tracer.Tracer.{Tracer}
 
 -- what frames leave that are rendered one after another on empty stores with a back buffer of these sides
-abbrev pub stores_behind : Asked → List Frame → Stores
-stores_behind a frames = fold frame_by_index (first_stores (first_world a.width a.height).back) (map frame_seen frames)
+abbrev pub stores_behind : (width height : ℕ) → List Frame → Stores
+stores_behind width height frames = fold frame_by_index (first_stores (first_world width height).back) (map frame_seen frames)
 
 -- the history of a pixel of a frame that begins in stores, and whose its deeds are
 abbrev pub IsTracedIn : Stores → (x y : ℕ) → Frame → History → Type 0
@@ -30,15 +30,15 @@ IsTracedIn h x y frame t =
 abbrev pub HasTraced : Asked → List Frame → History → Type 0
 HasTraced a frames t =
     (a.spot.frame < length frames)
-    × ((frame : Frame) → slice_get frames a.spot.frame ≡ Some frame → IsTracedIn (stores_behind a (take a.spot.frame frames)) a.spot.x a.spot.y frame t)
+    × ((frame : Frame) → slice_get frames a.spot.frame ≡ Some frame → IsTracedIn (stores_behind a.width a.height (take a.spot.frame frames)) a.spot.x a.spot.y frame t)
 
 -- the frame asked for comes after so many more, and these are rendered
-abbrev pub IsBefore : Asked → (left : ℕ) → Stores → List Frame → Type 0
-IsBefore a left h frames = (length frames + left ≡ a.spot.frame) × (h ≡ stores_behind a frames)
+abbrev pub IsBefore : (width height frame left : ℕ) → Stores → List Frame → Type 0
+IsBefore width height frame left h frames = (length frames + left ≡ frame) × (h ≡ stores_behind width height frames)
 
 -- the frame asked for is traced, or it was not given
 abbrev pub Reaches : Asked → (left : ℕ) → Stores → Option History → List Frame → Type 0
-Reaches a left h o frames = (o ≡ None → IsBefore a left h frames) × ((t : History) → o ≡ Some t → HasTraced a frames t)
+Reaches a left h o frames = (o ≡ None → IsBefore a.width a.height a.spot.frame left h frames) × ((t : History) → o ≡ Some t → HasTraced a frames t)
 
 -- a tracer that was given these frames, where nothing was wanting
 abbrev pub Traces : Tracer → List Frame → Type 0

@@ -1,4 +1,4 @@
-// What is asked of a tracer.
+// What is asked of a play.
 
 use crate::history::Spot;
 
@@ -8,4 +8,12 @@ pub struct Asked {
     pub width: u16,
     pub height: u16,
     pub spot: Spot,
+}
+
+/// The steps of a frame, of pictures with these sides.
+#[derive(Clone, Copy, Drop)]
+pub struct AskedFrame {
+    pub width: u16,
+    pub height: u16,
+    pub frame: u32,
 }

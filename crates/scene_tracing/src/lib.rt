@@ -1,4 +1,5 @@
-//! What a pixel goes through in a frame of a scene: the frames before it are rendered, and it is traced.
+//! What a pixel goes through in a frame of a scene, and the frame's steps: the frames before it are rendered, and it is done one deed after
+//! another.
 #![tactic(auto)]
 
 mod asked;
@@ -6,10 +7,19 @@ mod history;
 mod lines;
 mod link;
 mod pixel;
+mod scene_steps;
+mod stepped;
+mod stepper;
+mod stepping_link;
+mod steps;
 mod text;
 mod tracer;
 
+pub use frame_steps::StepFault;
 pub use history::{History, Spot};
 pub use lines::history_lines;
 pub use pixel::trace_pixel;
+pub use scene_steps::{put_scene_steps, scene_step_lines};
+pub use stepped::{Stepped, StepsEnd};
+pub use steps::step_lines;
 pub use text::pixel_lines;

@@ -35,7 +35,7 @@ fn item_number(numbers: &[Vec<u32>], encoder: u8, ordinal: u32) -> Option<u32>
 }
 
 /// The number of the line that records a deed's item.
-fn number_of(numbers: &[Vec<u32>], doer: Option<Doer>) -> Option<u32>
+pub(crate) fn number_of(numbers: &[Vec<u32>], doer: Option<Doer>) -> Option<u32>
     ensures { result ≡ line_of (numbers_told numbers.now) (option_map doer_seen doer) }
 {
     match doer {

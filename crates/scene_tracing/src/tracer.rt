@@ -27,7 +27,7 @@ pub(crate) struct Tracer {
 }
 
 /// Renders a frame. Answers the frame, and whether it was rendered.
-fn render_one(renderer: &mut Renderer<SureSink>, frame: Frame) -> (Frame, bool)
+pub(crate) fn render_one(renderer: &mut Renderer<SureSink>, frame: Frame) -> (Frame, bool)
     ensures frame { result.0 ≡ frame }
     ensures stores { result.1 ≡ true → stores_seen renderer.new.canvas.stores ≡ frame_by_index (stores_seen renderer.old.canvas.stores) (frame_seen frame) }
 {

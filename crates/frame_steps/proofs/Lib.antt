@@ -1,0 +1,2 @@
+pub mod Dones
+pub mod Putting
