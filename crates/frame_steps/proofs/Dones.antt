@@ -132,22 +132,21 @@ module _ (rs : List Recorded) where
     views-done : (p : ℕ → Bool) (ns : List ℕ) → AreBelow (view_count vs) ns
         → map (deed_by vs rs) (flat_map (doers_in_view rs (done_entries vs rs journal)) (filter p ns)) ≡ map Some (flat_map (deeds_in_view vs all_items ordered_items) (filter p ns))
     views-done p [] below = refl
-    views-done p (v ∷ ns) below = go (p v)
+    views-done p (v ∷ ns) below = go (p v) (views-done p ns (λ i lt. below (suc i) (omega (arith, lt))))
       where
         kept : List ℕ
         kept = filter p ns
 
-        go : (b : Bool)
+        go : (b : Bool) → map (deed_by vs rs) (flat_map (doers_in_view rs (done_entries vs rs journal)) kept) ≡ map Some (flat_map (deeds_in_view vs all_items ordered_items) kept)
             → map (deed_by vs rs) (flat_map (doers_in_view rs (done_entries vs rs journal)) (cond b (v ∷ kept) kept)) ≡ map Some (flat_map (deeds_in_view vs all_items ordered_items) (cond b (v ∷ kept) kept))
-        go true =
+        go true later =
             let own : List Deed = deeds_in_view vs all_items ordered_items v in
             let rest : List Deed = flat_map (deeds_in_view vs all_items ordered_items) kept in
-            let later = views-done p ns (λ i lt. below (suc i) (omega (arith, lt))) in
             map-more (deed_by vs rs) (doers_in_view rs (done_entries vs rs journal) v) (flat_map (doers_in_view rs (done_entries vs rs journal)) kept)
             ∙ ap (λ (ds : List (Option Deed)). ds ++ map (deed_by vs rs) (flat_map (doers_in_view rs (done_entries vs rs journal)) kept)) (view-done v (lt-ltb v (view_count vs) (below 0 (omega arith))))
             ∙ ap (λ (ds : List (Option Deed)). map Some own ++ ds) later
             ∙ sym (map-more Some own rest)
-        go false = views-done p ns (λ i lt. below (suc i) (omega (arith, lt)))
+        go false later = later
 
 pub done-law : DoneLaw
 done-law f table = views-done (recordings_of f) f.views (journal_of f) (λ v. list_any (is_of_view v) (items_in (recordings_of f) (journal_of f))) (view_order f.views) table.below

@@ -1,16 +1,18 @@
 -- What each status says of what the source told, and what stands after a job from its parts.
 use Rattle.std.proofs.Common.{inl, inr, arith, ◌≤◌, ◌<◌, ◌≡◌, ◌⊎◌, ℕ, ◌+◌, Bool, true, false, ◌&&◌, if◌then◌else◌, nat_lt, List, ◌++◌, length, Option, Some, None, refl, sym, ap, subst, ◌∙◌, [], append-nil}
 use Rattle.std.proofs.lemmas.Bool.Decides.{nat_tests}
-use Rattle.std.proofs.lemmas.List.{length-append, take_all}
+use Rattle.std.proofs.lemmas.List.{length-append}
 use Rattle.std.proofs.lemmas.Option.{same_Some, none-some}
 use Rattle.io_edge.specs.Edge.{with_front, with_back, IsSpent}
 use Rattle.io_whole.specs.Whole.{longest, HasMoreThan}
 use Rattle.scene_model.specs.Scene.{Scene}
 use Rattle.scene_model.specs.Journal.{Journal}
 use Rattle.gfx_trace.specs.Asked.{Asked, scene_by, asked_of}
-use Rattle.gfx_trace.specs.Ended.{place_status, asked_status, status_of, text_of, notes_of, IsPut, IsNoted, HasFailedToNote, HasStopped, IsStopped, IsAnswered, EndsJob, Ends, IsGiven, AreTaken, EndsAs}
+use Rattle.gfx_trace.specs.Ended.{place_status, asked_status, status_of, text_of, notes_of, IsPut, IsNoted, AreEnded, HasFailedToNote, HasStopped, IsStopped, IsAnswered, EndsJob, Ends, IsGiven, AreTaken, EndsAs}
 use Rattle.io_whole.specs.Runs.{Reading, Putting, HasFailedToTake, IsUntouched, HasPut, HasPutFront, HasTried}
 use Rattle.io_whole.proofs.Pieces.{with_back-nothing}
+use Rattle.scene_tracing.specs.Stepping.{Told, HasPutText}
+use Rattle.scene_tracing.specs.declared.stepped.StepsEnd.{StepsEnd}
 use Rattle.gfx_trace.specs.Io.{IsRead}
 use Rattle.gfx_trace.specs.Refusals.{refusal_line, MayRefuse}
 use Rattle.gfx_trace.specs.declared.words.Job.{Job}
@@ -94,42 +96,48 @@ put_answered status.OutOfMemory p bytes text sink notes is same h quiet = (h, qu
 put_answered status.NoFrame p bytes text sink notes is same h quiet = absurd h
 put_answered status.NoPixel p bytes text sink notes is same h quiet = absurd h
 
--- all is a front
-all_front : (text : List ℕ) (sink : Putting) → HasPut text sink → HasPutFront text sink
-all_front text sink h = (length text, h ∙ ap (with_back sink.before) (sym (take_all (length text) text (omega arith))))
+-- the lines of steps whose pictures were put
+pub noted_ended : (st : TraceStatus) (end : StepsEnd) (lines : List ℕ) (notes : Putting) → end.fault ≡ None → IsNoted st lines notes → AreEnded st end lines notes
+noted_ended status.Done end lines notes none h = (none, h)
+noted_ended status.Usage end lines notes none h = absurd h
+noted_ended (status.Scene line cause) end lines notes none h = absurd h
+noted_ended status.ReadFault end lines notes none h = absurd h
+noted_ended status.PictureFault end lines notes none h = absurd h
+noted_ended status.NoteFault end lines notes none h = (none, h.0, h.1)
+noted_ended status.TooLong end lines notes none h = absurd h
+noted_ended (status.Journal place) end lines notes none h = absurd h
+noted_ended status.OutOfMemory end lines notes none h = h
+noted_ended status.NoFrame end lines notes none h = absurd h
+noted_ended status.NoPixel end lines notes none h = absurd h
+
+-- steps, by how they ended
+module _ (frame : ℕ) (bytes text lines : List ℕ) (old : Told) (end : StepsEnd) (new : Told) (notes : Putting) (is : asked_status (jobs.Steps frame) (asked_of bytes) ≡ status.Done)
+    (text_is : text_of (jobs.Steps frame) bytes ≡ text) (lines_are : end.fault ≡ None → notes_of (jobs.Steps frame) bytes ≡ lines) (put : HasPutText text old end new) where
+  abbrev sink : Putting
+  sink = record { before = old.held; after = new.held; faults_before = old.faults; faults_after = new.faults }
+
+  whole : end.fault ≡ None → HasPut (text_of (jobs.Steps frame) bytes) sink
+  whole none = put.whole none ∙ ap (with_back old.held) (sym text_is)
+
+  front : HasPutFront (text_of (jobs.Steps frame) bytes) sink
+  front = subst (λ (t : List ℕ). HasPutFront t sink) (sym text_is) put.front
+
+  pub steps_answered : (st : TraceStatus) → AreEnded st end lines notes → IsAnswered st (jobs.Steps frame) bytes sink notes
+  steps_answered status.Done h = (is, whole h.0, h.1 ∙ ap (with_back notes.before) (sym (lines_are h.0)))
+  steps_answered status.Usage h = absurd h
+  steps_answered (status.Scene line cause) h = absurd h
+  steps_answered status.ReadFault h = absurd h
+  steps_answered status.PictureFault h = (is, front, put.fault h.0, h.1)
+  steps_answered status.NoteFault h = (is, whole h.0, subst (λ (t : List ℕ). HasPutFront t notes) (sym (lines_are h.0)) h.1, h.2)
+  steps_answered status.TooLong h = absurd h
+  steps_answered (status.Journal place) h = absurd h
+  steps_answered status.OutOfMemory h = (front, h)
+  steps_answered status.NoFrame h = absurd h
+  steps_answered status.NoPixel h = absurd h
 
 -- nothing is a front
 none_front : (text : List ℕ) (sink : Putting) → IsUntouched sink → HasPutFront text sink
 none_front text sink h = (0, h ∙ with_back-nothing sink.before)
-
--- steps whose pictures were put, by how their lines were
-pub noted_answered : (st : TraceStatus) (frame : ℕ) (bytes text lines : List ℕ) (sink notes : Putting) → asked_status (jobs.Steps frame) (asked_of bytes) ≡ status.Done → text_of (jobs.Steps frame) bytes ≡ text → notes_of (jobs.Steps frame) bytes ≡ lines
-    → HasPut text sink → IsNoted st lines notes → IsAnswered st (jobs.Steps frame) bytes sink notes
-noted_answered st frame bytes text lines sink notes is text_is lines_are put noted = go st noted
-  where
-    whole : HasPut (text_of (jobs.Steps frame) bytes) sink
-    whole = put ∙ ap (with_back sink.before) (sym text_is)
-
-    go : (st : TraceStatus) → IsNoted st lines notes → IsAnswered st (jobs.Steps frame) bytes sink notes
-    go status.Done h = (is, whole, h ∙ ap (with_back notes.before) (sym lines_are))
-    go status.Usage h = absurd h
-    go (status.Scene line cause) h = absurd h
-    go status.ReadFault h = absurd h
-    go status.PictureFault h = absurd h
-    go status.NoteFault h = (is, whole, subst (λ (t : List ℕ). HasPutFront t notes) (sym lines_are) h.0, h.1)
-    go status.TooLong h = absurd h
-    go (status.Journal place) h = absurd h
-    go status.OutOfMemory h = (all_front (text_of (jobs.Steps frame) bytes) sink whole, h)
-    go status.NoFrame h = absurd h
-    go status.NoPixel h = absurd h
-
--- steps whose pictures the sink did not take, or for which memory ran out
-pub cut_answered : (frame : ℕ) (bytes text : List ℕ) (sink notes : Putting) → asked_status (jobs.Steps frame) (asked_of bytes) ≡ status.Done → text_of (jobs.Steps frame) bytes ≡ text → HasPutFront text sink → HasFailedToTake sink → IsUntouched notes
-    → IsAnswered status.PictureFault (jobs.Steps frame) bytes sink notes
-cut_answered frame bytes text sink notes is same front failed quiet = (is, subst (λ (t : List ℕ). HasPutFront t sink) (sym same) front, failed, quiet)
-
-pub stopped_answered : (frame : ℕ) (bytes text : List ℕ) (sink notes : Putting) → text_of (jobs.Steps frame) bytes ≡ text → HasPutFront text sink → IsUntouched notes → IsAnswered status.OutOfMemory (jobs.Steps frame) bytes sink notes
-stopped_answered frame bytes text sink notes same front quiet = (subst (λ (t : List ℕ). HasPutFront t sink) (sym same) front, quiet)
 
 -- nothing was put where memory ran out
 none_stopped : (job : Job) (bytes : List ℕ) (sink : Putting) → IsUntouched sink → HasStopped job bytes sink

@@ -4,6 +4,8 @@ use Rattle.io_whole.specs.Whole.{longest, HasMoreThan}
 use Rattle.scene_model.specs.Scene.{Scene}
 use Rattle.scene_model.specs.Output.{length_line}
 use Rattle.gfx_trace.specs.Asked.{Asked, scene_by, no_scene, no_journal, asked_of}
+use Rattle.frame_steps.specs.declared.steps.StepFault.TheVariants as faults
+use Rattle.scene_tracing.specs.declared.stepped.StepsEnd.{StepsEnd}
 use Rattle.scene_tracing.specs.Steps.{scene_steps_text}
 use Rattle.gfx_trace.specs.Lines.{history_text, step_notes}
 use Rattle.io_whole.specs.Runs.{Reading, HasFailedToGive, IsUnread, Putting, HasFailedToTake, IsUntouched, HasPut, HasPutFront, HasTried}
@@ -67,6 +69,14 @@ IsNoted status.Done text notes = HasPut text notes
 IsNoted status.NoteFault text notes = HasPutFront text notes × HasFailedToTake notes
 IsNoted status.OutOfMemory text notes = IsUntouched notes
 IsNoted _ text notes = ⊥
+
+-- how steps ended: their lines were put into the notes where all pictures were put, and else nothing
+abbrev pub AreEnded : TraceStatus → StepsEnd → (lines : List ℕ) → (notes : Putting) → Type 0
+AreEnded status.Done end lines notes = (end.fault ≡ None) × HasPut lines notes
+AreEnded status.NoteFault end lines notes = (end.fault ≡ None) × HasPutFront lines notes × HasFailedToTake notes
+AreEnded status.PictureFault end lines notes = (end.fault ≡ Some faults.Fault) × IsUntouched notes
+AreEnded status.OutOfMemory end lines notes = IsUntouched notes
+AreEnded _ end lines notes = ⊥
 
 -- ---- what stands after each status
 

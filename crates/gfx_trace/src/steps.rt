@@ -6,9 +6,9 @@ ghost use Rattle.scene_text.specs.Seen.{journal_seen, scene_seen};
 ghost use Rattle.trace_lines.specs.Seen.{doer_seen};
 ghost use Rattle.trace_lines.specs.Steps.{step_lines};
 ghost use Rattle.item_lines.specs.Items.{item_lines};
-ghost use Rattle.scene_tracing.specs.Asked.{IsLawfulOrder};
+ghost use Rattle.scene_playing.specs.Order.{order_seen};
 ghost use Rattle.gfx_trace.specs.Asked.{asked_of};
-ghost use Rattle.gfx_trace.specs.Ended.{IsAnswered, IsNoted};
+ghost use Rattle.gfx_trace.specs.Ended.{AreEnded, IsAnswered, IsNoted};
 ghost use Rattle.gfx_trace.specs.Found.{asked_seen};
 ghost use Rattle.gfx_trace.specs.declared.words.Job.TheVariants as jobs;
 ghost use Rattle.io_whole.specs.Runs.{putting};
@@ -18,8 +18,8 @@ use crate::refusing::refuse_frame;
 use crate::status::{TraceStatus, Traced};
 use io_edge::Sink;
 use io_whole::put_all;
-use scene_text::Scene;
-use scene_tracing::{StepFault, put_scene_steps, scene_step_lines};
+use scene_text::{Journal, Scene};
+use scene_tracing::{StepFault, StepsEnd, put_scene_steps, scene_step_lines};
 use std::alloc::Global;
 use trace_lines::Doer;
 
@@ -56,6 +56,37 @@ fn note_steps<N: Sink>(
     }
 }
 
+/// How the run ends when the steps did; where all pictures were put, it puts their lines.
+fn end_steps<N: Sink>(
+    alloc: Global,
+    bytes: &[u8],
+    scene: &Scene,
+    frame: u32,
+    end: &StepsEnd,
+    notes: &mut N,
+) -> TraceStatus
+    requires few { length bytes.now ≤ 16777216 }
+    requires readable { IsReadable (scene_seen scene.now) }
+    requires bounded { IsBounded (scene_seen scene.now) }
+    ensures ended { AreEnded result end.now (step_lines (item_lines bytes.now (scene_seen scene.now) frame) 1 (map doer_seen end.now.doers.items))
+        (putting (N.held notes.old) (N.held notes.new) (N.faults notes.old) (N.faults notes.new)) }
+    ensures sure { N.sure notes.new ≡ N.sure notes.old }
+    ensures no_fewer { N.faults notes.old ≤ N.faults notes.new }
+{
+    match end.fault {
+        None => note_steps(alloc, bytes, scene, frame, &end.doers, notes),
+        Some(StepFault::Fault) => TraceStatus::PictureFault,
+        Some(StepFault::OutOfMemory) => TraceStatus::OutOfMemory,
+    }
+}
+
+/// The journal that was asked for, where one was.
+fn order_of(asked: &Asked) -> Option<&Journal>
+    ensures { order_seen result ≡ option_map journal_seen asked.now.journal }
+{
+    asked.journal.as_ref()
+}
+
 /// Puts the pictures of a frame's steps, and then their lines, where the scene has the frame.
 pub(crate) fn do_steps<P: Sink + Drop, N: Sink>(
     alloc: Global,
@@ -68,7 +99,6 @@ pub(crate) fn do_steps<P: Sink + Drop, N: Sink>(
     requires few { length bytes.now ≤ 16777216 }
     requires readable { IsReadable (scene_seen asked.now.scene) }
     requires bounded { IsBounded (scene_seen asked.now.scene) }
-    requires lawful { IsLawfulOrder (scene_seen asked.now.scene) (option_map journal_seen asked.now.journal) }
     requires found { asked_of bytes.now ≡ asked_seen asked.now }
     ensures answered { IsAnswered result.status (jobs.Steps frame) bytes.now
         (putting (P.held sink) (P.held result.sink) (P.faults sink) (P.faults result.sink))
@@ -82,12 +112,8 @@ pub(crate) fn do_steps<P: Sink + Drop, N: Sink>(
             sink,
         };
     }
-    let stepped = put_scene_steps(alloc, &asked.scene, asked.journal.as_ref(), frame, sink);
-    let status = match stepped.end.fault {
-        None => note_steps(alloc, bytes, &asked.scene, frame, &stepped.end.doers, notes),
-        Some(StepFault::Fault) => TraceStatus::PictureFault,
-        Some(StepFault::OutOfMemory) => TraceStatus::OutOfMemory,
-    };
+    let stepped = put_scene_steps(alloc, &asked.scene, order_of(asked), frame, sink);
+    let status = end_steps(alloc, bytes, &asked.scene, frame, &stepped.end, notes);
     Traced {
         status,
         sink: stepped.sink,

@@ -261,8 +261,8 @@ pub fn trace<R: Threads + Wait + Sync, S: Source, P: Sink + Drop, N: Sink>(
     ensures complete { (bytes : List ℕ)
         → IsGiven (job_of (map string_bytes words.now)) (reading (S.left source.old) (S.left source.new) (S.faults source.old) (S.faults source.new)) bytes
         → AreTaken (job_of (map string_bytes words.now))
-            (putting (P.held sink) (P.held result.sink) (P.faults sink) (P.faults result.sink))
-            (putting (N.held notes.old) (N.held notes.new) (N.faults notes.old) (N.faults notes.new))
+        (putting (P.held sink) (P.held result.sink) (P.faults sink) (P.faults result.sink))
+        (putting (N.held notes.old) (N.held notes.new) (N.faults notes.old) (N.faults notes.new))
         → EndsAs (status_of (job_of (map string_bytes words.now)) bytes) result.status }
     // Where a pixel was done, the lines are those from the frame's moment on, and the colour with which they end is that of the scene's picture.
     ensures color { (bytes : List ℕ) (s : model.Scene) (j : Journal) (p : Place)

@@ -6,9 +6,9 @@ use Rattle.gfx_model.specs.Frames.{Entry}
 use Rattle.gfx_model.specs.Views.{Views}
 use Rattle.store_laws.specs.ByIndex.{Stores, FrameData, first_stores, frame_by_index}
 use Rattle.scene_model.specs.Scene.{Scene, SceneFrame}
-use Rattle.scene_model.specs.Fold.{FramePlan, Progress, plans, first_progress}
+use Rattle.scene_model.specs.Fold.{FramePlan, Progress, after_lines, at_start, plans, first_progress}
 use Rattle.scene_model.specs.Journal.{Journal, frame_content, serial}
-use Rattle.scene_laws.specs.SceneFrames.{HasColors, frames_from, scene_frames}
+use Rattle.scene_laws.specs.SceneFrames.{HasColors, frame_data, frames_from, scene_frames}
 use Rattle.trace_laws.specs.Doers.{doers_in}
 use Rattle.trace_laws.specs.ByIndex.{IsTraced}
 use Rattle.trace_laws.specs.Moments.{moments}
@@ -26,7 +26,10 @@ use Rattle.scene_tracing.proofs.Scenes.{has-at, has-moment, moment_of, seen-at, 
 
 -- ---- the first frames
 
-take-none : {A : Type 0} (n : ℕ) → take n ([] {A = A}) ≡ []
+abbrev no-frames : List FrameData
+no-frames = []
+
+take-none : (n : ℕ) → take n no-frames ≡ no-frames
 take-none zero = refl
 take-none (suc n) = refl
 
@@ -36,7 +39,9 @@ frames-first s k p [] m j = sym (take-none m)
 frames-first s k p (f ∷ fs) zero [] = refl
 frames-first s k p (f ∷ fs) (suc m) [] = refl
 frames-first s k p (f ∷ fs) zero (entries ∷ j) = refl
-frames-first s k p (f ∷ fs) (suc m) (entries ∷ j) = ap (λ (ds : List FrameData). _ ∷ ds) (frames-first s (k + 1) _ fs m j)
+frames-first s k p (f ∷ fs) (suc m) (entries ∷ j) =
+    let first : Progress = at_start k p in
+    ap (λ (ds : List FrameData). frame_data s k first f entries ∷ ds) (frames-first s (k + 1) (after_lines s.names (after_lines s.names first f.before) f.beside) fs m j)
 
 -- what stands at a place of a front stands there
 taken-at : {A : Type 0} (m : ℕ) (xs : List A) (k : ℕ) (x : A) → slice_get (take m xs) k ≡ Some x → slice_get xs k ≡ Some x

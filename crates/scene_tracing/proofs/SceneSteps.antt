@@ -66,8 +66,8 @@ pub steps-asked : SceneTracedLaw → GatheredDoersLaw → ColorsLaw → (s : Sce
     → ∥ IsEnded a given first end new ∥₁ → ∥ IsStepped s (journal_asked s o) asked.frame old end new ∥₁
 steps-asked traced_law doers_law colors_law s o j given notes is_whole a asked first old end new readable ended follows alone is wide high opened h =
     ∥∥₁_map h (λ e.
-        ended-of traced_law doers_law s (journal_asked s o) j given notes is_whole asked old end new (colors_law s readable) ended (asked-front s o j follows alone) wide high
-        (subst (λ (t : Told). IsEnded asked given t end new) opened (subst (λ (x : AskedFrame). IsEnded x given first end new) is e)))
+    ended-of traced_law doers_law s (journal_asked s o) j given notes is_whole asked old end new (colors_law s readable) ended (asked-front s o j follows alone) wide high
+    (subst (λ (t : Told). IsEnded asked given t end new) opened (subst (λ (x : AskedFrame). IsEnded x given first end new) is e)))
 
 -- ---- one by one
 
@@ -127,3 +127,7 @@ module _ (s : Scene) (j : Journal) (k : ℕ) (old : Told) (end : StepsEnd) (new 
 
   pub none-fewer : old.faults ≤ new.faults
   none-fewer = ∥∥₁_elim h le_prop (λ i. i.put.no_fewer)
+
+  -- all of them
+  pub text-put : HasPutText (scene_steps_text s j k) old end new
+  text-put = record { whole = whole-put; front = front-put; fault = fault-rose; sure = sure-same; no_fewer = none-fewer }

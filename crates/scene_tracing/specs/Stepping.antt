@@ -4,7 +4,9 @@ use Rattle.io_edge.specs.Edge.{with_back, Rose}
 use Rattle.io_whole.specs.Whole.{HasFront}
 use Rattle.store_laws.specs.ByIndex.{Stores}
 use Rattle.frame_record.specs.declared.frame.Frame.{Frame}
+use Rattle.io_edge.specs.declared.sure.SureSink.{SureSink}
 use Rattle.render_stores.specs.Seen.{stores_seen}
+use Rattle.render_core.specs.declared.renderer.Renderer.{Renderer}
 use Rattle.render_core.specs.Seen.{frame_seen, journal_of, recordings_of}
 use Rattle.trace_laws.specs.Doers.{doers_in}
 use Rattle.trace_lines.specs.Seen.{doer_seen}
@@ -48,6 +50,12 @@ HasStepped a frames old end new =
 pub record Steps {P : Type 0} (told : P → Told) (t : Stepper P) (old : Told) (frames : List Frame) : Type 0 where
   pub untouched : t.end ≡ None → told t.sink ≡ old
   pub before : t.end ≡ None → IfSome t.renderer (λ r. IsBefore t.asked.width t.asked.height t.asked.frame t.left (stores_seen r.canvas.stores) frames)
+  pub stepped : (end : StepsEnd) → t.end ≡ Some end → HasStepped t.asked frames old end (told t.sink)
+
+-- the same of one whose renderer was taken out of it
+pub record StepsWith {P : Type 0} (told : P → Told) (t : Stepper P) (r : Renderer SureSink) (old : Told) (frames : List Frame) : Type 0 where
+  pub untouched : t.end ≡ None → told t.sink ≡ old
+  pub before : t.end ≡ None → IsBefore t.asked.width t.asked.height t.asked.frame t.left (stores_seen r.canvas.stores) frames
   pub stepped : (end : StepsEnd) → t.end ≡ Some end → HasStepped t.asked frames old end (told t.sink)
 
 -- the pictures were put, or the frame asked for was not given for want of memory, and nothing was put

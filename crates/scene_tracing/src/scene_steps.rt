@@ -1,7 +1,5 @@
 // The pictures of the steps of a frame of a scene.
-ghost use Rattle.std.specs.Prelude.{◌≡◌, ◌<◌, ◌≤◌, None, Some, length, map, IfOk};
-ghost use Rattle.io_edge.specs.Edge.{with_back, Rose};
-ghost use Rattle.io_whole.specs.Whole.{HasFront};
+ghost use Rattle.std.specs.Prelude.{◌≡◌, ◌<◌, ◌≤◌, None, length, map, IfOk};
 ghost use Rattle.spelling_model.specs.Readable.{IsReadable};
 ghost use Rattle.scene_text.specs.Bounds.{IsBounded};
 ghost use Rattle.scene_text.specs.Seen.{scene_seen};
@@ -9,9 +7,9 @@ ghost use Rattle.scene_playing.specs.Order.{order_seen};
 ghost use Rattle.trace_lines.specs.Seen.{doer_seen};
 ghost use Rattle.trace_lines.specs.Steps.{step_lines};
 ghost use Rattle.item_lines.specs.Items.{item_lines};
-ghost use Rattle.frame_steps.specs.declared.steps.StepFault.TheVariants as faults;
 ghost use Rattle.scene_tracing.specs.Asked.{journal_asked};
 ghost use Rattle.scene_tracing.specs.Steps.{scene_doers, scene_steps_text};
+ghost use Rattle.scene_tracing.specs.Stepping.{HasPutText, told_by};
 
 use crate::asked::AskedFrame;
 use crate::stepped::{Stepped, StepsEnd};
@@ -43,17 +41,12 @@ pub fn put_scene_steps<P: Sink + Drop>(
     requires readable { IsReadable (scene_seen scene.now) }
     requires bounded { IsBounded (scene_seen scene.now) }
     requires frame { frame < length scene.now.frames }
-    // Where nothing was wanting, the pictures are the definition's.
-    ensures whole { let s = scene_seen scene.now in
-        result.end.fault ≡ None → P.held result.sink ≡ with_back (P.held sink) (scene_steps_text s (journal_asked s (order_seen order.entry)) frame) }
-    ensures front { let s = scene_seen scene.now in
-        HasFront (P.held sink) (scene_steps_text s (journal_asked s (order_seen order.entry)) frame) (P.held result.sink) }
+    // The pictures are the definition's, or a front of them where there is a fault.
+    ensures put { let s = scene_seen scene.now in
+        HasPutText (scene_steps_text s (journal_asked s (order_seen order.entry)) frame) (told_by P.held P.faults P.sure sink) result.end (told_by P.held P.faults P.sure result.sink) }
     // Each deed has its doer.
     ensures doers { let s = scene_seen scene.now in
         result.end.fault ≡ None → map doer_seen result.end.doers.items ≡ scene_doers s (journal_asked s (order_seen order.entry)) frame }
-    ensures fault { result.end.fault ≡ Some faults.Fault → Rose (P.faults sink) (P.faults result.sink) }
-    ensures sure { P.sure result.sink ≡ P.sure sink }
-    ensures no_fewer { P.faults sink ≤ P.faults result.sink }
 {
     scene_traced_law();
     gathered_doers_law();

@@ -2,8 +2,9 @@
 ghost use Rattle.std.specs.Prelude.{◌≡◌, ◌≤◌, ◌<◌, ◌+◌, ◌∷◌, ◌++◌, [], true, List, None, Some, IfOk, IfErr};
 ghost use Rattle.frame_record.specs.declared.frame.Frame.{Frame};
 ghost use Rattle.render_stores.specs.Seen.{stores_seen};
-ghost use Rattle.scene_tracing.specs.Tracing.{IsBefore};
-ghost use Rattle.scene_tracing.specs.Stepping.{Told, told_by, IsEnded, IsSteppedIn, Steps};
+ghost use Rattle.scene_tracing.specs.Stepping.{Told, told_by, IsEnded, IsSteppedIn, Steps, StepsWith};
+ghost use Rattle.scene_tracing.specs.declared.stepped.StepsEnd.{StepsEnd};
+ghost use Rattle.frame_steps.specs.declared.steps.StepFault.TheVariants as faults;
 
 use crate::asked::AskedFrame;
 use crate::stepped::{Stepped, StepsEnd};
@@ -45,6 +46,20 @@ fn step_one<P: Sink>(
     }
 }
 
+/// How the steps ended; for want of memory where that is not known.
+fn end_of(alloc: Global, end: Option<StepsEnd>) -> StepsEnd
+    ensures given { (e : StepsEnd) → end ≡ Some e → result ≡ e }
+    ensures none { end ≡ None → result.fault ≡ Some faults.OutOfMemory }
+{
+    match end {
+        Some(end) => end,
+        None => StepsEnd {
+            doers: Vec::new(alloc),
+            fault: Some(StepFault::OutOfMemory),
+        },
+    }
+}
+
 impl<P: Sink + Drop> Stepper<P> {
     /// A stepper that was given no frame. The sides are 1 to 2,048. For want of memory the sink comes back.
     pub(crate) fn new(alloc: Global, asked: AskedFrame, sink: P) -> Result<Stepper<P>, P>
@@ -77,8 +92,7 @@ impl<P: Sink + Drop> Stepper<P> {
         requires none { self.old.end ≡ None }
         ensures frame { result ≡ frame }
         ensures asked { self.new.asked ≡ self.old.asked }
-        ensures steps { (old : Told) (frames : List Frame) → told_by P.held P.faults P.sure self.old.sink ≡ old
-            → IsBefore self.old.asked.width self.old.asked.height self.old.asked.frame self.old.left (stores_seen renderer.canvas.stores) frames
+        ensures steps { (old : Told) (frames : List Frame) → ∥ StepsWith (told_by P.held P.faults P.sure) self.old renderer old frames ∥₁
             → ∥ Steps (told_by P.held P.faults P.sure) self.new old (frames ++ frame ∷ []) ∥₁ }
     {
         let mut renderer = renderer;
@@ -93,27 +107,24 @@ impl<P: Sink + Drop> Stepper<P> {
     /// Puts the pictures of the steps of the frame asked for.
     fn step(&mut self, renderer: Renderer<SureSink>, frame: &Frame)
         requires here { self.old.left ≡ 0 }
-        requires taken { self.old.renderer ≡ None }
         requires none { self.old.end ≡ None }
         ensures asked { self.new.asked ≡ self.old.asked }
-        ensures steps { (old : Told) (frames : List Frame) → told_by P.held P.faults P.sure self.old.sink ≡ old
-            → IsBefore self.old.asked.width self.old.asked.height self.old.asked.frame self.old.left (stores_seen renderer.canvas.stores) frames
+        ensures steps { (old : Told) (frames : List Frame) → ∥ StepsWith (told_by P.held P.faults P.sure) self.old renderer old frames ∥₁
             → ∥ Steps (told_by P.held P.faults P.sure) self.new old (frames ++ frame.now ∷ []) ∥₁ }
     {
         let mut stores = renderer.into_stores();
-        self.end = Some(step_one(self.alloc, &mut stores, frame, &mut self.sink));
+        let end = step_one(self.alloc, &mut stores, frame, &mut self.sink);
+        self.end = Some(end);
     }
 
-    /// Takes the next frame, and gives it back.
-    pub(crate) fn take(&mut self, frame: Frame) -> Frame
+    /// Takes the next frame with the renderer, and gives the frame back.
+    fn take_with(&mut self, renderer: Renderer<SureSink>, frame: Frame) -> Frame
+        requires taken { self.old.renderer ≡ None }
         ensures frame { result ≡ frame }
         ensures asked { self.new.asked ≡ self.old.asked }
-        ensures steps { (old : Told) (frames : List Frame) → ∥ Steps (told_by P.held P.faults P.sure) self.old old frames ∥₁
+        ensures steps { (old : Told) (frames : List Frame) → ∥ StepsWith (told_by P.held P.faults P.sure) self.old renderer old frames ∥₁
             → ∥ Steps (told_by P.held P.faults P.sure) self.new old (frames ++ frame ∷ []) ∥₁ }
     {
-        let Some(renderer) = self.renderer.take() else {
-            return frame;
-        };
         if self.end.is_some() {
             return frame;
         }
@@ -124,21 +135,27 @@ impl<P: Sink + Drop> Stepper<P> {
         frame
     }
 
+    /// Takes the next frame, and gives it back.
+    pub(crate) fn take(&mut self, frame: Frame) -> Frame
+        ensures frame { result ≡ frame }
+        ensures asked { self.new.asked ≡ self.old.asked }
+        ensures steps { (old : Told) (frames : List Frame) → ∥ Steps (told_by P.held P.faults P.sure) self.old old frames ∥₁
+            → ∥ Steps (told_by P.held P.faults P.sure) self.new old (frames ++ frame ∷ []) ∥₁ }
+    {
+        match self.renderer.take() {
+            Some(renderer) => self.take_with(renderer, frame),
+            None => frame,
+        }
+    }
+
     /// The sink, and how the steps ended; for want of memory where the frame asked for was not given.
     pub(crate) fn into_stepped(self) -> Stepped<P>
         ensures { (old : Told) (frames : List Frame) → ∥ Steps (told_by P.held P.faults P.sure) self old frames ∥₁
             → ∥ IsEnded self.asked frames old result.end (told_by P.held P.faults P.sure result.sink) ∥₁ }
     {
-        let end = match self.end {
-            Some(end) => end,
-            None => StepsEnd {
-                doers: Vec::new(self.alloc),
-                fault: Some(StepFault::OutOfMemory),
-            },
-        };
         Stepped {
             sink: self.sink,
-            end,
+            end: end_of(self.alloc, self.end),
         }
     }
 }

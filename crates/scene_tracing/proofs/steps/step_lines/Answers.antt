@@ -14,7 +14,7 @@ loop-place-preserved c =
     let d : Doer = get_or a.doers.now l.place (doers.Clear 0) in
     steps-next (numbers_told a.numbers.now) a.doers.now l.place d l.text.items c.put_step.new.text.items (step_lines (numbers_told a.numbers.now) 1 (map doer_seen a.doers.now))
     c.loop-place-test.true (got-self a.doers.now l.place _ c.loop-place-test.true) l.invariant
-    (c.in_ok-put_step.ensures ∙ ap (λ o. l.text.items ++ step_line (l.place + 1) (doer_seen d) o) c.number_of.ensures)
+    (c.in_ok-put_step.ensures ∙ ap (λ o. l.text.items ++ step_line (l.place + 1) (doer_seen d) o) c.number_of-line.ensures)
 
 pub returns : goal.returns
 returns c =
