@@ -1,0 +1,40 @@
+-- Blamers that are given one frame more.
+use Rattle.std.proofs.Common.{◌≡◌, ◌∙◌, ℕ, ◌+◌, ◌<◌, List, [], ◌∷◌, ◌++◌, Option, Some, None, IfSome, sym, subst}
+use Rattle.std.proofs.Math.Logic.{∥∥₁_map}
+use Rattle.store_laws.specs.ByIndex.{Stores}
+use Rattle.frame_record.specs.declared.frame.Frame.{Frame}
+use Rattle.render_stores.specs.Seen.{stores_seen}
+use Rattle.scene_tracing.specs.Tracing.{IsBefore}
+use Rattle.scene_tracing.specs.Blaming.{IsBlamedIn, HasBlamed, Blames}
+use Rattle.scene_tracing.specs.declared.asked.AskedFrame.{AskedFrame}
+use Rattle.scene_tracing.specs.declared.blamed.Blamed.{Blamed}
+use Rattle.scene_tracing.specs.declared.blamer.Blamer.{Blamer}
+use Rattle.scene_tracing.proofs.Frames.{at-more, at-now}
+
+blamed-more : (a : AskedFrame) (frames : List Frame) (f : Frame) (b : Blamed) → HasBlamed a frames b → HasBlamed a (frames ++ f ∷ []) b
+blamed-more a frames f b h = at-more (λ st g. IsBlamedIn st g b) a.width a.height a.frame frames f h
+
+-- a blamer without a renderer leaves a frame alone
+pub alone-blames : (t u : Blamer) (frames : List Frame) (f : Frame) → u.asked ≡ t.asked → u.blamed ≡ t.blamed → u.renderer ≡ None → Blames t frames → Blames u (frames ++ f ∷ [])
+alone-blames t u frames f asked same none s = record {
+  before = λ e. subst (λ o. IfSome o (λ r. IsBefore u.asked.width u.asked.height u.asked.frame u.left (stores_seen r.canvas.stores) (frames ++ f ∷ []))) (sym none) tt;
+  blamed = λ b e. blamed-more u.asked frames f b (subst (λ (a : AskedFrame). HasBlamed a frames b) (sym asked) (s.blamed b (sym same ∙ e)));
+}
+
+-- a frame before the one asked for was rendered
+pub render-blames : (t u : Blamer) (frames : List Frame) (f : Frame) → u.asked ≡ t.asked → u.blamed ≡ None
+    → IfSome u.renderer (λ r. IsBefore t.asked.width t.asked.height t.asked.frame u.left (stores_seen r.canvas.stores) (frames ++ f ∷ [])) → Blames u (frames ++ f ∷ [])
+render-blames t u frames f asked none before = record {
+  before = λ e. subst (λ (a : AskedFrame). IfSome u.renderer (λ r. IsBefore a.width a.height a.frame u.left (stores_seen r.canvas.stores) (frames ++ f ∷ []))) (sym asked) before;
+  blamed = λ b e. absurd (cc (sym none ∙ e));
+}
+
+-- the frame asked for was looked into
+pub blame-blames : (t u : Blamer) (h : Stores) (frames : List Frame) (f : Frame) → t.left ≡ 0 → u.asked ≡ t.asked → u.renderer ≡ None
+    → IsBefore t.asked.width t.asked.height t.asked.frame t.left h frames → ((b : Blamed) → u.blamed ≡ Some b → IsBlamedIn h f b) → Blames u (frames ++ f ∷ [])
+blame-blames t u h frames f here asked gone before blamed = record {
+  before = λ e. subst (λ o. IfSome o (λ r. IsBefore u.asked.width u.asked.height u.asked.frame u.left (stores_seen r.canvas.stores) (frames ++ f ∷ []))) (sym gone) tt;
+  blamed = λ b e.
+      subst (λ (a : AskedFrame). HasBlamed a (frames ++ f ∷ []) b) (sym asked)
+      (at-now (λ st g. IsBlamedIn st g b) t.asked.width t.asked.height t.asked.frame t.left h frames f here before (blamed b e));
+}
