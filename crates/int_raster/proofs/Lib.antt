@@ -15,3 +15,4 @@ pub mod Tiled
 pub mod Windows
 pub mod Spread
 pub mod Rowed
+pub mod Covered

@@ -10,3 +10,4 @@ pub mod Listing
 pub mod Cuts
 pub mod Sampled
 pub mod Filled
+pub mod Covered

@@ -4,6 +4,7 @@ use Rattle.tri_cover.specs.Shown.{setup_seen}
 use Rattle.tri_cover.specs.declared.triangles.Setup.{Setup}
 use Rattle.int_raster.specs.Drawing.{PreparedDraw}
 use Rattle.int_raster.specs.Seen.{prepared_seen}
+use Rattle.int_raster.specs.Covered.{CoverRows}
 use Rattle.int_raster.specs.declared.listed.Listed.{Listed}
 
 -- the triangles of a draw among all
@@ -21,3 +22,7 @@ listed_seen triangles l = listed_with l (own_triangles triangles l)
 -- the triangles of each draw are there
 abbrev pub AreWithin : List Listed → ℕ → Type 0
 AreWithin ls n = (i : ℕ) (l : Listed) → i < length ls → ((slice_index_or ls i l).first ≤ (slice_index_or ls i l).after) × ((slice_index_or ls i l).after ≤ n)
+
+-- the triangles of each draw cover no pixels but in its rows
+abbrev pub AreInRows : List Listed → List Setup → Type 0
+AreInRows ls ts = (i : ℕ) (l : Listed) → i < length ls → CoverRows (slice_index_or ls i l).top (slice_index_or ls i l).bottom (length (own_triangles ts (slice_index_or ls i l))) (own_triangles ts (slice_index_or ls i l))

@@ -1,5 +1,8 @@
 // Bands of rows, and the draws of a list on each.
-ghost use Rattle.std.specs.Prelude.{◌≡◌, ◌≤◌, ◌*◌, length};
+ghost use Rattle.std.specs.Prelude.{◌≡◌, ◌≤◌, ◌<◌, ◌*◌, length, slice_index_or};
+ghost use Rattle.gfx_model.specs.Number.{map_from};
+ghost use Rattle.int_raster.specs.Drawing.{PreparedDraw, prepared_step};
+ghost use Rattle.int_raster.specs.Places.{below, deep_pixels, flat_pixels, by_place};
 ghost use Rattle.int_raster.specs.Bands.{deep, flat_drawn, deep_drawn};
 
 use crate::deep::draw_deep;
@@ -10,14 +13,44 @@ use fix_math::tell_texels;
 use rayon::join_mut;
 use std::thread::Threads;
 
+/// Makes a draw of a list on a band without depth, where it meets the band's rows.
+fn draw_flat_listed(rows: &Rows, list: &DrawList<'_>, index: usize, colors: &mut [[u8; 4]])
+    requires whole { length colors.old ≡ rows.now.width * rows.now.count }
+    requires inside { index < length list.now }
+    ensures { (d : PreparedDraw) → flat_pixels colors.new ≡ map_from (by_place rows.now.width (below rows.now.top (prepared_step (slice_index_or list.now index d)))) 0 (flat_pixels colors.old) }
+{
+    if list.meets(index, rows) {
+        let (draw, triangles) = list.draw(index);
+        draw_flat(colors, rows, &draw, triangles);
+    }
+}
+
 /// Makes the draws of a list on a band without depth.
 pub(crate) fn draw_flat_list(rows: &Rows, list: &DrawList<'_>, colors: &mut [[u8; 4]])
     requires { length colors.old ≡ rows.now.width * rows.now.count }
     ensures { colors.new ≡ flat_drawn rows.now.width rows.now.top colors.old list.now }
 {
     for index in 0..list.len() {
+        draw_flat_listed(rows, list, index, colors);
+    }
+}
+
+/// Makes a draw of a list on a band with depth, where it meets the band's rows.
+fn draw_deep_listed(
+    rows: &Rows,
+    list: &DrawList<'_>,
+    index: usize,
+    colors: &mut [[u8; 4]],
+    depths: &mut [[u8; 4]],
+)
+    requires whole { length colors.old ≡ rows.now.width * rows.now.count }
+    requires same { length depths.old ≡ length colors.old }
+    requires inside { index < length list.now }
+    ensures { (d : PreparedDraw) → deep_pixels colors.new depths.new ≡ map_from (by_place rows.now.width (below rows.now.top (prepared_step (slice_index_or list.now index d)))) 0 (deep_pixels colors.old depths.old) }
+{
+    if list.meets(index, rows) {
         let (draw, triangles) = list.draw(index);
-        draw_flat(colors, rows, &draw, triangles);
+        draw_deep(colors, depths, rows, &draw, triangles);
     }
 }
 
@@ -33,8 +66,7 @@ pub(crate) fn draw_deep_list(
     ensures { deep colors.new depths.new ≡ deep_drawn rows.now.width rows.now.top (deep colors.old depths.old) list.now }
 {
     for index in 0..list.len() {
-        let (draw, triangles) = list.draw(index);
-        draw_deep(colors, depths, rows, &draw, triangles);
+        draw_deep_listed(rows, list, index, colors, depths);
         tell_texels(depths);
     }
 }

@@ -5,6 +5,7 @@ ghost use Rattle.fix_math.specs.Seen.{rect_seen};
 ghost use Rattle.tri_cover.specs.Shown.{setup_seen};
 ghost use Rattle.tri_cover.specs.Bounded.{IsSpan};
 ghost use Rattle.int_raster.specs.Filled.{AreLimits};
+ghost use Rattle.int_raster.specs.Covered.{CoverRows};
 
 use crate::rows::Rows;
 use fix_math::Rect;
@@ -42,6 +43,20 @@ pub(crate) fn meets(setup: &Setup, cut: &Rect, rows: &Rows) -> bool
 {
     let (first, after) = drawn_rows(setup, cut, rows);
     first < after
+}
+
+/// The rows of a surface that triangles may cover, from the first up to the second number.
+pub(crate) fn covered_rows(triangles: &[Setup]) -> (u16, u16)
+    ensures { CoverRows result.0 result.1 (length triangles.now) triangles.now }
+{
+    let mut top = 65535;
+    let mut bottom = 0;
+    for setup in triangles {
+        let (first, after) = setup.rows(65535);
+        top = top.min(first);
+        bottom = bottom.max(after);
+    }
+    (top, bottom)
 }
 
 /// The columns of a cut on a surface of a width, from the first up to the second number.

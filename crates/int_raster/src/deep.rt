@@ -374,51 +374,71 @@ fn rows_tiled(
     }
 }
 
-/// Draws a triangle with its depth in so many rows, whose columns a list has: as a tile where it is one.
-fn rows_drawn(
+/// Stores a triangle's tile in all its rows.
+fn triangle_tiled(
     colors: &mut [[u8; 4]],
     depths: &mut [[u8; 4]],
     rows: &Rows,
-    from: u16,
-    count: u16,
-    spans: &[(u16, u16)],
-    limits: (u16, u16),
-    level: &Option<Level>,
-    brush: &Option<Brush>,
-    rule: &Option<Rule>,
-    mixing: &Option<Mix>,
+    tile: &Tile,
+    level: &Level,
     setup: &Setup,
     draw: &Prepared,
 )
     requires whole { length colors.old ≡ rows.now.width * rows.now.count }
     requires same { length depths.old ≡ length colors.old }
-    requires level { IfSome level.now (λ l. IsLevel l draw.now setup.now) }
-    requires paints { IfSome brush.now (λ b. Paints b.painter draw.now setup.now rows.now.width (rows.now.top + rows.now.count)) }
-    requires depths { IfSome brush.now (λ b. HasWideDepths b.depth setup.now rows.now.width (rows.now.top + rows.now.count)) }
-    requires short { IfSome brush.now (λ b. IfSome b.short (λ r. HasDepths r setup.now rows.now.width (rows.now.top + rows.now.count))) }
-    requires rule { IfSome rule.now (λ r. IsPlain r draw.now setup.now) }
-    requires mixing { IfSome mixing.now (λ m. IsMix m draw.now setup.now) }
-    requires inside { from + count ≤ rows.now.count }
-    requires cut { AreInCut rows.now draw.now.cut from (from + count) }
-    requires limits { AreLimits limits draw.now.cut rows.now.width }
-    requires room { count ≤ length spans.now }
-    requires held { HoldsSpans spans.now (setup_seen setup.now).triangle limits.0 limits.1 (rows.now.top + from) count }
-    ensures { (start : List Pixel) → deep_pixels colors.old depths.old ≡ map_from (above rows.now.width from (below rows.now.top (change_seen draw.now setup.now))) 0 start → deep_pixels colors.new depths.new ≡ map_from (above rows.now.width (from + count) (below rows.now.top (change_seen draw.now setup.now))) 0 start }
+    requires level { IsLevel level.now draw.now setup.now }
+    requires tile { IsTile tile.now level.now.color level.now.depth level.now.rule }
+    ensures { deep_pixels colors.new depths.new ≡ map_from (by_place rows.now.width (below rows.now.top (change_seen draw.now setup.now))) 0 (deep_pixels colors.old depths.old) }
 {
-    if let Some(level) = level {
-        if let Some(tile) = &level.tile {
-            rows_tiled(
-                colors, depths, rows, from, count, spans, limits, tile, level, setup, draw,
-            );
-            return;
-        }
+    let (top, bottom) = drawn_rows(setup, &draw.cut, rows);
+    let limits = drawn_limits(&draw.cut, rows.width);
+    let mut spans = [(0, 0); 32];
+    let mut row = top;
+    while row < bottom {
+        let count = (bottom - row).min(32);
+        setup.spans(&mut spans, rows.top + row, count, limits.0, limits.1);
+        rows_tiled(
+            colors, depths, rows, row, count, &spans, limits, tile, level, setup, draw,
+        );
+        row += count;
     }
-    rows_tested(
-        colors, depths, rows, from, count, spans, limits, level, brush, rule, mixing, setup, draw,
-    );
 }
 
-/// Draws a triangle pixel by pixel with its depth.
+/// Draws a triangle that is no tile, with its depth. What it needs on the stack is not made for the others.
+#[inline(never)]
+fn triangle_painted(
+    colors: &mut [[u8; 4]],
+    depths: &mut [[u8; 4]],
+    rows: &Rows,
+    level: Option<Level>,
+    rule: Option<Rule>,
+    setup: &Setup,
+    draw: &Prepared,
+)
+    requires whole { length colors.old ≡ rows.now.width * rows.now.count }
+    requires same { length depths.old ≡ length colors.old }
+    requires level { IfSome level (λ l. IsLevel l draw.now setup.now) }
+    requires rule { IfSome rule (λ r. IsPlain r draw.now setup.now) }
+    ensures { deep_pixels colors.new depths.new ≡ map_from (by_place rows.now.width (below rows.now.top (change_seen draw.now setup.now))) 0 (deep_pixels colors.old depths.old) }
+{
+    let mixing = mix_of(&rule, setup, draw);
+    let brush = brush_unless(&level, setup, draw, rows.width, rows.bottom());
+    let (top, bottom) = drawn_rows(setup, &draw.cut, rows);
+    let limits = drawn_limits(&draw.cut, rows.width);
+    let mut spans = [(0, 0); 32];
+    let mut row = top;
+    while row < bottom {
+        let count = (bottom - row).min(32);
+        setup.spans(&mut spans, rows.top + row, count, limits.0, limits.1);
+        rows_tested(
+            colors, depths, rows, row, count, &spans, limits, &level, &brush, &rule, &mixing,
+            setup, draw,
+        );
+        row += count;
+    }
+}
+
+/// Draws a triangle pixel by pixel with its depth: as a tile where it is one.
 fn triangle_tested(
     colors: &mut [[u8; 4]],
     depths: &mut [[u8; 4]],
@@ -431,22 +451,14 @@ fn triangle_tested(
     ensures { deep_pixels colors.new depths.new ≡ map_from (by_place rows.now.width (below rows.now.top (change_seen draw.now setup.now))) 0 (deep_pixels colors.old depths.old) }
 {
     let rule = plain_rule(setup, draw);
-    let mixing = mix_of(&rule, setup, draw);
     let level = level_of(setup, draw, &rule);
-    let brush = brush_unless(&level, setup, draw, rows.width, rows.bottom());
-    let (top, bottom) = drawn_rows(setup, &draw.cut, rows);
-    let limits = drawn_limits(&draw.cut, rows.width);
-    let mut spans = [(0, 0); 32];
-    let mut row = top;
-    while row < bottom {
-        let count = (bottom - row).min(32);
-        setup.spans(&mut spans, rows.top + row, count, limits.0, limits.1);
-        rows_drawn(
-            colors, depths, rows, row, count, &spans, limits, &level, &brush, &rule, &mixing,
-            setup, draw,
-        );
-        row += count;
+    if let Some(level) = &level {
+        if let Some(tile) = &level.tile {
+            triangle_tiled(colors, depths, rows, tile, level, setup, draw);
+            return;
+        }
     }
+    triangle_painted(colors, depths, rows, level, rule, setup, draw);
 }
 
 /// Whether every depth passes and none is stored.

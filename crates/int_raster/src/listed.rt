@@ -4,7 +4,8 @@ use crate::lists::Paint;
 use fix_math::Rect;
 use gfx_words::{StateWord, StencilWord};
 
-/// A draw of a list: its triangles are those of the list from the first up to the second number.
+/// A draw of a list: its triangles are those of the list from the first up to the second number, and cover no pixels but in the rows
+/// from `top` up to `bottom`.
 #[derive(Drop)]
 pub(crate) struct Listed<'x> {
     pub cut: Rect,
@@ -14,4 +15,6 @@ pub(crate) struct Listed<'x> {
     pub paint: Paint<'x>,
     pub first: usize,
     pub after: usize,
+    pub top: u16,
+    pub bottom: u16,
 }

@@ -1,10 +1,13 @@
 // Draws that are ready, and lists of them.
-ghost use Rattle.std.specs.Prelude.{◌≡◌, ◌≤◌, ◌<◌, ◌==◌, ◌++◌, ◌∷◌, [], map, length, slice_index_or, OnOk, OnErr};
-ghost use Rattle.int_raster.specs.Drawing.{PreparedDraw};
-ghost use Rattle.int_raster.specs.Listing.{AreWithin};
+ghost use Rattle.std.specs.Prelude.{◌≡◌, ◌≤◌, ◌<◌, ◌+◌, ◌==◌, ◌++◌, ◌∷◌, [], ℕ, false, map, length, slice_index_or, OnOk, OnErr};
+ghost use Rattle.gfx_model.specs.Pixel.{Pixel};
+ghost use Rattle.int_raster.specs.Drawing.{PreparedDraw, prepared_step};
+ghost use Rattle.int_raster.specs.Listing.{AreWithin, AreInRows};
 
+use crate::columns::covered_rows;
 use crate::covering::covered_by;
 use crate::listed::Listed;
+use crate::rows::Rows;
 use fix_math::{Rect, Texels};
 use gfx_words::{StateWord, StencilWord};
 use std::alloc::{AllocError, Global};
@@ -61,6 +64,7 @@ pub struct DrawList<'x> {
     triangles: Vec<Setup>,
     work: u64,
     ghost within: { AreWithin draws.items (length triangles.items) },
+    ghost rows: { AreInRows draws.items triangles.items },
 }
 
 /// Room for the triangles of a list, without the list. It lends nothing, so it outlives what the list's draws lend.
@@ -160,6 +164,7 @@ impl<'x> DrawList<'x> {
         let work = self.work.saturating_add(work_of(triangles, &cut));
         let first = self.triangles.len();
         let after = first.saturating_add(triangles.len());
+        let (top, bottom) = covered_rows(triangles);
         self.triangles.extend_from_slice(triangles)?;
         let listed = Listed {
             cut,
@@ -169,6 +174,8 @@ impl<'x> DrawList<'x> {
             paint: draw.paint,
             first,
             after,
+            top,
+            bottom,
         };
         if self.draws.push(listed).is_ok() {
             self.work = work;
@@ -176,6 +183,16 @@ impl<'x> DrawList<'x> {
         }
         self.triangles.truncate(first);
         Err(AllocError)
+    }
+
+    /// Whether a draw may change rows of a band.
+    #[inline(always)]
+    pub(crate) fn meets(&self, index: usize, rows: &Rows) -> bool
+        requires { index < length self.now }
+        ensures { (d : PreparedDraw) (x y : ℕ) (p : Pixel) → result ≡ false → y < rows.now.count → prepared_step (slice_index_or self.now index d) x (rows.now.top + y) p ≡ p }
+    {
+        let here = &self.draws[index];
+        here.top < rows.bottom() && rows.top < here.bottom
     }
 
     /// The draw of a number, and its triangles.

@@ -1,11 +1,10 @@
-use Rattle.std.proofs.Common.{rules, ◌≡◌, ◌≤◌, length, map, arith, ap, sym, ◌∙◌}
+use Rattle.std.proofs.Common.{◌≡◌, ◌≤◌, length, slice_index_or, arith, ap, sym, ◌∙◌}
 use Rattle.std.proofs.lemmas.List.{take_all}
 use Rattle.std.proofs.lemmas.List.Sums.{fold_more}
-use Rattle.tri_cover.specs.Shown.{setup_seen}
 use Rattle.int_raster.specs.Drawing.{prepared_step}
 use Rattle.int_raster.specs.Places.{below}
 use Rattle.int_raster.specs.Bands.{deep, deep_after, deep_drawn}
-use Rattle.int_raster.specs.Seen.{prepared_seen}
+use Rattle.int_raster.proofs.Covered.{no_draw}
 use Rattle.int_raster.proofs.Wholes.{whole_deep}
 use Rattle.int_raster.proofs.bands.draw_deep_list.Goals as goal
 
@@ -13,11 +12,11 @@ pub loop-index-preserved : goal.loop-index-preserved
 loop-index-preserved c =
     let w = c.args.rows.now.width in
     let top = c.args.rows.now.top in
-    let made = prepared_seen c.draw-draw.result.0 (map setup_seen c.draw-draw.result.1.now) in
-    let same : length c.draw_deep.new.depths ≡ length c.draw_deep.new.colors = omega (arith, c.draw_deep.auto.depths, c.draw_deep.auto.colors, c.loop-index.auto.depths, c.loop-index.auto.colors, c.requires.same) in
-    whole_deep w c.loop-index.colors c.draw_deep.new.colors c.loop-index.depths c.draw_deep.new.depths (below top (prepared_step made)) c.draw_deep.ensures same c.tell_texels.ensures
-    ∙ (λ i. deep_after w (below top (prepared_step (c.draw-draw.ensures made i))) (c.loop-index.invariant i))
-    ∙ sym (fold_more (λ s d. deep_after w (below top (prepared_step d)) s) (deep c.args.colors.now c.args.depths.now) c.args.list.now c.loop-index.index made (search rules))
+    let made = slice_index_or c.args.list.now c.loop-index.index no_draw in
+    let same : length c.draw_deep_listed.new.depths ≡ length c.draw_deep_listed.new.colors = omega (arith, c.draw_deep_listed.auto.depths, c.draw_deep_listed.auto.colors, c.loop-index.auto.depths, c.loop-index.auto.colors, c.requires.same) in
+    whole_deep w c.loop-index.colors c.draw_deep_listed.new.colors c.loop-index.depths c.draw_deep_listed.new.depths (below top (prepared_step made)) (c.draw_deep_listed.ensures no_draw) same c.tell_texels.ensures
+    ∙ ap (deep_after w (below top (prepared_step made))) c.loop-index.invariant
+    ∙ sym (fold_more (λ s d. deep_after w (below top (prepared_step d)) s) (deep c.args.colors.now c.args.depths.now) c.args.list.now c.loop-index.index no_draw (omega arith))
 
 pub returns : goal.returns
 returns c =

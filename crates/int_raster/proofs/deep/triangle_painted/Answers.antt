@@ -7,7 +7,7 @@ use Rattle.fix_math.specs.Seen.{rect_seen}
 use Rattle.int_raster.specs.Places.{below, above, deep_pixels, is_drawn}
 use Rattle.int_raster.specs.Seen.{facing_seen, step_seen, change_seen}
 use Rattle.int_raster.proofs.Raster.{rows_before, rows_behind}
-use Rattle.int_raster.proofs.deep.triangle_tested.Goals as goal
+use Rattle.int_raster.proofs.deep.triangle_painted.Goals as goal
 
 pub loop-row-init : goal.loop-row-init
 loop-row-init c =
@@ -21,14 +21,14 @@ loop-row-init c =
           (λ x y b t. let p = and_parts (contains (rect_seen d.cut) x (c.args.rows.now.top + y)) (covers f.triangle x (c.args.rows.now.top + y)) t in (c.drawn_rows-top.ensures.all x y b p.0 p.1).0);
     }
 
-pub rows_drawn-requires-clause-cut : goal.rows_drawn-requires-clause-cut
-rows_drawn-requires-clause-cut c y lo hi = c.drawn_rows-top.ensures.first y (omega (arith, lo, c.loop-row.invariant.first)) (omega (arith, hi, c.loop-row-test.true))
+pub rows_tested-requires-clause-cut : goal.rows_tested-requires-clause-cut
+rows_tested-requires-clause-cut c y lo hi = c.drawn_rows-top.ensures.first y (omega (arith, lo, c.loop-row.invariant.first)) (omega (arith, hi, c.loop-row-test.true))
 
 pub loop-row-preserved : goal.loop-row-preserved
 loop-row-preserved c = record {
   first = omega (arith, c.loop-row.invariant.first);
   within = omega (arith, c.loop-row-test.true);
-  done = c.rows_drawn.ensures (deep_pixels c.args.colors.now c.args.depths.now) c.loop-row.invariant.done;
+  done = c.rows_tested.ensures (deep_pixels c.args.colors.now c.args.depths.now) c.loop-row.invariant.done;
 }
 
 pub returns : goal.returns
