@@ -2,7 +2,7 @@
 use Rattle.std.proofs.Common.{◌≡◌, ◌≤◌, ℕ, zero, suc, ◌<◌, ◌+◌, ◌-◌, ◌*◌, ◌/◌, ◌%◌, ◌^◌, List, [], ◌∷◌, map, length, slice_index, Bool, true, false, cond, ◌&&◌, nat_lt, nat_le, if◌then◌else◌, bit_and, refl, sym, ap, ◌∙◌, arith}
 use Rattle.std.proofs.lemmas.Nat.{and_mask}
 use Rattle.std.proofs.lemmas.Nat.Bits.{and_high_mask}
-use Rattle.std.proofs.lemmas.Bool.{cases_lt, lt-leb, le-ltb}
+use Rattle.std.proofs.lemmas.Bool.{cases_lt, lt-leb}
 use Rattle.std.proofs.lemmas.Bool.Decides.{nat_tests}
 use Rattle.int_raster.specs.Tiled.{deep_word, is_among}
 use lib.Lanes.{zip2, sel_l, top}

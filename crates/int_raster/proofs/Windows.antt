@@ -1,5 +1,5 @@
 -- Four places of a surface with depth that change together.
-use Rattle.std.proofs.Common.{◌≡◌, ◌≤◌, ◌<◌, ◌+◌, ◌-◌, ℕ, zero, suc, List, [], ◌∷◌, length, get_or, slice_index_or, Bool, true, false, ◌&&◌, nat_le, nat_lt, refl, sym, ap, ◌∙◌, arith}
+use Rattle.std.proofs.Common.{◌≡◌, ◌≤◌, ◌<◌, ◌+◌, ◌-◌, ℕ, suc, List, [], ◌∷◌, length, get_or, slice_index_or, Bool, true, false, ◌&&◌, nat_le, nat_lt, refl, sym, ap, ◌∙◌, arith}
 use Rattle.std.proofs.lemmas.Bool.{cases_lt, lt-leb, le-ltb}
 use Rattle.std.proofs.lemmas.Bool.Decides.{nat_tests}
 use Rattle.gfx_model.specs.Number.{map_from}
@@ -7,7 +7,7 @@ use Rattle.gfx_model.specs.Vertex.{Color}
 use Rattle.gfx_model.specs.Pixel.{Pixel}
 use Rattle.int_raster.specs.Places.{deep_pixel, deep_pixels, spanned}
 use Rattle.int_raster.proofs.Along.{length-deep, deep-get}
-use Rattle.int_raster.proofs.Changes.{length-map_from, get_or-map_from, map_from-same, spans_joined}
+use Rattle.int_raster.proofs.Changes.{length-map_from, get_or-map_from, map_from-same}
 use mathlib.Core.Logic.{inl, inr}
 
 -- lists that agree at each place

@@ -1,5 +1,5 @@
 -- The depth test of a state word by the order of two depths.
-use Rattle.std.specs.Prelude.{◌≡◌, ◌≤◌, ◌<◌, ◌+◌, ◌*◌, ◌/◌, ◌%◌, ◌^◌, ℕ, ◌==◌, ◌&&◌, nat_lt, Bool, true, false, if◌then◌else◌, IfSome}
+use Rattle.std.specs.Prelude.{◌≡◌, ◌≤◌, ◌<◌, ◌+◌, ◌*◌, ◌/◌, ◌%◌, ◌^◌, ℕ, ◌==◌, nat_lt, Bool, true, false, if◌then◌else◌, IfSome}
 use Rattle.gfx_model.specs.Number.{u32_at}
 use Rattle.gfx_model.specs.Words.{depth_test_of, writes_depth}
 use Rattle.gfx_model.specs.Pixel.{passes_depth}

@@ -1,4 +1,4 @@
-use Rattle.std.proofs.Common.{◌≡◌, ◌≤◌, ◌<◌, ◌+◌, ◌∙◌, refl, sym, arith}
+use Rattle.std.proofs.Common.{◌+◌, ◌∙◌, refl, sym, arith}
 use Rattle.int_raster.specs.Places.{deep_pixels, spanned, in_row}
 use Rattle.int_raster.specs.Seen.{step_seen}
 use Rattle.int_raster.proofs.Changes.{span_none}
