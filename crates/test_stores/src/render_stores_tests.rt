@@ -79,19 +79,55 @@ const ENDED: [Command; 3] = [
     Command::Destroy { kind: 3, index: 7 },
 ];
 
+// Commands that are executed.
+fn executed(
+    alloc: Global,
+    stores: &mut RenderStores,
+    payloads: &[Vec<u8>],
+    commands: &[Command],
+) -> Result<(), AllocError> {
+    let row = row(alloc, commands)?;
+    execute_all(alloc, stores, payloads, &row)
+}
+
+// Whether the buffer has its bytes, the texture its texel, and there is the target; and the program.
+fn made(stores: &RenderStores) -> ([bool; 3], Option<ProgramKind>) {
+    let buffer = has_bytes(stores, &[1, 1, 2, 2]);
+    let texture = has_texel(stores, 7, [1, 2, 3, 4]);
+    let target = stores.textures.has_target(0);
+    ([buffer, texture, target], stores.programs.get(9))
+}
+
+// Whether the buffer has its bytes, and there is the texture; and the program.
+fn left(stores: &RenderStores) -> ([bool; 2], Option<ProgramKind>) {
+    let buffer = has_bytes(stores, &[1, 1, 2, 2]);
+    (
+        [buffer, stores.textures.has_texture(7)],
+        stores.programs.get(9),
+    )
+}
+
+// What is there when things were made, and what is left when they were destroyed.
+type Told = (
+    ([bool; 3], Option<ProgramKind>),
+    ([bool; 2], Option<ProgramKind>),
+);
+
+fn made_and_left(alloc: Global, stores: &mut RenderStores) -> Result<Told, AllocError> {
+    let payloads = payloads(alloc)?;
+    executed(alloc, stores, &payloads, &MADE)?;
+    let made = made(stores);
+    executed(alloc, stores, &payloads, &ENDED)?;
+    Ok((made, left(stores)))
+}
+
 #[test]
 fn things_made_and_destroyed(rt: HostRuntime) -> Result<(), Fail> {
-    let alloc = rt.alloc();
-    let mut stores = RenderStores::new(alloc, 2, 2)?;
-    let payloads = payloads(alloc)?;
-    execute_all(alloc, &mut stores, &payloads, &row(alloc, &MADE)?)?;
-    assert!(rt; has_bytes(&stores, &[1, 1, 2, 2]));
-    assert!(rt; has_texel(&stores, 7, [1, 2, 3, 4]));
-    assert!(rt; stores.textures.has_target(0));
-    assert_eq!(rt; stores.programs.get(9), Some(ProgramKind::Texture));
-    execute_all(alloc, &mut stores, &payloads, &row(alloc, &ENDED)?)?;
-    assert_eq!(rt; stores.programs.get(9), None);
-    assert!(rt; !stores.textures.has_texture(7));
-    assert!(rt; has_bytes(&stores, &[1, 1, 2, 2]));
+    let mut stores = RenderStores::new(rt.alloc(), 2, 2)?;
+    let told = made_and_left(rt.alloc(), &mut stores);
+    drop(stores);
+    let (made, left) = told?;
+    assert!(rt; made == ([true; 3], Some(ProgramKind::Texture)));
+    assert!(rt; left == ([true, false], None));
     Ok(())
 }
