@@ -84,6 +84,29 @@ fn job<'t, C: Naming>(
     Job::new(encoder, lines, names)
 }
 
+// A job without names, of an encoder of frame 0 with that number.
+fn begun_job<'t, C: Naming>(
+    alloc: Global,
+    shared: &'t Shared<C>,
+    api: &mut ApiSeat,
+    number: u8,
+    lines: &'t [EncLine],
+) -> Option<Job<'t, C>>
+    requires table { api_table api.old ≡ C.table }
+    requires frame { (api_view api.old).frame ≡ 0 }
+    requires number { (number < 8) × (count_of number (api_view api.old).off ≡ 0) }
+    requires room { length (api_view api.old).off + (api_view api.old).joined < 8 }
+    requires few { length lines.now ≤ 100 }
+    requires views { C.views ≡ fewest_views }
+    requires admits { (e f d : ℕ) (items : List SeenItem) → C.admits e f items d }
+    ensures table { api_table api.new ≡ C.table }
+    ensures api { api_view api.new ≡ lent number (api_view api.old) }
+{
+    let encoder = begun(alloc, shared, api, number)?;
+    let names = no_names(alloc)?;
+    Some(job(encoder, lines, names))
+}
+
 // Jobs of encoders 0 and 1.
 fn two_jobs<'t, C: Naming>(
     alloc: Global,
@@ -96,11 +119,9 @@ fn two_jobs<'t, C: Naming>(
     requires views { C.views ≡ fewest_views }
     requires admits { (e f d : ℕ) (items : List SeenItem) → C.admits e f items d }
 {
-    let a = begun(alloc, shared, &mut api, 0)?;
-    let b = begun(alloc, shared, &mut api, 1)?;
-    let a = job(a, lines, no_names(alloc)?);
-    let b = job(b, lines, no_names(alloc)?);
-    Some((a, b))
+    let one = begun_job(alloc, shared, &mut api, 0, lines)?;
+    let other = begun_job(alloc, shared, &mut api, 1, lines)?;
+    Some((one, other))
 }
 
 // An encoder's number, the numbers of its items behind each other as digits, and how many lines it dropped.
@@ -162,6 +183,16 @@ where
     });
 }
 
+fn new_desk<'t, C: Naming>(alloc: Global) -> Option<Arc<Desk<'t, C>, Global>> {
+    let Ok(desk) = Desk::new(alloc) else {
+        return None;
+    };
+    match Arc::new(alloc, desk) {
+        Ok(desk) => Some(desk),
+        Err(_) => None,
+    }
+}
+
 fn by_desk<'t, C, R, G>(
     rt: &R,
     alloc: Global,
@@ -179,13 +210,8 @@ where
     requires views { C.views ≡ fewest_views }
     requires admits { (e f d : ℕ) (items : List SeenItem) → C.admits e f items d }
 {
+    let desk = new_desk(alloc)?;
     let jobs = two_jobs(alloc, shared, api, lines)?;
-    let Ok(desk) = Desk::new(alloc) else {
-        return None;
-    };
-    let Ok(desk) = Arc::new(alloc, desk) else {
-        return None;
-    };
     recorded(rt, gate, desk, jobs);
     Some(collected(rt, shared))
 }

@@ -6,7 +6,7 @@ ghost use Rattle.draw_encoder.specs.Seen.{number_of, numbers_of};
 ghost use Rattle.frame_record.specs.Kept.{IsCollectable, numbers_in};
 ghost use Rattle.frame_record.specs.Seen.{recordings_seen};
 
-use cmd_buffer::CmdBuffer;
+use cmd_buffer::{CmdBuffer, CmdBytes};
 use draw_encoder::{
     BlitCall, BlitItem, Bytes, DrawItem, IndexSet, Item, Items, Recording, TouchItem, UniformSets,
     VertexSet,
@@ -106,7 +106,7 @@ fn plain_words() -> Option<Words> {
     Some(Words { state, stencil })
 }
 
-fn draw(words: Words, number: u64, view: u16, program: Handle, depth: u32) -> Item
+fn draw(words: &Words, number: u64, view: u16, program: &Handle, depth: u32) -> Item
     ensures { number_of result ≡ number }
 {
     let empty = Rect {
@@ -118,7 +118,7 @@ fn draw(words: Words, number: u64, view: u16, program: Handle, depth: u32) -> It
     Item::Draw(DrawItem {
         view,
         number,
-        program,
+        program: *program,
         depth,
         state: words.state,
         front: words.stencil,
@@ -137,12 +137,17 @@ fn entry(encoder: u8, ordinal: u32) -> JournalEntry {
     JournalEntry { encoder, ordinal }
 }
 
-fn entries(ordered: &[OrderedItem], alloc: Global) -> Result<Vec<JournalEntry>, AllocError> {
-    let mut all = Vec::new(alloc);
-    for item in ordered {
-        all.push(item.entry)?;
+// Whether the items are those of these entries, in this order.
+fn has_entries(ordered: &[OrderedItem], wanted: &[JournalEntry]) -> bool {
+    if ordered.len() != wanted.len() {
+        return false;
     }
-    Ok(all)
+    for (item, entry) in ordered.iter().zip(wanted.iter()) {
+        if item.entry != *entry {
+            return false;
+        }
+    }
+    true
 }
 
 // A recording of two items.
@@ -156,54 +161,87 @@ fn two(alloc: Global, encoder: u8, first: Item, second: Item) -> Result<Recordin
     Ok(recorded(alloc, encoder, items))
 }
 
+// The commands before and after a frame, none, and plain views.
+fn parts(alloc: Global) -> Result<(CmdBytes, CmdBytes, ViewTable), AllocError> {
+    let pre = CmdBuffer::new(alloc).finish()?;
+    let post = CmdBuffer::new(alloc).finish()?;
+    let views = ViewTable::new(alloc, 256)?;
+    Ok((pre, post, views))
+}
+
 // A frame of recordings that were made beside each other.
-fn framed(alloc: Global, views: ViewTable, recordings: Vec<Recording>) -> Result<Frame, Fail>
+fn framed(alloc: Global, recordings: Vec<Recording>) -> Result<Frame, AllocError>
     requires collectable { IsCollectable recordings.items }
     requires apart { (n : ℕ) → count_of n (numbers_in recordings.items) ≤ 1 }
     requires own { AreOfOwnEncoders (recordings_seen recordings.items) }
 {
     let journal = collect(alloc, &recordings)?;
-    let pre = CmdBuffer::new(alloc).finish()?;
-    let post = CmdBuffer::new(alloc).finish()?;
+    let (pre, post, views) = parts(alloc)?;
     Ok(Frame::new(0, views, pre, post, Vec::new(alloc), recordings, journal))
 }
 
 // A frame of two recordings: encoder 3 has the numbers 2 and 5, encoder 1 has 3 and 4.
 fn interleaved(
     alloc: Global,
-    views: ViewTable,
     first: Item,
     second: Item,
     third: Item,
     fourth: Item,
-) -> Result<Frame, Fail>
+) -> Result<Frame, AllocError>
     requires outer { (number_of first ≡ 2) × (number_of fourth ≡ 5) }
     requires inner { (number_of second ≡ 3) × (number_of third ≡ 4) }
 {
     let mut recordings = Vec::new(alloc);
     recordings.push(two(alloc, 3, first, fourth)?)?;
     recordings.push(two(alloc, 1, second, third)?)?;
-    framed(alloc, views, recordings)
+    framed(alloc, recordings)
+}
+
+// Whether the journal and the order are by the numbers.
+fn is_by_number(alloc: Global, frame: &Frame) -> Result<[bool; 2], AllocError> {
+    let by_number = [entry(3, 0), entry(1, 0), entry(1, 1), entry(3, 1)];
+    let mut all = Vec::new(alloc);
+    frame.ordered(&mut all)?;
+    Ok([
+        frame.journal.as_slice() == by_number.as_slice(),
+        has_entries(&all, &by_number),
+    ])
 }
 
 #[test]
 fn equal_keys_by_number(rt: HostRuntime) -> Result<(), Fail> {
-    let alloc = rt.alloc();
-    let views = ViewTable::new(alloc, 256)?;
     let frame = interleaved(
-        alloc,
-        views,
+        rt.alloc(),
         touch(0, 2),
         touch(0, 3),
         touch(0, 4),
         touch(0, 5),
     )?;
-    let by_number = [entry(3, 0), entry(1, 0), entry(1, 1), entry(3, 1)];
-    assert_eq!(rt; frame.journal.as_slice(), by_number.as_slice());
-    let mut all = Vec::new(alloc);
-    frame.ordered(&mut all)?;
-    assert_eq!(rt; entries(&all, alloc)?.as_slice(), by_number.as_slice());
+    let told = is_by_number(rt.alloc(), &frame);
+    drop(frame);
+    assert!(rt; told? == [true; 2]);
     Ok(())
+}
+
+// Of an order of two items: whether they are of these entries, and where the runs of positions 5 and 0 end. None where there are not two.
+fn two_placed(alloc: Global, frame: &Frame) -> Option<(bool, usize, usize)> {
+    let mut all = Vec::new(alloc);
+    let made = frame.ordered(&mut all);
+    frame.tell_facts();
+    if made.is_err() || all.len() != 2 {
+        return None;
+    }
+    let placed = has_entries(&all, &[entry(3, 0), entry(3, 1)]);
+    Some((placed, end_of_run(&all, 0, 5), end_of_run(&all, 0, 0)))
+}
+
+// Whether there is the second item of encoder 3, a third one of it, and one of encoder 4.
+fn items_of(frame: &Frame) -> [bool; 3] {
+    [
+        frame.item(entry(3, 1)).is_some(),
+        frame.item(entry(3, 2)).is_some(),
+        frame.item(entry(4, 0)).is_some(),
+    ]
 }
 
 // A draw of what is no program and one in a view past the last have no place in the order.
@@ -214,49 +252,48 @@ fn draws_without_a_place(rt: HostRuntime) -> Result<(), Fail> {
     let stray = Handle::of(Kind::Uniform, 3, 2, Info::Plain);
     let frame = interleaved(
         rt.alloc(),
-        ViewTable::new(rt.alloc(), 256)?,
-        draw(words, 2, 5, program, 7),
-        draw(words, 3, 5, stray, 7),
-        draw(words, 4, 256, program, 7),
-        draw(words, 5, 7, program, 7),
+        draw(&words, 2, 5, &program, 7),
+        draw(&words, 3, 5, &stray, 7),
+        draw(&words, 4, 256, &program, 7),
+        draw(&words, 5, 7, &program, 7),
     )?;
-    let mut all = Vec::new(rt.alloc());
-    let made = frame.ordered(&mut all);
-    frame.tell_facts();
-    assert!(rt; made.is_ok());
-    assert_eq!(rt; all.len(), 2);
-    let (first, last) = (all.first().map(|i| i.entry), all.last().map(|i| i.entry));
-    assert!(rt; first == Some(entry(3, 0)) && last == Some(entry(3, 1)));
-    assert_eq!(rt; (end_of_run(&all, 0, 5), end_of_run(&all, 0, 0)), (1, 0));
-    assert!(rt; frame.item(entry(3, 1)).is_some());
-    assert!(rt; frame.item(entry(3, 2)).is_none());
-    assert!(rt; frame.item(entry(4, 0)).is_none());
+    let placed = two_placed(rt.alloc(), &frame);
+    let items = items_of(&frame);
+    drop(frame);
+    assert_eq!(rt; (placed, items), (Some((true, 1, 0)), [true, false, false]));
     Ok(())
+}
+
+// Whether the blits are these, by the positions of their views and their numbers.
+fn are_placed(alloc: Global, frame: &Frame) -> Result<bool, AllocError> {
+    let mut all = Vec::new(alloc);
+    frame.blits(&mut all)?;
+    let wanted = [placed(5, 1, 0), placed(5, 3, 1), placed(7, 3, 0)];
+    Ok(all.as_slice() == wanted.as_slice())
+}
+
+// How many views are noted, and whether views 5, 6 and 7 are entered.
+fn entered(alloc: Global, frame: &Frame) -> Result<(usize, [Option<bool>; 3]), AllocError> {
+    let mut noted = Vec::new(alloc);
+    frame.entered(&mut noted)?;
+    let views = noted.as_slice();
+    Ok((
+        views.len(),
+        [
+            views.get(5).copied(),
+            views.get(6).copied(),
+            views.get(7).copied(),
+        ],
+    ))
 }
 
 #[test]
 fn blits_by_view_and_number(rt: HostRuntime) -> Result<(), Fail> {
-    let alloc = rt.alloc();
-    let views = ViewTable::new(alloc, 256)?;
-    let frame = interleaved(
-        alloc,
-        views,
-        blit(7, 2),
-        blit(5, 3),
-        blit(300, 4),
-        blit(5, 5),
-    )?;
-    let mut all = Vec::new(alloc);
-    frame.blits(&mut all)?;
-    assert_eq!(rt;
-        all.as_slice(),
-        [placed(5, 1, 0), placed(5, 3, 1), placed(7, 3, 0)].as_slice()
-    );
-    let mut entered = Vec::new(alloc);
-    frame.entered(&mut entered)?;
-    assert_eq!(rt; entered.len(), 256);
-    assert!(rt; entered.as_slice().get(5).copied() == Some(true));
-    assert!(rt; entered.as_slice().get(6).copied() == Some(false));
-    assert!(rt; entered.as_slice().get(7).copied() == Some(true));
+    let frame = interleaved(rt.alloc(), blit(7, 2), blit(5, 3), blit(300, 4), blit(5, 5))?;
+    let placed = are_placed(rt.alloc(), &frame);
+    let entered = entered(rt.alloc(), &frame);
+    drop(frame);
+    assert!(rt; placed?);
+    assert_eq!(rt; entered?, (256, [Some(true), Some(false), Some(true)]));
     Ok(())
 }

@@ -1,25 +1,22 @@
-// Frames with all their fields, by way of a render thread, at each latency.
+// Frames with all their fields, as they are given and come back.
 ghost use Rattle.std.specs.Prelude.{◌≡◌, ◌≢◌, ◌+◌, ◌∷◌, ◌++◌, [], ◌≤◌, IfOk, length, map};
 ghost use Rattle.gfx_model.specs.Frames.{AreOfOwnEncoders};
 ghost use Rattle.draw_encoder.specs.Seen.{number_of, numbers_of};
-ghost use Rattle.frame_record.specs.Links.{frames_of};
 ghost use Rattle.frame_record.specs.Seen.{recordings_seen};
-ghost use Rattle.frame_swap.specs.Ends.{api_table, api_knows, render_table, render_knows};
+ghost use Rattle.frame_swap.specs.Ends.{api_table, api_knows};
 
+use crate::frame_swap_tests::outcome_of;
 use cmd_buffer::{CmdBuffer, CmdBytes, Command};
 use draw_encoder::{
     BlitCall, BlitItem, Bytes, DrawItem, IndexSet, Item, Items, Recording, TouchItem, UniformSet,
     UniformSets, VertexSet,
 };
-use frame_record::{Frame, Outcome, RenderedFrame, collect};
-use frame_swap::{ApiEnd, RenderEnd, swap_pair};
+use frame_record::{Frame, RenderedFrame, collect};
+use frame_swap::ApiEnd;
 use gfx_words::{Handle, Info, Kind, UniformValue, ViewMode};
 use std::alloc::{AllocError, Global};
-use std::snapshot::Snapshot;
 use std::sync::Wait;
 use std::test::Fail;
-use std::thread;
-use std::thread::{Promise, Threads};
 use view_table::ViewTable;
 
 // The types that an item is made of.
@@ -122,15 +119,18 @@ fn recordings_of(alloc: Global, number: u8) -> Result<Vec<Recording>, AllocError
     four(alloc, number, 1, 5, 3, 7)
 }
 
-// The view of a frame's number is the first and is drawn by descending depth; the second is as far from the last view.
-fn views_of(alloc: Global, number: u8) -> Result<ViewTable, Fail> {
+// The view of a frame's number is the first and is drawn by descending depth; the second is as far from the last view. Neither is refused; where
+// one is, there is no frame.
+fn views_of(alloc: Global, number: u8) -> Result<ViewTable, AllocError> {
     let mut views = ViewTable::new(alloc, 256)?;
     let view = u16::from(number);
-    views.set_order(&[view, 255 - view]).map_err(|_| "order")?;
-    views
-        .set_mode(view, ViewMode::DepthDescending)
-        .map_err(|_| "mode")?;
-    Ok(views)
+    let order = views.set_order(&[view, 255 - view]);
+    let mode = views.set_mode(view, ViewMode::DepthDescending);
+    if order.is_ok() && mode.is_ok() {
+        Ok(views)
+    } else {
+        Err(AllocError)
+    }
 }
 
 // A row of one command, which destroys the thing of an index.
@@ -143,18 +143,27 @@ fn row(alloc: Global, kind: u8, index: u8) -> Result<CmdBytes, AllocError> {
     row.finish()
 }
 
+// One payload of three bytes, and one of none.
+fn payloads(alloc: Global, byte: u8) -> Result<Vec<Vec<u8>>, AllocError> {
+    let mut payloads = Vec::new(alloc);
+    payloads.push(Vec::from_elem(alloc, byte, 3)?)?;
+    payloads.push(Vec::new(alloc))?;
+    Ok(payloads)
+}
+
 // A frame whose fields all differ from those of the frames of the numbers beside its own.
-fn full_frame(alloc: Global, number: u8) -> Result<Frame, Fail> {
+fn full_frame(alloc: Global, number: u8) -> Result<Frame, AllocError> {
+    let pre = row(alloc, 1, number)?;
+    let post = row(alloc, 2, number)?;
+    let payloads = payloads(alloc, number)?;
+    let views = views_of(alloc, number)?;
     let recordings = recordings_of(alloc, number)?;
     let journal = collect(alloc, &recordings)?;
-    let mut payloads = Vec::new(alloc);
-    payloads.push(Vec::from_elem(alloc, number, 3)?)?;
-    payloads.push(Vec::new(alloc))?;
     Ok(Frame::new(
         u32::from(number),
-        views_of(alloc, number)?,
-        row(alloc, 1, number)?,
-        row(alloc, 2, number)?,
+        views,
+        pre,
+        post,
         payloads,
         recordings,
         journal,
@@ -223,43 +232,7 @@ fn equal_fields(one: &Frame, other: &Frame) -> [bool; 7] {
     ]
 }
 
-// ---- by way of a thread
-
-fn outcome_of(number: u32) -> Outcome {
-    match number % 4 {
-        0 => Outcome::Shown,
-        1 => Outcome::PictureFault,
-        2 => Outcome::OutOfMemory,
-        _ => Outcome::Skipped,
-    }
-}
-
-// Gives each frame back until the stop, with an outcome by its number.
-fn serve<R: Wait>(rt: &R, mut end: RenderEnd) -> RenderEnd
-    requires { ((render_knows end).taken ≡ []) × ((render_knows end).returned ≡ []) }
-    ensures { (render_table result ≡ render_table end) × ((render_knows result).taken ≡ frames_of (render_knows result).returned) }
-{
-    for _ in rt.forever() {
-        let Some(frame) = end.take(rt) else {
-            break;
-        };
-        let outcome = outcome_of(frame.number);
-        end.give_back(RenderedFrame { frame, outcome });
-    }
-    end
-}
-
-// What the render thread promises: it gave back each frame that it took.
-#[derive(Drop)]
-struct Served(Snapshot<RenderEnd>);
-
-impl Promise<RenderEnd> for Served {
-    ghost use Rattle.std.specs.Prelude.{◌≡◌};
-    ghost use Rattle.frame_record.specs.Links.{frames_of};
-    ghost use Rattle.frame_swap.specs.Ends.{render_table, render_knows};
-
-    ghost kept_by = { λ p r. (render_table r ≡ render_table p.0.value) × ((render_knows r).taken ≡ frames_of (render_knows r).returned) };
-}
+// ---- there and back
 
 // Takes the oldest frame back where as many are out as may be, and answers how many are out then.
 fn make_room<R: Wait>(
@@ -282,8 +255,8 @@ fn make_room<R: Wait>(
     out - 1
 }
 
-// Gives the frames, as many out at a time as may be, and takes all back.
-fn turns<R: Wait>(
+/// Gives the frames, as many out at a time as may be, and takes all back.
+pub(crate) fn turns<R: Wait>(
     rt: &R,
     alloc: Global,
     api: &mut ApiEnd,
@@ -309,72 +282,65 @@ fn turns<R: Wait>(
     came
 }
 
-// The same by way of a render thread.
-fn by_a_thread<R: Threads + Wait + Sync>(
-    rt: &R,
-    alloc: Global,
-    mut api: ApiEnd,
-    end: RenderEnd,
-    latency: u8,
-    frames: Vec<Frame>,
-) -> Option<Vec<RenderedFrame>>
-    requires api { ((api_knows api).given ≡ []) × ((api_knows api).back ≡ []) × (1 ≤ latency) × (api.latency ≡ latency) × (render_table end ≡ api_table api) }
-    requires end { ((render_knows end).taken ≡ []) × ((render_knows end).returned ≡ []) }
-{
-    thread::scope(
-        thread::scope_env(),
-        rt,
-        |scope|
-            requires api { ((api_knows api).given ≡ []) × ((api_knows api).back ≡ []) × (1 ≤ latency) × (api.latency ≡ latency) × (render_table end ≡ api_table api) }
-            requires end { ((render_knows end).taken ≡ []) × ((render_knows end).returned ≡ []) }
-        {
-            let promise = Served(Snapshot::of(&end));
-            let job = move || -> RenderEnd
-                requires { ((render_knows end).taken ≡ []) × ((render_knows end).returned ≡ []) }
-                ensures { (render_table result ≡ render_table end) × ((render_knows result).taken ≡ frames_of (render_knows result).returned) }
-            { serve(rt, end) };
-            match scope.spawn_with(promise, job) {
-                Ok(handle) => {
-                    let came = turns(rt, alloc, &mut api, latency, frames);
-                    api.stop();
-                    let end = handle.join(rt);
-                    api.close(end);
-                    Some(came)
-                }
-                Err(_) => None,
-            }
-        },
-    )
+/// The frames of the numbers 8 to 13.
+pub(crate) fn full_frames(alloc: Global) -> Result<Vec<Frame>, AllocError> {
+    let mut frames = Vec::new(alloc);
+    for number in 8..14 {
+        frames.push(full_frame(alloc, number)?)?;
+    }
+    Ok(frames)
 }
 
-#[test]
-fn frames_come_back_in_order_with_their_fields(rt: HostRuntime) -> Result<(), Fail> {
-    let alloc = rt.alloc();
-    for latency in 1..4u8 {
-        let mut frames = Vec::new(alloc);
-        for number in 8..14 {
-            frames.push(full_frame(alloc, number)?)?;
+// A frame came back with all fields of that number's frame, and with its outcome.
+fn is_whole(alloc: Global, back: &RenderedFrame, number: u8) -> bool {
+    match full_frame(alloc, number) {
+        Ok(given) => {
+            equal_fields(&back.frame, &given) == [true; 7]
+                && back.outcome == outcome_of(u32::from(number))
         }
-        let (api, end) = swap_pair(alloc, latency)?;
-        let came = by_a_thread(&rt, alloc, api, end, latency, frames).ok_or("no thread")?;
-        assert_eq!(rt; came.len(), 6);
-        let mut number = 8u8;
-        for back in came {
-            let given = full_frame(alloc, number)?;
-            assert_eq!(rt; equal_fields(&back.frame, &given), [true; 7]);
-            assert!(rt; back.outcome == outcome_of(u32::from(number)));
-            number = number.wrapping_add(1);
+        Err(_) => false,
+    }
+}
+
+/// How many frames came back, and how many of them as the frames of the numbers from 8 on.
+pub(crate) fn whole_of(alloc: Global, came: Vec<RenderedFrame>) -> (u32, u32) {
+    let mut count = 0u32;
+    let mut whole = 0u32;
+    let mut number = 8u8;
+    for back in came {
+        if is_whole(alloc, &back, number) {
+            whole = whole.wrapping_add(1);
+        }
+        count = count.wrapping_add(1);
+        number = number.wrapping_add(1);
+    }
+    (count, whole)
+}
+
+// Which fields of the frames of the numbers 8 and 9 are equal.
+fn two_frames(alloc: Global) -> Result<[bool; 7], AllocError> {
+    let one = full_frame(alloc, 8)?;
+    let other = full_frame(alloc, 9)?;
+    Ok(equal_fields(&one, &other))
+}
+
+// Whether a frame's journal has these entries.
+fn is_journal(frame: &Frame, entries: &[(u8, u32)]) -> bool {
+    if frame.journal.len() != entries.len() {
+        return false;
+    }
+    for (entry, (encoder, ordinal)) in frame.journal.iter().zip(entries.iter()) {
+        if (entry.encoder, entry.ordinal) != (*encoder, *ordinal) {
+            return false;
         }
     }
-    Ok(())
+    true
 }
 
 // The journal of four recordings that were made beside each other, by hand; and each field differs from one frame to the next.
 #[test]
 fn fields_tell_frames_apart(rt: HostRuntime) -> Result<(), Fail> {
-    let alloc = rt.alloc();
-    let (one, other) = (full_frame(alloc, 8)?, full_frame(alloc, 9)?);
-    assert_eq!(rt; equal_fields(&one, &other), [false; 7]);
+    let equal = two_frames(rt.alloc())?;
     let entries = [
         (4, 0),
         (2, 0),
@@ -385,9 +351,7 @@ fn fields_tell_frames_apart(rt: HostRuntime) -> Result<(), Fail> {
         (6, 1),
         (4, 1),
     ];
-    assert_eq!(rt; one.journal.len(), entries.len());
-    for (entry, (encoder, ordinal)) in one.journal.iter().zip(entries.iter()) {
-        assert!(rt; (entry.encoder, entry.ordinal) == (*encoder, *ordinal));
-    }
+    let ordered = is_journal(&full_frame(rt.alloc(), 8)?, &entries);
+    assert_eq!(rt; (equal, ordered), ([false; 7], true));
     Ok(())
 }

@@ -9,46 +9,28 @@ use std::test::Fail;
 use std::thread;
 use std::thread::Threads;
 
+// The answers come of a thing that is not there yet, created after the split, dying in the recorder's frame, and dead before the frame.
 #[test]
 fn words_of_places(rt: HostRuntime) -> Result<(), Fail> {
     let (table, mut api) = HoldTable::new(rt.alloc(), 0)?;
     let old = Handle::of(Kind::Layout, 0, 1, Info::Plain);
     let other = Handle::of(Kind::Layout, 0, 2, Info::Plain);
     let mut before = table.split(&mut api, 0);
-    assert_eq!(rt;
-        table.name(&mut before, old),
-        Err(Refusal::Stale { word: 0 })
-    );
+    let free = table.name(&mut before, old);
     table.place_live(&mut api, old);
-    assert_eq!(rt;
-        table.name(&mut before, old),
-        Ok(()),
-        "a thing created after the split"
-    );
-    assert_eq!(rt;
-        table.name(&mut before, other),
-        Err(Refusal::Stale { word: 5 })
-    );
+    let live = [table.name(&mut before, old), table.name(&mut before, other)];
     table.place_dying(&mut api, old);
-    assert_eq!(rt;
-        table.name(&mut before, old),
-        Ok(()),
-        "it dies in the recorder's frame"
-    );
-    assert_eq!(rt;
-        table.name(&mut before, other),
-        Err(Refusal::Stale { word: 6 })
-    );
+    let dying = [table.name(&mut before, old), table.name(&mut before, other)];
     table.join(&mut api, before);
     table.advance(&mut api);
     let mut after = table.split(&mut api, 0);
-    assert_eq!(rt;
-        table.name(&mut after, old),
-        Err(Refusal::Stale { word: 6 }),
-        "dead before the frame"
-    );
+    let dead = table.name(&mut after, old);
     table.join(&mut api, after);
     table.close(api);
+    assert_eq!(rt; free, Err(Refusal::Stale { word: 0 }));
+    assert_eq!(rt; live, [Ok(()), Err(Refusal::Stale { word: 5 })]);
+    assert_eq!(rt; dying, [Ok(()), Err(Refusal::Stale { word: 6 })]);
+    assert_eq!(rt; dead, Err(Refusal::Stale { word: 6 }));
     Ok(())
 }
 
@@ -59,12 +41,10 @@ fn word_of_a_third_serial(rt: HostRuntime) -> Result<(), Fail> {
     let other = Handle::of(Kind::Layout, 1, 4, Info::Plain);
     table.place_live(&mut api, third);
     let mut enc = table.split(&mut api, 7);
-    assert_eq!(rt;
-        table.name(&mut enc, other),
-        Err(Refusal::Stale { word: 13 })
-    );
+    let answer = table.name(&mut enc, other);
     table.join(&mut api, enc);
     table.close(api);
+    assert_eq!(rt; answer, Err(Refusal::Stale { word: 13 }));
     Ok(())
 }
 
@@ -76,14 +56,11 @@ fn word_of_a_later_death(rt: HostRuntime) -> Result<(), Fail> {
     table.place_live(&mut api, thing);
     table.place_dying(&mut api, thing);
     let mut enc = table.split(&mut api, 0);
-    assert_eq!(rt;
-        table.name(&mut enc, other),
-        Err(Refusal::Stale {
-            word: 17_179_869_190
-        })
-    );
+    let answer = table.name(&mut enc, other);
     table.join(&mut api, enc);
     table.close(api);
+    let word = 17_179_869_190;
+    assert_eq!(rt; answer, Err(Refusal::Stale { word }));
     Ok(())
 }
 
@@ -96,12 +73,10 @@ fn word_of_a_freed_place(rt: HostRuntime) -> Result<(), Fail> {
     table.advance(&mut api);
     table.place_free(&mut api, 0);
     let mut enc = table.split(&mut api, 0);
-    assert_eq!(rt;
-        table.name(&mut enc, thing),
-        Err(Refusal::Stale { word: 0 })
-    );
+    let answer = table.name(&mut enc, thing);
     table.join(&mut api, enc);
     table.close(api);
+    assert_eq!(rt; answer, Err(Refusal::Stale { word: 0 }));
     Ok(())
 }
 
@@ -115,6 +90,11 @@ fn draw_two(table: &HoldTable, mut enc: EncSeat) -> (u64, u64, EncSeat)
     let first = table.draw_number(&mut enc);
     let second = table.draw_number(&mut enc);
     (first, second, enc)
+}
+
+// No number is in both.
+fn are_apart(one: [u64; 2], other: [u64; 2]) -> bool {
+    one[0] != other[0] && one[0] != other[1] && one[1] != other[0] && one[1] != other[1]
 }
 
 #[test]
@@ -131,9 +111,10 @@ fn two_recorders(rt: HostRuntime) -> Result<(), Fail> {
     table.join(&mut api, a.2);
     table.join(&mut api, b.2);
     let next = table.advance(&mut api);
-    assert!(rt; next == 4 && a.1 < 4 && b.1 < 4);
-    assert!(rt; a.0 != b.0 && a.0 != b.1 && a.1 != b.0 && a.1 != b.1);
     table.close(api);
+    let (one, other) = ([a.0, a.1], [b.0, b.1]);
+    assert_eq!(rt; (next, are_apart(one, other)), (4, true));
+    assert!(rt; one[1] < 4 && other[1] < 4);
     Ok(())
 }
 
@@ -155,11 +136,12 @@ fn unused_seat(rt: HostRuntime) -> Result<(), Fail> {
     begin_and_join(&table, &mut api, 3);
     begin_and_join(&table, &mut api, 3);
     let mut enc = table.split(&mut api, 3);
-    assert_eq!(rt; table.draw_number(&mut enc), 0);
+    let number = table.draw_number(&mut enc);
     table.join(&mut api, enc);
     begin_and_join(&table, &mut api, 3);
-    assert_eq!(rt; table.advance(&mut api), 1);
+    let next = table.advance(&mut api);
     table.close(api);
+    assert_eq!(rt; (number, next), (0, 1));
     Ok(())
 }
 
@@ -212,17 +194,15 @@ fn three_frames(rt: HostRuntime) -> Result<(), Fail> {
     let thing = Handle::of(Kind::Program, 2, 1, Info::Plain);
     table.place_live(&mut api, thing);
     let live = one_frame(&rt, &table, &mut api, thing);
-    assert_eq!(rt; live, (Ok(()), Ok(()), true, 2));
     table.place_dying(&mut api, thing);
     let dying = one_frame(&rt, &table, &mut api, thing);
-    assert_eq!(rt; dying, (Ok(()), Ok(()), true, 4));
     let dead = one_frame(&rt, &table, &mut api, thing);
-    assert_eq!(rt; dead.0, dead.1);
-    let word = 137_438_953_478;
-    assert_eq!(rt;
-        (dead.0, dead.2, dead.3),
-        (Err(Refusal::Stale { word }), true, 6)
-    );
     table.close(api);
+    assert_eq!(rt; live, (Ok(()), Ok(()), true, 2));
+    assert_eq!(rt; dying, (Ok(()), Ok(()), true, 4));
+    let word = 137_438_953_478;
+    assert_eq!(rt; dead.0, Err(Refusal::Stale { word }));
+    assert_eq!(rt; dead.1, Err(Refusal::Stale { word }));
+    assert_eq!(rt; (dead.2, dead.3), (true, 6));
     Ok(())
 }

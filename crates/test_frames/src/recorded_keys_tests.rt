@@ -29,15 +29,15 @@ fn put(items: &mut Vec<Item>, item: Item) -> Result<(), AllocError> {
     Ok(())
 }
 
-fn draw(state: StateWord, stencil: StencilWord, view: u16, depth: u32) -> Item {
+fn draw(words: &Words, view: u16, depth: u32) -> Item {
     Item::Draw(DrawItem {
         view,
         number: 0,
         program: Handle::of(Kind::Program, 3, 1, Info::Plain),
         depth,
-        state,
-        front: stencil,
-        back: stencil,
+        state: words.state,
+        front: words.stencil,
+        back: words.stencil,
         scissor: Rect {
             x: 0,
             y: 0,
@@ -97,33 +97,59 @@ fn recording(alloc: Global, encoder: u8, items: Vec<Item>) -> Result<Recording, 
     })
 }
 
+// A recording of these items.
+fn recorded(alloc: Global, encoder: u8, items: &[Item]) -> Result<Recording, AllocError> {
+    let mut all = Vec::new(alloc);
+    for item in items {
+        put(&mut all, *item)?;
+    }
+    recording(alloc, encoder, all)
+}
+
+// What each draw has.
+#[derive(Clone, Copy, Drop)]
+struct Words {
+    state: StateWord,
+    stencil: StencilWord,
+}
+
+// The recordings of three encoders.
+fn three(alloc: Global, words: &Words) -> Result<Vec<Recording>, AllocError> {
+    let first = [draw(words, 7, 5), touch(4, 0), draw(words, 9, 5)];
+    let second = [draw(words, 3, 9), touch(4, 0), blit(0), draw(words, 9, 6)];
+    let third = [blit(0), touch(3, 1), draw(words, 7, 5)];
+    let mut recordings = Vec::new(alloc);
+    recordings.push(recorded(alloc, 2, &third)?)?;
+    recordings.push(recorded(alloc, 0, &first)?)?;
+    recordings.push(recorded(alloc, 1, &second)?)?;
+    Ok(recordings)
+}
+
+// Views of which the one of number 3 is Sequential.
+fn views(alloc: Global) -> Result<ViewTable, Fail> {
+    let mut views = ViewTable::new(alloc, 256)?;
+    views.set_mode(3, ViewMode::Sequential).map_err(|_| "mode")?;
+    Ok(views)
+}
+
+fn words() -> Result<Words, Fail> {
+    let state = StateWord::read(15).map_err(|_| "state")?;
+    let stencil = StencilWord::read(0).map_err(|_| "stencil")?;
+    Ok(Words { state, stencil })
+}
+
+// Whether the shared views of the recordings are these.
+fn are_shared(alloc: Global, words: &Words, wanted: &[SharedView]) -> Result<bool, Fail> {
+    let views = views(alloc)?;
+    let recordings = three(alloc, words)?;
+    let found = recorded_views(alloc, &views, &recordings);
+    Ok(found?.as_slice() == wanted)
+}
+
 // View 3 is Sequential. In view 7 two draws have depth 5; in view 4 the touches carry nothing; in view 9 the depths differ.
 #[test]
 fn views_of_three_encoders(rt: HostRuntime) -> Result<(), Fail> {
-    let alloc = rt.alloc();
-    let state = StateWord::read(15).map_err(|_| "state")?;
-    let stencil = StencilWord::read(0).map_err(|_| "stencil")?;
-    let mut views = ViewTable::new(alloc, 256)?;
-    views.set_mode(3, ViewMode::Sequential).map_err(|_| "mode")?;
-    let mut first = Vec::new(alloc);
-    put(&mut first, draw(state, stencil, 7, 5))?;
-    put(&mut first, touch(4, 0))?;
-    put(&mut first, draw(state, stencil, 9, 5))?;
-    let mut second = Vec::new(alloc);
-    put(&mut second, draw(state, stencil, 3, 9))?;
-    put(&mut second, touch(4, 0))?;
-    put(&mut second, blit(0))?;
-    put(&mut second, draw(state, stencil, 9, 6))?;
-    let mut third = Vec::new(alloc);
-    put(&mut third, blit(0))?;
-    put(&mut third, touch(3, 1))?;
-    put(&mut third, draw(state, stencil, 7, 5))?;
-    let mut recordings = Vec::new(alloc);
-    recordings.push(recording(alloc, 2, third)?)?;
-    recordings.push(recording(alloc, 0, first)?)?;
-    recordings.push(recording(alloc, 1, second)?)?;
-    let found = recorded_views(alloc, &views, &recordings)?;
-    let expected = [
+    let wanted = [
         SharedView {
             view: 0,
             first: 1,
@@ -140,6 +166,7 @@ fn views_of_three_encoders(rt: HostRuntime) -> Result<(), Fail> {
             second: 2,
         },
     ];
-    assert_eq!(rt; found.as_slice(), expected.as_slice());
+    let words = words()?;
+    assert!(rt; are_shared(rt.alloc(), &words, &wanted)?);
     Ok(())
 }
