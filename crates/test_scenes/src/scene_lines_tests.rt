@@ -7,21 +7,24 @@ use resource_book::{Book, Start};
 use scene_lines::play_lines;
 use scene_text::{LayoutPart, ResLine, SceneName, Sequence};
 use std::alloc::{AllocError, Global};
-use std::process::Abort;
 use vertex_layout::{Attr, AttrType};
 use view_table::Clear;
 
-#[test]
-fn names_stand_for_what_the_last_accepted_create_made(rt: HostRuntime) -> Result<(), AllocError> {
-    let mut book = Book::new(
-        rt.alloc(),
+fn new_book(alloc: Global) -> Result<Book, AllocError> {
+    Book::new(
+        alloc,
         Start {
             frame: 0,
             serial: 1,
             views: 256,
             latency: 1,
         },
-    )?;
+    )
+}
+
+// A program is made, destroyed twice, and made again of another kind, and a uniform whose name has no bytes is made: how many lines are
+// dropped, and what the two names stand for.
+fn five_lines(alloc: Global, book: &mut Book) -> Result<(u32, [Option<Handle>; 2]), AllocError> {
     let mut handles: [Option<Handle>; 2] = [None; 2];
     let lines = [
         ResLine::Program {
@@ -39,14 +42,18 @@ fn names_stand_for_what_the_last_accepted_create_made(rt: HostRuntime) -> Result
             kind: UniformKind::Int,
         },
     ];
-    let dropped = play_lines(rt.alloc(), &mut book, &mut handles, &[], &lines)?;
-    // the second destroy is of a dead thing, and the uniform's name has no bytes
-    assert_eq!(rt; dropped, 2);
-    assert_eq!(rt;
-        handles[0],
-        Some(Handle::of(Kind::Program, 1, 2, Info::Plain))
-    );
-    assert_eq!(rt; handles[1], None);
+    let dropped = play_lines(alloc, book, &mut handles, &[], &lines)?;
+    Ok((dropped, handles))
+}
+
+// The second destroy is of a dead thing, and the uniform's name has no bytes.
+#[test]
+fn names_stand_for_what_the_last_accepted_create_made(rt: HostRuntime) -> Result<(), AllocError> {
+    let mut book = new_book(rt.alloc())?;
+    let told = five_lines(rt.alloc(), &mut book);
+    drop(book);
+    let program = Some(Handle::of(Kind::Program, 1, 2, Info::Plain));
+    assert!(rt; told? == (2, [program, None]));
     Ok(())
 }
 
@@ -79,6 +86,7 @@ fn creates(
     };
     let parts = Vec::from_slice(alloc, &[part])?;
     let text = Vec::from_slice(alloc, b"u")?;
+    let (vertices, indices) = (zeros(alloc, 4)?, zeros(alloc, 2)?);
     let names = [SceneName {
         text: Sequence::from_vec(text),
     }];
@@ -94,11 +102,11 @@ fn creates(
         ResLine::VertexBuffer {
             name: 2,
             layout: 1,
-            bytes: zeros(alloc, 4)?,
+            bytes: vertices,
         },
         ResLine::IndexBuffer {
             name: 3,
-            bytes: zeros(alloc, 2)?,
+            bytes: indices,
         },
         ResLine::Texture {
             name: 4,
@@ -128,16 +136,17 @@ fn changes(
     handles: &mut [Option<Handle>],
 ) -> Result<u32, AllocError> {
     let views = Vec::from_slice(alloc, &[1u16, 0])?;
+    let (vertices, texels) = (zeros(alloc, 4)?, zeros(alloc, 4)?);
     let lines = [
         ResLine::Update {
             name: 2,
             offset: 0,
-            bytes: zeros(alloc, 4)?,
+            bytes: vertices,
         },
         ResLine::TexUpdate {
             name: 4,
             rect: ALL,
-            bytes: zeros(alloc, 4)?,
+            bytes: texels,
         },
         ResLine::Order {
             views: Sequence::from_vec(views),
@@ -178,25 +187,24 @@ fn sets(alloc: Global, book: &mut Book, handles: &mut [Option<Handle>]) -> Resul
     play_lines(alloc, book, handles, &[], &lines)
 }
 
+// How many lines are dropped: of changes and of sets where no name stands for anything, of creates, of both again, and of changes once more.
+fn each_form(alloc: Global, book: &mut Book) -> Result<[u32; 6], AllocError> {
+    let mut handles: [Option<Handle>; 7] = [None; 7];
+    let changed_none = changes(alloc, book, &mut handles)?;
+    let set_none = sets(alloc, book, &mut handles)?;
+    let created = creates(alloc, book, &mut handles)?;
+    let set = sets(alloc, book, &mut handles)?;
+    let changed = changes(alloc, book, &mut handles)?;
+    let again = changes(alloc, book, &mut handles)?;
+    Ok([changed_none, set_none, created, set, changed, again])
+}
+
+// In the end the program was destroyed.
 #[test]
 fn each_form_of_line_is_played(rt: HostRuntime) -> Result<(), AllocError> {
-    let mut book = Book::new(
-        rt.alloc(),
-        Start {
-            frame: 0,
-            serial: 1,
-            views: 256,
-            latency: 1,
-        },
-    )?;
-    let mut handles: [Option<Handle>; 7] = [None; 7];
-    // no name stands for anything
-    assert_eq!(rt; changes(rt.alloc(), &mut book, &mut handles)?, 3);
-    assert_eq!(rt; sets(rt.alloc(), &mut book, &mut handles)?, 1);
-    assert_eq!(rt; creates(rt.alloc(), &mut book, &mut handles)?, 0);
-    assert_eq!(rt; sets(rt.alloc(), &mut book, &mut handles)?, 0);
-    assert_eq!(rt; changes(rt.alloc(), &mut book, &mut handles)?, 0);
-    // the program was destroyed
-    assert_eq!(rt; changes(rt.alloc(), &mut book, &mut handles)?, 1);
+    let mut book = new_book(rt.alloc())?;
+    let told = each_form(rt.alloc(), &mut book);
+    drop(book);
+    assert_eq!(rt; told?, [3, 1, 0, 0, 0, 1]);
     Ok(())
 }

@@ -78,27 +78,21 @@ fn first_fault(alloc: Global, text: &[u8], numbers: [u32; 4]) -> Result<Option<u
     Ok(fault_place(&journal, &accepted))
 }
 
+// Texts, how many items the encoders have in both frames, and the place of the first fault.
+static LAWFUL: [(&[u8], [u32; 4], Option<u32>); 6] = [
+    (b"j 1:0 0:0\nj 1:0 1:1\n", [1, 1, 0, 2], None),
+    (b"j 0:0 1:0\nj 1:2\n", [1, 1, 0, 3], Some(2)),
+    (b"j 0:0\nj\n", [1, 1, 0, 0], Some(1)),
+    (b"j 0:0 2:0\nj\n", [1, 1, 0, 0], Some(1)),
+    (b"j 0:0 0:1\nj\n", [1, 1, 0, 0], Some(1)),
+    (b"j 0:0\nj 0:0\n", [1, 0, 1, 1], Some(2)),
+];
+
 #[test]
 fn a_lawful_journal_has_each_item_once(rt: HostRuntime) -> Result<(), Fail> {
-    let alloc = rt.alloc();
-    assert_eq!(rt;
-        first_fault(alloc, b"j 1:0 0:0\nj 1:0 1:1\n", [1, 1, 0, 2])?,
-        None
-    );
-    assert_eq!(rt; first_fault(alloc, TEXT, [1, 1, 0, 3])?, Some(2));
-    assert_eq!(rt; first_fault(alloc, b"j 0:0\nj\n", [1, 1, 0, 0])?, Some(1));
-    assert_eq!(rt;
-        first_fault(alloc, b"j 0:0 2:0\nj\n", [1, 1, 0, 0])?,
-        Some(1)
-    );
-    assert_eq!(rt;
-        first_fault(alloc, b"j 0:0 0:1\nj\n", [1, 1, 0, 0])?,
-        Some(1)
-    );
-    assert_eq!(rt;
-        first_fault(alloc, b"j 0:0\nj 0:0\n", [1, 0, 1, 1])?,
-        Some(2)
-    );
+    for (text, numbers, wanted) in LAWFUL {
+        assert_eq!(rt; first_fault(rt.alloc(), text, numbers)?, wanted);
+    }
     Ok(())
 }
 
