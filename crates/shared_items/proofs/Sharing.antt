@@ -39,7 +39,7 @@ pair-shares share encoders v x e =
     pair-with : ℕ → ℕ → ℕ × ℕ
     pair-with a b = (a, b)
 
-view-shares : (share : Sharing) (encoders views : ℕ) (x : ℕ × (ℕ × ℕ)) → In x (sharing_views share encoders views) → share x.0 x.1.0 x.1.1 ≡ true
+pub view-shares : (share : Sharing) (encoders views : ℕ) (x : ℕ × (ℕ × ℕ)) → In x (sharing_views share encoders views) → share x.0 x.1.0 x.1.1 ≡ true
 view-shares share encoders views x i =
     let one = member-of-filter_map (λ v. option_map (λ y. view-with v y) (least_pair share encoders v)) (range_with_len 0 views) x i in
     let two = map-some (view-with one.0) (least_pair share encoders one.0) x one.2 in
