@@ -7,11 +7,10 @@ use Rattle.gfx_model.specs.Frames.{Entry}
 use Rattle.gfx_model.specs.Views.{Views, view_count}
 use Rattle.gfx_model.specs.World.{Item, view_of_item, is_of_view}
 use Rattle.scene_model.specs.Fold.{Accepted, FramePlan, nothing_accepted}
-use Rattle.scene_model.specs.Journal.{Tagged, item_of, share_key, clashes}
-use Rattle.scene_model.proofs.OneSource.{bool-same}
+use Rattle.scene_model.specs.Journal.{Tagged, clashes}
 use Rattle.shared_keys.specs.declared.marks.Mark.{Mark}
 use Rattle.shared_keys.specs.declared.marks.SharedView.{SharedView}
-use Rattle.shared_keys.specs.Marks.{same_kind, is_one_key, can_clash, mark_of, shared_seen, IsThere}
+use Rattle.shared_keys.specs.Marks.{same_kind, can_clash, mark_of, shared_seen, IsThere}
 use Rattle.shared_keys.specs.Members.{In}
 use Rattle.shared_keys.proofs.Clashes.{one-key-is, can-both, member-at}
 use Rattle.shared_keys.proofs.Members.{member-has}

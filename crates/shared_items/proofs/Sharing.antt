@@ -1,18 +1,17 @@
 -- Each view in which two encoders share a key has its least pair of items.
-use Rattle.std.proofs.Common.{◌≡◌, ℕ, zero, suc, ◌+◌, ◌-◌, ◌<◌, ◌≤◌, inl, inr, Bool, true, false, ◌&&◌, ◌==◌, cond, is_some, List, [], ◌∷◌, map, length, filter_map, slice_get, Option, Some, None, option_map, option_and_then, refl, sym, ap, subst, ◌∙◌, arith}
+use Rattle.std.proofs.Common.{◌≡◌, ℕ, zero, suc, ◌+◌, ◌-◌, ◌<◌, inl, inr, true, ◌==◌, is_some, List, [], ◌∷◌, map, length, filter_map, slice_get, Option, Some, None, option_map, option_and_then, refl, sym, ap, subst, ◌∙◌, arith}
 use Rattle.std.specs.Prelude.{slice_index_or}
-use Rattle.std.specs.List.{find, range_with_len, cons_option, AllByRecursion}
-use Rattle.gfx_model.specs.Frames.{Entry}
-use Rattle.gfx_model.specs.Views.{Views, view_count}
+use Rattle.std.specs.List.{find, range_with_len, cons_option}
+use Rattle.gfx_model.specs.Views.{view_count}
 use Rattle.gfx_model.specs.World.{Item, view_of_item, is_of_view}
 use Rattle.scene_model.specs.Fold.{Accepted, FramePlan, nothing_accepted}
-use Rattle.scene_model.specs.Journal.{Tagged, tagged_from, item_of, share_key}
+use Rattle.scene_model.specs.Journal.{Tagged, tagged_from, share_key}
 use Rattle.shared_keys.specs.Members.{In}
 use Rattle.shared_keys.specs.Pairs.{Sharing, partner_of, least_pair, sharing_views}
 use Rattle.shared_keys.specs.Lines.{encoders_share, shared_views}
 use Rattle.shared_keys.proofs.Order.{both}
-use Rattle.shared_keys.proofs.Clashes.{IsOf, of-tagged, of-encoders, at-below, member-of-filter_map}
-use Rattle.shared_items.specs.Items.{ItemSharing, tagged_share, tagged_at, items_share, count_of, least_items, pair_of, pair_in, frame_pairs, view_of_pair}
+use Rattle.shared_keys.proofs.Clashes.{of-tagged, of-encoders, at-below, member-of-filter_map}
+use Rattle.shared_items.specs.Items.{tagged_share, tagged_at, items_share, count_of, least_items, pair_of, pair_in, view_of_pair}
 use Rattle.shared_items.specs.Laws.{PairsLaw}
 use Rattle.shared_items.proofs.Finds.{find_holds, least_some}
 

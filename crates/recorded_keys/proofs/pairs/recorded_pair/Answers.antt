@@ -1,6 +1,4 @@
-use Rattle.std.proofs.Common.{◌≡◌, ◌∙◌, map, List}
-use Rattle.std.specs.Prelude.{Option}
-use Rattle.shared_keys.specs.declared.marks.Mark.{Mark}
+use Rattle.std.proofs.Common.{◌≡◌, ◌∙◌, map}
 use Rattle.shared_keys.specs.Marks.{shared_seen}
 use Rattle.draw_encoder.specs.Bundles.{items_of}
 use Rattle.recorded_keys.specs.Pairs.{clash_mark, pair_by_marks}

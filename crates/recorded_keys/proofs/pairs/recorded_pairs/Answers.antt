@@ -1,4 +1,4 @@
-use Rattle.std.proofs.Common.{◌≡◌, ◌∙◌, ap, filter_map, map, List}
+use Rattle.std.proofs.Common.{◌∙◌, ap, filter_map, map, List}
 use Rattle.shared_keys.specs.declared.marks.SharedView.{SharedView}
 use Rattle.shared_keys.specs.Marks.{shared_seen}
 use Rattle.shared_items.specs.Items.{pair_in}

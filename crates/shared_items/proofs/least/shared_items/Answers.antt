@@ -1,4 +1,3 @@
-use Rattle.std.proofs.Common.{sym, ap, ◌∙◌}
 use Rattle.std.specs.Prelude.{length}
 use Rattle.shared_items.specs.Marked.{clash_at}
 use Rattle.shared_items.proofs.Finds.{least_found, least_next}

@@ -1,5 +1,5 @@
 use Rattle.std.proofs.Common.{◌≡◌, ◌-◌, length}
-use Rattle.std.specs.Prelude.{is_some, slice_index_or, None}
+use Rattle.std.specs.Prelude.{is_some}
 use Rattle.std.specs.List.{find, range_with_len}
 use Rattle.shared_items.specs.Items.{partner_item}
 use Rattle.shared_items.specs.Marked.{clash_at}

@@ -1,4 +1,4 @@
-use Rattle.std.proofs.Common.{◌≡◌, List, ℕ, ◌++◌, ap, ◌∙◌}
+use Rattle.std.proofs.Common.{◌≡◌, List, ℕ, ◌++◌, ◌∙◌}
 use Rattle.gfx_model.specs.Frames.{Entry}
 use Rattle.shared_items.specs.Items.{view_of_pair}
 use Rattle.shared_keys.specs.Lines.{shared_line}
