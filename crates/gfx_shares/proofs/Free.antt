@@ -49,14 +49,14 @@ no_line old new text lines put was =
 
 silent_from : PairsLaw → (bytes : List ℕ) (s : Scene) (k : ℕ) (ps : List FramePlan) → (pairs_from bytes s k (map frame_pairs ps) ≡ []) ↔ (lines_from k ps ≡ [])
 silent_from law bytes s k [] = ((λ e. refl), (λ e. refl))
-silent_from law bytes s k (p ∷ ps) = go (frame_pairs p) (shared_views p) (law p)
+silent_from law bytes s k (p ∷ ps) = go (silent_from law bytes s (k + 1) ps) (frame_pairs p) (shared_views p) (law p)
   where
-    go : (pairs : List (ℕ × (Entry × Entry))) (views : List (ℕ × (ℕ × ℕ))) → map view_of_pair pairs ≡ views
+    go : ((pairs_from bytes s (k + 1) (map frame_pairs ps) ≡ []) ↔ (lines_from (k + 1) ps ≡ [])) → (pairs : List (ℕ × (Entry × Entry))) (views : List (ℕ × (ℕ × ℕ))) → map view_of_pair pairs ≡ views
         → (paired_lines k (item_lines bytes s k) pairs ++ pairs_from bytes s (k + 1) (map frame_pairs ps) ≡ []) ↔ (frame_lines k views ++ lines_from (k + 1) ps ≡ [])
-    go [] [] e = silent_from law bytes s (k + 1) ps
-    go [] (v ∷ vs) e = absurd (cc e)
-    go (x ∷ xs) [] e = absurd (cc e)
-    go (x ∷ xs) (v ∷ vs) e = ((λ h. absurd (cc h)), (λ h. absurd (cc h)))
+    go rest [] [] e = rest
+    go rest [] (v ∷ vs) e = absurd (cc e)
+    go rest (x ∷ xs) [] e = absurd (cc e)
+    go rest (x ∷ xs) (v ∷ vs) e = ((λ h. absurd (cc h)), (λ h. absurd (cc h)))
 
 -- a job's lines are none exactly where no view is shared
 text_silent : PairsLaw → (job : Job) (bytes : List ℕ) (s : Scene) → (text_of job bytes s ≡ []) ↔ (shared_lines s ≡ [])

@@ -1,11 +1,11 @@
 -- Lists of the frames of a scene, and their lines.
-use Rattle.std.proofs.Common.{◌≡◌, ℕ, zero, suc, ◌+◌, ◌<◌, ◌≤◌, Bool, true, false, not, List, [], ◌∷◌, ◌++◌, map, length, take, drop, Some, refl, sym, ap, ◌∙◌, subst, arith, slice_get, get_or}
+use Rattle.std.proofs.Common.{◌≡◌, ℕ, ◌+◌, ◌<◌, ◌≤◌, Bool, true, false, not, List, [], ◌∷◌, ◌++◌, map, length, take, drop, Some, refl, sym, ap, ◌∙◌, arith, slice_get, get_or}
 use Rattle.std.proofs.lemmas.List.{length-map, map-append, take_all, append_assoc, append-nil, drop_more, drop_all, get_or-map}
 use Rattle.std.specs.declared.vec.Vec.{Vec}
 use Rattle.scene_model.specs.Scene.{Scene}
 use Rattle.scene_model.specs.Fold.{FramePlan, plans}
 use Rattle.scene_model.specs.Journal.{Entry, Journal}
-use Rattle.shared_keys.specs.Lines.{shared_views, frame_lines, lines_from, shared_lines}
+use Rattle.shared_keys.specs.Lines.{shared_views, frame_lines, lines_from}
 use Rattle.scene_progress.specs.Laws.{PlanCountLaw}
 use Rattle.shared_keys.specs.declared.marks.SharedView.{SharedView}
 use Rattle.shared_keys.specs.Marks.{shared_seen}

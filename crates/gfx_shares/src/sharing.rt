@@ -151,9 +151,9 @@ fn run<R: Threads + Wait + Sync, S: Source, N: Sink>(
 /// key, the frames and in each frame the views ascending. Without a word that is the line `frame K view V encoders A B`, A and B the least
 /// pair of such encoders. With the word `pairs` there is a second line behind it,
 /// `pair frame K view V encoder A item I line L encoder B item J line M`: item I of encoder A and item J of encoder B share a key, I is the
-/// first item of A that shares one with an item of B in the view, and J the first of those; L and M are the numbers of the lines of the
-/// text that record them, from 1. Other words are refused, and nothing is read. Where it is done and no line was put, the pictures do not depend on the threads'
-/// schedule.
+/// first item of A that shares one with an item of B in the view, and J the first item of B that shares one with it; L and M are the
+/// numbers of the lines of the text that record them, from 1. Other words are refused, and nothing is read. Where it is done and no line
+/// was put, the pictures do not depend on the threads' schedule.
 ///
 /// All frames are recorded, by recorder threads where they can be started, before a line is put; none is rendered. Resource calls of
 /// the scene's lines that are refused are dropped, as in a play.

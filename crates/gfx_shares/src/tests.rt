@@ -163,7 +163,8 @@ fn pairs_and_a_write_that_fails(rt: HostRuntime) -> Result<(), Fail> {
         capacity: 30,
         ..pairs
     };
-    let lines = b"frame 1 view 3 encoders 0 1\npair frame 1 view 3 encoder 0 item 0 line 9 encoder 1 item 0 line 11\n";
+    let lines =
+        b"frame 1 view 3 encoders 0 1\npair frame 1 view 3 encoder 0 item 0 line 9 encoder 1 item 0 line 11\n";
     let (done, _, whole) = left_by(&rt, rt.alloc(), pairs, lines)?;
     let (cut, _, front) = left_by(&rt, rt.alloc(), short, b"frame 1 view 3 encoders 0 1\npa")?;
     assert_eq!(rt; (done, whole), (SharesStatus::Done, true));
@@ -196,7 +197,10 @@ fn long_left<R: Threads + Wait + Sync>(
 fn an_input_that_is_too_long(rt: HostRuntime) -> Result<(), Fail> {
     let (length, (longest, _, same)) = long_left(&rt, rt.alloc(), 16_777_028)?;
     let (_, (longer, lines, _)) = long_left(&rt, rt.alloc(), 16_777_029)?;
-    assert_eq!(rt; (length, longest, same), (16_777_216, SharesStatus::Done, true));
+    assert_eq!(rt;
+        (length, longest, same),
+        (16_777_216, SharesStatus::Done, true)
+    );
     assert_eq!(rt; (longer, lines), (SharesStatus::TooLong, 0));
     Ok(())
 }

@@ -1,4 +1,3 @@
-use Rattle.std.proofs.Common.{◌≡◌, map}
 use Rattle.shared_items.specs.Items.{frame_pairs}
 use Rattle.scene_text.specs.Seen.{scene_seen}
 use Rattle.gfx_shares.specs.Listed.{pairs_seen}

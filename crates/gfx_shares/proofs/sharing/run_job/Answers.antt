@@ -11,4 +11,4 @@ returns-in-Ok-read-clause-ended g c =
       read = record { given = c.in-Ok.ensures.bytes; ended = c.in-Ok.ensures.ended; few = c.in-Ok.ensures.few };
       is = ap (scene_of whole_language) (sym c.deref.ensures.value) ∙ c.in-Ok-read.ensures.exact;
     })
-    (rw c.deref-2.ensures.value at c.note_scene.ensures.noted)
+    (rw c.deref-in-Ok-read.ensures.value at c.note_scene.ensures.noted)

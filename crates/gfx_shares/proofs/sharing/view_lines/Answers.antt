@@ -1,4 +1,4 @@
-use Rattle.std.proofs.Common.{List, map, ap, ◌∙◌, subst}
+use Rattle.std.proofs.Common.{ap, ◌∙◌}
 use Rattle.scene_model.specs.Fold.{plans}
 use Rattle.scene_text.specs.Seen.{scene_seen}
 use Rattle.gfx_shares.specs.Listed.{lists_seen, lines_of}

@@ -1,4 +1,3 @@
-use Rattle.std.proofs.Common.{◌≡◌, map}
 use Rattle.shared_keys.specs.Lines.{shared_views}
 use Rattle.scene_text.specs.Seen.{scene_seen}
 use Rattle.gfx_shares.specs.Listed.{lists_seen}
