@@ -235,14 +235,14 @@ frame_blind w p sized harmless fit before a b after apart = by (item_of p.encode
         ∙ ap (λ items. frame_step w (content p items)) (sym (two (Some i) (Some j) ea eb))
 
 -- views that are entered keep to the worlds of the frame
-views_within : (b : World) (f : FrameContent) (vs : List ℕ) (u : World) → IsWithin b u → IsWithin b (fold (enter_view f (ordered f.views f.items)) u vs)
+pub views_within : (b : World) (f : FrameContent) (vs : List ℕ) (u : World) → IsWithin b u → IsWithin b (fold (enter_view f (ordered f.views f.items)) u vs)
 views_within b f [] u h = h
 views_within b f (v ∷ vs) u h =
     views_within b f vs (enter_view f (ordered f.views f.items) u v)
     (items_within b (on_surface u (view_at f.views v).target (clear_surface (view_at f.views v))) (view_at f.views v) (filter (is_of_view v) (filter is_blit f.items ++ ordered f.views f.items)) (clear_within b u (view_at f.views v) h))
 
 -- a frame leaves no more colours than pixels
-frame_sized : (w : World) (f : FrameContent) → IsSized w → IsSized (frame_step w f)
+pub frame_sized : (w : World) (f : FrameContent) → IsSized w → IsSized (frame_step w f)
 frame_sized w f sized =
     let begun : World = begin_frame f.gone f.changes w in
     within_sized begun (frame_step w f) (views_within begun f (entered_views f) begun (within_self begun sized))

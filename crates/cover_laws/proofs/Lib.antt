@@ -5,3 +5,4 @@ mod Worlds
 mod Passing
 mod PlansFit
 mod Frames
+mod Journals

@@ -96,7 +96,7 @@ same_facings u w view rect d e = λ k. filter_map (placed_facing view rect d) (t
 
 -- ---- what changes leave
 
-changed_shapes : (f : Content → Content) → ((c : Content) → shape (f c) ≡ shape c) → (serial : ℕ) (things : List (ℕ × Content)) → shapes (change_thing f serial things) ≡ shapes things
+pub changed_shapes : (f : Content → Content) → ((c : Content) → shape (f c) ≡ shape c) → (serial : ℕ) (things : List (ℕ × Content)) → shapes (change_thing f serial things) ≡ shapes things
 changed_shapes f keep serial [] = refl
 changed_shapes f keep serial (t ∷ rest) = by (t.0 == serial) (changed_shapes f keep serial rest)
   where

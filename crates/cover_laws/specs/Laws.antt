@@ -1,5 +1,5 @@
 -- The law of covers.
-use Rattle.std.specs.Prelude.{◌≡◌, List, [], ◌∷◌, ⊤}
+use Rattle.std.specs.Prelude.{◌≡◌, ◌≤◌, List, [], ◌∷◌, map, length, ⊤}
 use Rattle.gfx_model.specs.World.{World, begin_frame, frame_step, first_world}
 use Rattle.scene_model.specs.Scene.{Scene}
 use Rattle.scene_model.specs.Fold.{FramePlan, plans}
@@ -19,3 +19,15 @@ IsHarmless s j = AreHarmless (first_world s.width s.height) (plans s) j
 -- where a scene is harmless by one lawful journal, each other lawful journal gives the same pictures
 abbrev pub CoverLaw : Type 0
 CoverLaw = (s : Scene) (j k : Journal) → IsHarmless s j → IsLawful s j → IsLawful s k → pictures s j ≡ pictures s k
+
+-- items do not change what draws cover: where a scene is harmless by one journal, lawful or not, it is so by each other that is not longer
+abbrev pub AnyJournalLaw : Type 0
+AnyJournalLaw = (s : Scene) (j k : Journal) → length k ≤ length j → IsHarmless s j → IsHarmless s k
+
+-- the journal by which each frame has no item
+abbrev pub no_items : Scene → Journal
+no_items s = map (λ p. []) (plans s)
+
+-- so the worlds can be taken in which nothing is drawn: where a scene is harmless in these, any two lawful journals give the same pictures
+abbrev pub BareLaw : Type 0
+BareLaw = (s : Scene) (j k : Journal) → IsHarmless s (no_items s) → IsLawful s j → IsLawful s k → pictures s j ≡ pictures s k

@@ -5,7 +5,8 @@ use Rattle.std.proofs.lemmas.Option.{none-some, same_Some}
 use Rattle.io_edge.specs.Edge.{with_front, IsSpent}
 use Rattle.scene_model.specs.Scene.{Scene}
 use Rattle.scene_model.specs.Grammar.{Fault, whole_language, scene_of}
-use Rattle.shared_keys.specs.Lines.{shared_lines}
+use Rattle.gfx_shares.specs.Lines.{text_of}
+use Rattle.gfx_shares.specs.declared.words.Job.{Job}
 use Rattle.io_whole.specs.Whole.{longest, IsRead, HasMoreThan}
 use Rattle.gfx_shares.specs.Ended.{IsScene, Ended, EndsAs}
 use Rattle.gfx_shares.specs.Putting.{IsNoted}
@@ -32,43 +33,47 @@ fault_in d (Ok s) = d
 fault_in d (Err fault) = fault
 
 -- the lines of a scene that was read
-pub noted_ended : (st : SharesStatus) (bytes : List ℕ) (s : Scene) (before after old new : Option (List ℕ)) (rf pf : Type 0) → IsScene bytes s before after → IsNoted st (shared_lines s) old new pf → Ended st before after old new rf pf
-noted_ended status.Done bytes s before after old new rf pf r h = (bytes, s, r, h)
-noted_ended (status.Scene line cause) bytes s before after old new rf pf r h = absurd h
-noted_ended status.ReadFault bytes s before after old new rf pf r h = absurd h
-noted_ended status.NoteFault bytes s before after old new rf pf r h = (bytes, s, r, h.0, h.1)
-noted_ended status.TooLong bytes s before after old new rf pf r h = absurd h
-noted_ended status.OutOfMemory bytes s before after old new rf pf r h = h
+pub noted_ended : (job : Job) (st : SharesStatus) (bytes : List ℕ) (s : Scene) (before after old new : Option (List ℕ)) (rf pf : Type 0) → IsScene bytes s before after → IsNoted st (text_of job bytes s) old new pf → Ended job st before after old new rf pf
+noted_ended job status.Done bytes s before after old new rf pf r h = (bytes, s, r, h)
+noted_ended job (status.Scene line cause) bytes s before after old new rf pf r h = absurd h
+noted_ended job status.ReadFault bytes s before after old new rf pf r h = absurd h
+noted_ended job status.NoteFault bytes s before after old new rf pf r h = (bytes, s, r, h.0, h.1)
+noted_ended job status.TooLong bytes s before after old new rf pf r h = absurd h
+noted_ended job status.OutOfMemory bytes s before after old new rf pf r h = h
+noted_ended job status.Usage bytes s before after old new rf pf r h = absurd h
 
 few_told : (bytes b : List ℕ) (before after : Option (List ℕ)) → before ≡ Some bytes → IsRead b before after → longest < length bytes → ⊥
 few_told bytes b before after told r many = let same : length b ≡ length bytes = ap length (read_told bytes b before after told r) in omega (arith, same, r.few, many)
 
-pub too_long : (st : SharesStatus) (before after old new : Option (List ℕ)) (rf pf : Type 0) (bytes : List ℕ) → Ended st before after old new rf pf → before ≡ Some bytes → longest < length bytes → (rf → ⊥) → EndsAs status.TooLong st
-too_long status.Done before after old new rf pf bytes (b, s, r, p) told many nf = absurd (few_told bytes b before after told r.read many)
-too_long (status.Scene line cause) before after old new rf pf bytes (b, r, e, u) told many nf = absurd (few_told bytes b before after told r many)
-too_long status.ReadFault before after old new rf pf bytes (f, u) told many nf = absurd (nf f)
-too_long status.NoteFault before after old new rf pf bytes (b, s, r, p, f) told many nf = absurd (few_told bytes b before after told r.read many)
-too_long status.TooLong before after old new rf pf bytes h told many nf = inl refl
-too_long status.OutOfMemory before after old new rf pf bytes h told many nf = inr refl
+pub too_long : (job : Job) (st : SharesStatus) (before after old new : Option (List ℕ)) (rf pf : Type 0) (bytes : List ℕ) → Ended job st before after old new rf pf → before ≡ Some bytes → longest < length bytes → (rf → ⊥) → EndsAs status.TooLong st
+too_long job status.Done before after old new rf pf bytes (b, s, r, p) told many nf = absurd (few_told bytes b before after told r.read many)
+too_long job (status.Scene line cause) before after old new rf pf bytes (b, r, e, u) told many nf = absurd (few_told bytes b before after told r many)
+too_long job status.ReadFault before after old new rf pf bytes (f, u) told many nf = absurd (nf f)
+too_long job status.NoteFault before after old new rf pf bytes (b, s, r, p, f) told many nf = absurd (few_told bytes b before after told r.read many)
+too_long job status.TooLong before after old new rf pf bytes h told many nf = inl refl
+too_long job status.OutOfMemory before after old new rf pf bytes h told many nf = inr refl
+too_long job status.Usage before after old new rf pf bytes h told many nf = absurd h
 
 abbrev read_scene : List ℕ → Result Scene Fault
 read_scene bytes = scene_of whole_language bytes
 
-pub refused : (st : SharesStatus) (before after old new : Option (List ℕ)) (rf pf : Type 0) (bytes : List ℕ) (fault : Fault) → Ended st before after old new rf pf → before ≡ Some bytes → length bytes ≤ longest → read_scene bytes ≡ Err fault → (rf → ⊥)
+pub refused : (job : Job) (st : SharesStatus) (before after old new : Option (List ℕ)) (rf pf : Type 0) (bytes : List ℕ) (fault : Fault) → Ended job st before after old new rf pf → before ≡ Some bytes → length bytes ≤ longest → read_scene bytes ≡ Err fault → (rf → ⊥)
     → EndsAs (status.Scene fault.line fault.cause) st
-refused status.Done before after old new rf pf bytes fault (b, s, r, p) told few is nf = absurd (cc (sym r.is ∙ ap read_scene (read_told bytes b before after told r.read) ∙ is))
-refused (status.Scene line cause) before after old new rf pf bytes fault (b, r, e, u) told few is nf =
+refused job status.Done before after old new rf pf bytes fault (b, s, r, p) told few is nf = absurd (cc (sym r.is ∙ ap read_scene (read_told bytes b before after told r.read) ∙ is))
+refused job (status.Scene line cause) before after old new rf pf bytes fault (b, r, e, u) told few is nf =
     let found : Fault = record { line = line; cause = cause } in
     inl (ap (λ (x : Fault). status.Scene x.line x.cause) (ap (fault_in found) (sym e ∙ ap read_scene (read_told bytes b before after told r) ∙ is)))
-refused status.ReadFault before after old new rf pf bytes fault (f, u) told few is nf = absurd (nf f)
-refused status.NoteFault before after old new rf pf bytes fault (b, s, r, p, f) told few is nf = absurd (cc (sym r.is ∙ ap read_scene (read_told bytes b before after told r.read) ∙ is))
-refused status.TooLong before after old new rf pf bytes fault (h, u) told few is nf = let many = many_told longest bytes before told h in absurd (omega (arith, many, few))
-refused status.OutOfMemory before after old new rf pf bytes fault h told few is nf = inr refl
+refused job status.ReadFault before after old new rf pf bytes fault (f, u) told few is nf = absurd (nf f)
+refused job status.NoteFault before after old new rf pf bytes fault (b, s, r, p, f) told few is nf = absurd (cc (sym r.is ∙ ap read_scene (read_told bytes b before after told r.read) ∙ is))
+refused job status.TooLong before after old new rf pf bytes fault (h, u) told few is nf = let many = many_told longest bytes before told h in absurd (omega (arith, many, few))
+refused job status.OutOfMemory before after old new rf pf bytes fault h told few is nf = inr refl
+refused job status.Usage before after old new rf pf bytes fault h told few is nf = absurd h
 
-pub complete : (st : SharesStatus) (before after old new : Option (List ℕ)) (rf pf : Type 0) (bytes : List ℕ) (s : Scene) → Ended st before after old new rf pf → before ≡ Some bytes → length bytes ≤ longest → read_scene bytes ≡ Ok s → (rf → ⊥) → (pf → ⊥) → EndsAs status.Done st
-complete status.Done before after old new rf pf bytes s h told few is nf np = inl refl
-complete (status.Scene line cause) before after old new rf pf bytes s (b, r, e, u) told few is nf np = absurd (cc (sym e ∙ ap read_scene (read_told bytes b before after told r) ∙ is))
-complete status.ReadFault before after old new rf pf bytes s (f, u) told few is nf np = absurd (nf f)
-complete status.NoteFault before after old new rf pf bytes s (b, t, r, p, f) told few is nf np = absurd (np f)
-complete status.TooLong before after old new rf pf bytes s (h, u) told few is nf np = let many = many_told longest bytes before told h in absurd (omega (arith, many, few))
-complete status.OutOfMemory before after old new rf pf bytes s h told few is nf np = inr refl
+pub complete : (job : Job) (st : SharesStatus) (before after old new : Option (List ℕ)) (rf pf : Type 0) (bytes : List ℕ) (s : Scene) → Ended job st before after old new rf pf → before ≡ Some bytes → length bytes ≤ longest → read_scene bytes ≡ Ok s → (rf → ⊥) → (pf → ⊥) → EndsAs status.Done st
+complete job status.Done before after old new rf pf bytes s h told few is nf np = inl refl
+complete job (status.Scene line cause) before after old new rf pf bytes s (b, r, e, u) told few is nf np = absurd (cc (sym e ∙ ap read_scene (read_told bytes b before after told r) ∙ is))
+complete job status.ReadFault before after old new rf pf bytes s (f, u) told few is nf np = absurd (nf f)
+complete job status.NoteFault before after old new rf pf bytes s (b, t, r, p, f) told few is nf np = absurd (np f)
+complete job status.TooLong before after old new rf pf bytes s (h, u) told few is nf np = let many = many_told longest bytes before told h in absurd (omega (arith, many, few))
+complete job status.OutOfMemory before after old new rf pf bytes s h told few is nf np = inr refl
+complete job status.Usage before after old new rf pf bytes s h told few is nf np = absurd h

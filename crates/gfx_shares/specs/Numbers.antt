@@ -6,6 +6,7 @@ use Rattle.gfx_shares.specs.declared.status.SharesStatus.TheVariants as status
 -- the exit number of a status
 abbrev pub status_number : SharesStatus → ℕ
 status_number status.Done = 0
+status_number status.Usage = 1
 status_number (status.Scene line cause) = 2
 status_number status.ReadFault = 3
 status_number status.NoteFault = 5

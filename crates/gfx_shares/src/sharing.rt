@@ -1,5 +1,5 @@
 // The call.
-ghost use Rattle.std.specs.Prelude.{◌≡◌, ◌↔◌, ◌≤◌, ◌<◌, false, ℕ, List, Some, Ok, Err, length, IfOk};
+ghost use Rattle.std.specs.Prelude.{◌≡◌, ◌↔◌, ◌≤◌, ◌<◌, false, ℕ, List, Some, Ok, Err, length, map, string_bytes, IfOk};
 ghost use Rattle.io_edge.specs.Edge.{Rose};
 ghost use Rattle.scene_model.specs.Scene as model;
 ghost use Rattle.scene_model.specs.Grammar.{Fault, whole_language, scene_of};
@@ -9,22 +9,27 @@ ghost use Rattle.scene_text.specs.Bounds.{IsBounded};
 ghost use Rattle.scene_text.specs.Seen.{scene_seen};
 ghost use Rattle.shared_keys.specs.Lines.{shared_lines};
 ghost use Rattle.io_whole.specs.Whole.{longest};
-ghost use Rattle.gfx_shares.specs.Ended.{Ended, EndsAs};
+ghost use Rattle.gfx_shares.specs.Ended.{Ended, Ends, EndsAs};
+ghost use Rattle.gfx_shares.specs.Lines.{pair_lines, text_of};
 ghost use Rattle.gfx_shares.specs.Putting.{IsNoted};
+ghost use Rattle.gfx_shares.specs.Words.{job_of};
 
 use crate::lines::lines_of;
+use crate::pairs::{pair_lines_of, scene_pairs};
 use crate::status::SharesStatus;
 use crate::views::scene_views;
+use crate::words::{Job, job_of};
 use io_edge::{Sink, Source};
 use io_whole::{InputError, LONGEST_INPUT, put_all, read_all};
 use scene_text::{Scene, SceneFault, read};
+use shared_items::laws::pairs_law;
 use shared_keys::laws::{free_law, no_line_law};
 use std::alloc::{AllocError, Global};
 use std::sync::Wait;
 use std::thread::Threads;
 
-/// The lines of a scene.
-fn scene_lines<R: Threads + Wait + Sync>(
+/// The lines of the views of a scene in which two encoders share a key.
+fn view_lines<R: Threads + Wait + Sync>(
     rt: &R,
     alloc: Global,
     scene: &Scene,
@@ -38,20 +43,59 @@ fn scene_lines<R: Threads + Wait + Sync>(
     Ok(lines)
 }
 
+/// The same with those of the pairs of items.
+fn pair_lines<R: Threads + Wait + Sync>(
+    rt: &R,
+    alloc: Global,
+    bytes: &[u8],
+    scene: &Scene,
+) -> Result<Vec<u8>, AllocError>
+    requires few { length bytes.now ≤ 16777216 }
+    requires readable { IsReadable (scene_seen scene.now) }
+    requires bounded { IsBounded (scene_seen scene.now) }
+    ensures { IfOk result (λ lines. lines.items ≡ pair_lines bytes.now (scene_seen scene.now)) }
+{
+    let lists = scene_pairs(rt, alloc, scene)?;
+    let lines = pair_lines_of(alloc, bytes, scene, lists.as_slice())?;
+    Ok(lines)
+}
+
+/// The lines of a scene that a job asks for.
+fn job_lines<R: Threads + Wait + Sync>(
+    rt: &R,
+    alloc: Global,
+    job: Job,
+    bytes: &[u8],
+    scene: &Scene,
+) -> Result<Vec<u8>, AllocError>
+    requires few { length bytes.now ≤ 16777216 }
+    requires readable { IsReadable (scene_seen scene.now) }
+    requires bounded { IsBounded (scene_seen scene.now) }
+    ensures { IfOk result (λ lines. lines.items ≡ text_of job bytes.now (scene_seen scene.now)) }
+{
+    match job {
+        Job::Views => view_lines(rt, alloc, scene),
+        Job::Pairs => pair_lines(rt, alloc, bytes, scene),
+    }
+}
+
 /// Puts the lines of a scene.
 fn note_scene<R: Threads + Wait + Sync, N: Sink>(
     rt: &R,
     alloc: Global,
+    job: Job,
+    bytes: &[u8],
     scene: &Scene,
     notes: &mut N,
 ) -> SharesStatus
+    requires few { length bytes.now ≤ 16777216 }
     requires readable { IsReadable (scene_seen scene.now) }
     requires bounded { IsBounded (scene_seen scene.now) }
-    ensures noted { IsNoted result (shared_lines (scene_seen scene.now)) (N.held notes.old) (N.held notes.new) (Rose (N.faults notes.old) (N.faults notes.new)) }
+    ensures noted { IsNoted result (text_of job bytes.now (scene_seen scene.now)) (N.held notes.old) (N.held notes.new) (Rose (N.faults notes.old) (N.faults notes.new)) }
     ensures sure { N.sure notes.new ≡ N.sure notes.old }
     ensures no_fewer { N.faults notes.old ≤ N.faults notes.new }
 {
-    match scene_lines(rt, alloc, scene) {
+    match job_lines(rt, alloc, job, bytes, scene) {
         Ok(lines) => match put_all(notes, lines.as_slice()) {
             Ok(()) => SharesStatus::Done,
             Err(_) => SharesStatus::NoteFault,
@@ -61,13 +105,14 @@ fn note_scene<R: Threads + Wait + Sync, N: Sink>(
 }
 
 /// Reads the source, and puts the lines of the scene that it gives.
-fn run<R: Threads + Wait + Sync, S: Source, N: Sink>(
+fn run_job<R: Threads + Wait + Sync, S: Source, N: Sink>(
     rt: &R,
     alloc: Global,
+    job: Job,
     source: &mut S,
     notes: &mut N,
 ) -> SharesStatus
-    ensures ended { Ended result (S.left source.old) (S.left source.new) (N.held notes.old) (N.held notes.new) (Rose (S.faults source.old) (S.faults source.new)) (Rose (N.faults notes.old) (N.faults notes.new)) }
+    ensures ended { Ended job result (S.left source.old) (S.left source.new) (N.held notes.old) (N.held notes.new) (Rose (S.faults source.old) (S.faults source.new)) (Rose (N.faults notes.old) (N.faults notes.new)) }
     ensures sure { N.sure notes.new ≡ N.sure notes.old }
     ensures no_fewer { (S.faults source.old ≤ S.faults source.new) × (N.faults notes.old ≤ N.faults notes.new) }
 {
@@ -78,30 +123,53 @@ fn run<R: Threads + Wait + Sync, S: Source, N: Sink>(
         Err(InputError::OutOfMemory) => return SharesStatus::OutOfMemory,
     };
     match read(alloc, &bytes) {
-        Ok(scene) => note_scene(rt, alloc, &scene, notes),
+        Ok(scene) => note_scene(rt, alloc, job, &bytes, &scene, notes),
         Err(SceneFault::At { line, cause }) => SharesStatus::Scene { line, cause },
         Err(SceneFault::OutOfMemory) => SharesStatus::OutOfMemory,
     }
 }
 
-/// Reads a scene to its end, at most 16,777,216 bytes, and puts one line for each frame and each of its views in which two encoders
-/// share a key: `frame K view V encoders A B`, the frames and in each frame the views ascending, A and B the least pair of such
-/// encoders. Where it is done and no line was put, the pictures do not depend on the threads' schedule.
+/// Does what the words say.
+fn run<R: Threads + Wait + Sync, S: Source, N: Sink>(
+    rt: &R,
+    alloc: Global,
+    words: &[String],
+    source: &mut S,
+    notes: &mut N,
+) -> SharesStatus
+    ensures ends { Ends (job_of (map string_bytes words.now)) result (S.left source.old) (S.left source.new) (N.held notes.old) (N.held notes.new) (Rose (S.faults source.old) (S.faults source.new)) (Rose (N.faults notes.old) (N.faults notes.new)) }
+    ensures sure { N.sure notes.new ≡ N.sure notes.old }
+    ensures no_fewer { (S.faults source.old ≤ S.faults source.new) × (N.faults notes.old ≤ N.faults notes.new) }
+{
+    match job_of(words) {
+        Some(job) => run_job(rt, alloc, job, source, notes),
+        None => SharesStatus::Usage,
+    }
+}
+
+/// Reads a scene to its end, at most 16,777,216 bytes, and puts lines for each frame and each of its views in which two encoders share a
+/// key, the frames and in each frame the views ascending. Without a word that is the line `frame K view V encoders A B`, A and B the least
+/// pair of such encoders. With the word `pairs` there is a second line behind it,
+/// `pair frame K view V encoder A item I line L encoder B item J line M`: item I of encoder A and item J of encoder B share a key, I is the
+/// first item of A that shares one with an item of B in the view, and J the first item of B that shares one with it; L and M are the
+/// numbers of the lines of the text that record them, from 1. Other words are refused, and nothing is read. Where it is done and no line
+/// was put, the pictures do not depend on the threads' schedule.
 ///
 /// All frames are recorded, by recorder threads where they can be started, before a line is put; none is rendered. Resource calls of
 /// the scene's lines that are refused are dropped, as in a play.
 ///
-/// The status says how it ended. `Scene` and `TooLong` come exactly by the bytes; `ReadFault` and `NoteFault` only where that object's
-/// count of faults rose in this call; `OutOfMemory` is free. After `NoteFault` a front of the lines was put, and after the others but
-/// `Done` nothing. On `Done`, `Scene` and `NoteFault` the source was read to its end. It may wait for its own threads.
+/// The status says how it ended. `Usage`, `Scene` and `TooLong` come exactly by the words and the bytes; `ReadFault` and `NoteFault` only where
+/// that object's count of faults rose in this call; `OutOfMemory` is free. After `NoteFault` a front of the lines was put, and after the
+/// others but `Done` nothing. On `Done`, `Scene` and `NoteFault` the source was read to its end. It may wait for its own threads.
 pub fn shares<R: Threads + Wait + Sync, S: Source, N: Sink>(
     rt: &R,
     alloc: Global,
+    words: &[String],
     source: &mut S,
     notes: &mut N,
 ) -> SharesStatus
     // What was read and what the notes are after each status, and its cause.
-    ensures ended { Ended result (S.left source.old) (S.left source.new) (N.held notes.old) (N.held notes.new) (Rose (S.faults source.old) (S.faults source.new)) (Rose (N.faults notes.old) (N.faults notes.new)) }
+    ensures ends { Ends (job_of (map string_bytes words.now)) result (S.left source.old) (S.left source.new) (N.held notes.old) (N.held notes.new) (Rose (S.faults source.old) (S.faults source.new)) (Rose (N.faults notes.old) (N.faults notes.new)) }
     // The sink keeps its sure length, and no count of faults falls.
     ensures sure { N.sure notes.new ≡ N.sure notes.old }
     ensures no_fewer { (S.faults source.old ≤ S.faults source.new) × (N.faults notes.old ≤ N.faults notes.new) }
@@ -111,16 +179,18 @@ pub fn shares<R: Threads + Wait + Sync, S: Source, N: Sink>(
     // Then every two lawful journals give the same pictures.
     ensures free { (bytes text : List ℕ) (s : model.Scene) → S.left source.old ≡ Some bytes → scene_of whole_language bytes ≡ Ok s → N.held notes.old ≡ Some text
         → result ≡ SharesStatus.Done → N.held notes.new ≡ Some text → (j k : Journal) → IsLawful s j → IsLawful s k → pictures s j ≡ pictures s k }
-    // Where the source told too many bytes and did not fail.
-    ensures too_long { (bytes : List ℕ) → S.left source.old ≡ Some bytes → longest < length bytes → (Rose (S.faults source.old) (S.faults source.new) → ⊥) → EndsAs SharesStatus.TooLong result }
+    // Where the words ask for something, and the source told too many bytes and did not fail.
+    ensures too_long { (job : Job) (bytes : List ℕ) → job_of (map string_bytes words.now) ≡ Some job → S.left source.old ≡ Some bytes → longest < length bytes
+        → (Rose (S.faults source.old) (S.faults source.new) → ⊥) → EndsAs SharesStatus.TooLong result }
     // Where it told bytes that are no scene.
-    ensures refused { (bytes : List ℕ) (fault : Fault) → S.left source.old ≡ Some bytes → length bytes ≤ longest → scene_of whole_language bytes ≡ Err fault
-        → (Rose (S.faults source.old) (S.faults source.new) → ⊥) → EndsAs (SharesStatus.Scene fault.line fault.cause) result }
+    ensures refused { (job : Job) (bytes : List ℕ) (fault : Fault) → job_of (map string_bytes words.now) ≡ Some job → S.left source.old ≡ Some bytes → length bytes ≤ longest
+        → scene_of whole_language bytes ≡ Err fault → (Rose (S.faults source.old) (S.faults source.new) → ⊥) → EndsAs (SharesStatus.Scene fault.line fault.cause) result }
     // Where it told a scene, and nothing failed.
-    ensures complete { (bytes : List ℕ) (s : model.Scene) → S.left source.old ≡ Some bytes → length bytes ≤ longest → scene_of whole_language bytes ≡ Ok s
-        → (Rose (S.faults source.old) (S.faults source.new) → ⊥) → (Rose (N.faults notes.old) (N.faults notes.new) → ⊥) → EndsAs SharesStatus.Done result }
+    ensures complete { (job : Job) (bytes : List ℕ) (s : model.Scene) → job_of (map string_bytes words.now) ≡ Some job → S.left source.old ≡ Some bytes → length bytes ≤ longest
+        → scene_of whole_language bytes ≡ Ok s → (Rose (S.faults source.old) (S.faults source.new) → ⊥) → (Rose (N.faults notes.old) (N.faults notes.new) → ⊥) → EndsAs SharesStatus.Done result }
 {
     no_line_law();
     free_law();
-    run(rt, alloc, source, notes)
+    pairs_law();
+    run(rt, alloc, words, source, notes)
 }

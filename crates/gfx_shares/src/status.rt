@@ -7,6 +7,8 @@ ghost use Rattle.gfx_shares.specs.Numbers.{status_number};
 pub enum SharesStatus {
     /// The lines were written; the source was read to its end.
     Done,
+    /// The words are refused.
+    Usage,
     /// The bytes are no scene: the first line that fails, counted from 1, and its cause by the scene's grammar.
     Scene { line: u32, cause: u8 },
     /// A read failed.
@@ -20,12 +22,13 @@ pub enum SharesStatus {
 }
 
 impl SharesStatus {
-    /// The number with which the program ends: 0, 2, 3, 5, 6 or 8.
+    /// The number with which the program ends: 0, 1, 2, 3, 5, 6 or 8.
     pub fn number(self) -> u8
         ensures { result ≡ status_number self }
     {
         match self {
             SharesStatus::Done => 0,
+            SharesStatus::Usage => 1,
             SharesStatus::Scene { .. } => 2,
             SharesStatus::ReadFault => 3,
             SharesStatus::NoteFault => 5,

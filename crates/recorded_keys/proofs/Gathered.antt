@@ -1,11 +1,11 @@
 -- What is gathered of a frame's encoders is what the frame's plan has of them.
-use Rattle.std.proofs.Common.{◌≡◌, ℕ, zero, suc, ◌+◌, ◌<◌, ◌≤◌, ◌==◌, Bool, true, false, if◌then◌else◌, inl, inr, List, [], ◌∷◌, map, length, Some, refl, sym, ap, ◌∙◌, arith, slice_get, slice_index_or}
+use Rattle.std.proofs.Common.{◌≡◌, ℕ, zero, suc, ◌+◌, ◌<◌, ◌≤◌, ◌==◌, Bool, true, false, if◌then◌else◌, inl, inr, List, [], ◌∷◌, map, length, Some, refl, ap, ◌∙◌, arith, slice_get, slice_index_or}
 use Rattle.std.specs.List.{AllByRecursion}
 use Rattle.std.proofs.lemmas.Bool.{eqb-true, lt-ltb}
 use Rattle.std.proofs.lemmas.Option.{none-some}
 use Rattle.schedule_model.specs.Held.{count_of}
-use Rattle.scene_model.specs.Fold.{Accepted, FramePlan, nothing_accepted}
-use Rattle.scene_laws.specs.Gathered.{HasPlanned, IsGathered}
+use Rattle.scene_model.specs.Fold.{FramePlan, nothing_accepted}
+use Rattle.scene_laws.specs.Gathered.{HasPlanned}
 use Rattle.scene_laws.proofs.Gathering.{are_recordings}
 use Rattle.shared_keys.specs.Members.{In}
 use Rattle.draw_encoder.specs.declared.items.Item.{Item}

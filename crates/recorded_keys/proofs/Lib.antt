@@ -1,3 +1,4 @@
 pub mod KeyLaws
 pub mod Planned
+pub mod PairLaws
 mod Gathered

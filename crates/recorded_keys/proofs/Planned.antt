@@ -1,5 +1,5 @@
 -- The marks of a frame's recordings are just those of its items.
-use Rattle.std.proofs.Common.{◌≡◌, ℕ, ◌+◌, ◌⊎◌, inl, inr, Bool, true, false, cond, List, [], ◌∷◌, ◌++◌, flat_map, slice_get, Some, refl, sym, ap, subst, ◌∙◌, arith}
+use Rattle.std.proofs.Common.{◌≡◌, ℕ, ◌+◌, inl, inr, Bool, true, false, cond, List, [], ◌∷◌, flat_map, slice_get, Some, refl, sym, ap, subst, ◌∙◌, arith}
 use Rattle.std.specs.List.{AllByRecursion}
 use Rattle.gfx_model.specs.Views.{Views, view_count}
 use Rattle.gfx_model.specs.World.{Item}
@@ -11,7 +11,7 @@ use Rattle.shared_keys.specs.Laws.{ThereLaw}
 use Rattle.shared_keys.specs.Marks.{can_clash, mark_of, AreMarksOf, IsThere}
 use Rattle.shared_keys.specs.Members.{In}
 use Rattle.shared_keys.proofs.Members.{member-has, member-left, member-right, member-of-both}
-use Rattle.shared_keys.proofs.Clashes.{IsOf, of-tagged, to-tagged, member-at}
+use Rattle.shared_keys.proofs.Clashes.{of-tagged, to-tagged, member-at}
 use Rattle.draw_encoder.specs.declared.items.Recording.{Recording}
 use Rattle.draw_encoder.specs.Bundles.{items_of}
 use Rattle.recorded_keys.specs.Recorded.{marks_of_item, marks_of_items, marks_of, HasPlan, ArePlanned}

@@ -1,5 +1,5 @@
 -- The marks of what encoders recorded, and recordings that are a frame's.
-use Rattle.std.specs.Prelude.{◌≡◌, ℕ, List, [], ◌∷◌, ◌++◌, flat_map, if◌then◌else◌, Some, slice_get}
+use Rattle.std.specs.Prelude.{◌≡◌, ℕ, List, [], ◌∷◌, flat_map, if◌then◌else◌, Some, slice_get}
 use Rattle.std.specs.List.{AllByRecursion}
 use Rattle.gfx_model.specs.Views.{Views}
 use Rattle.gfx_model.specs.World.{Item}

@@ -5,7 +5,7 @@ ghost use Rattle.gfx_model.specs.Views.{view_count};
 ghost use Rattle.scene_model.specs.Scene.{Scene};
 ghost use Rattle.scene_model.specs.Fold.{FramePlan, plans};
 ghost use Rattle.shared_keys.specs.Lines as lines;
-ghost use Rattle.shared_keys.specs.Marks.{shared_seen, IsThere};
+ghost use Rattle.shared_keys.specs.Marks.{shared_seen, AreMarksOf, IsThere};
 ghost use Rattle.draw_encoder.specs.Bundles.{items_of};
 ghost use Rattle.recorded_keys.specs.Recorded.{marks_of, ArePlanned};
 
@@ -29,6 +29,26 @@ fn frame_marks(
     for recording in recordings {
         put_marks(&mut marks, views, recording)?;
     }
+    Ok(marks)
+}
+
+/// The marks of all items of a scene's frame that can clash.
+///
+/// The views are those at the end of the frame's lines, and the recordings are those of the frame's encoders, in any order.
+///
+/// # Errors
+///
+/// For want of memory alone.
+pub fn recorded_marks(
+    alloc: Global,
+    views: &ViewTable,
+    recordings: &[Recording],
+) -> Result<Vec<Mark>, AllocError>
+    ensures { IfOk result (λ marks. (s : Scene) (k : ℕ) (p : FramePlan) → slice_get (plans s) k ≡ Some p → views.now ≡ p.views → ArePlanned p recordings.now
+        → AreMarksOf p marks.items) }
+{
+    there_law();
+    let marks = frame_marks(alloc, views, recordings)?;
     Ok(marks)
 }
 

@@ -5,5 +5,8 @@ mod frames;
 mod keys;
 pub mod laws;
 mod marking;
+mod pairs;
 
-pub use frames::recorded_views;
+pub use frames::{recorded_marks, recorded_views};
+pub use marking::mark;
+pub use pairs::recorded_pairs;

@@ -70,8 +70,8 @@ fn blit_mark(blit: &BlitItem, encoder: u8) -> Mark
     }
 }
 
-/// The mark of a recorded item that is there; none where it clashes with nothing.
-fn mark(views: &ViewTable, recording: &Recording, item: &Item) -> Option<Mark>
+/// The mark of a recorded item whose view is there, with its encoder; none where it clashes with nothing.
+pub fn mark(views: &ViewTable, recording: &Recording, item: &Item) -> Option<Mark>
     ensures { IsThere (view_count views.now) (item_seen recording.now.bytes recording.now.uniforms item.now)
         → cons_option result [] ≡ marks_of_item views.now recording.now.encoder (item_seen recording.now.bytes recording.now.uniforms item.now) }
 {

@@ -215,7 +215,7 @@ by-is-from encoders entries t i =
       item = member-at source.0.items one.0.ordinal t.item source.2;
     }
 
-by-has-from : (p : FramePlan) (entries : List Entry) (t : Tagged) → IsLawfulFrame p entries → IsOf 0 p.encoders t → In t (tagged_by p.encoders entries)
+pub by-has-from : (p : FramePlan) (entries : List Entry) (t : Tagged) → IsLawfulFrame p entries → IsOf 0 p.encoders t → In t (tagged_by p.encoders entries)
 by-has-from p entries t h o =
     let e : ℕ = o.place in
     let there : In t.item (filter_map (item_of p.encoders) (filter (λ n. n.encoder == e) entries)) = subst (λ (is : List Item). In t.item is) (sym (own-items p entries h e o.accepted o.there)) o.item in

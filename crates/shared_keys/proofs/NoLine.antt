@@ -66,7 +66,7 @@ clashes-turned vs i j v h = elim (or-true (is_blit i && is_blit j) _ h) [
       ]))
 ]
 
-share-turned : (vs : Views) (x y : Tagged) → share_key vs x y ≡ true → share_key vs y x ≡ true
+pub share-turned : (vs : Views) (x y : Tagged) → share_key vs x y ≡ true → share_key vs y x ≡ true
 share-turned vs x y h =
     let told = share-told vs x y h in
     let view : view_of_item x.item ≡ view_of_item y.item = same_from_test (view_of_item x.item) (view_of_item y.item) told.1 in
@@ -113,7 +113,7 @@ map-none : (a : ℕ) (o : Option ℕ) → is_some o ≡ true → option_map (λ 
 map-none a None t e = clash (sym t)
 map-none a (Some b) t e = cc e
 
-pair-found : (share : Sharing) (encoders v a b : ℕ) → a < b → b < encoders → share v a b ≡ true → least_pair share encoders v ≡ None → ⊥
+pub pair-found : (share : Sharing) (encoders v a b : ℕ) → a < b → b < encoders → share v a b ≡ true → least_pair share encoders v ≡ None → ⊥
 pair-found share encoders v a b l m t none =
     let partner = found-some (share v a) (a + 1) (encoders - (a + 1)) b (omega (arith, l)) (omega (arith, m, l)) t in
     let first = found-some (λ a. is_some (partner_of share encoders v a)) 0 encoders a (omega arith) (omega (arith, l, m)) (ap is_some partner.1) in

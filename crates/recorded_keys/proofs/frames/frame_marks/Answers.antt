@@ -1,4 +1,3 @@
-use Rattle.std.proofs.Common.{◌≡◌}
 use Rattle.std.specs.List.{AllByRecursion}
 use Rattle.gfx_model.specs.Views.{view_count}
 use Rattle.shared_keys.specs.Marks.{IsThere}

@@ -1,4 +1,4 @@
-use Rattle.std.proofs.Common.{◌≡◌, ℕ, ap, sym, subst, [], ◌∷◌, ◌∙◌, List}
+use Rattle.std.proofs.Common.{◌≡◌, ap, sym, subst, [], ◌∷◌, ◌∙◌, List}
 use Rattle.std.specs.List.{cons_option}
 use Rattle.gfx_model.specs.Views.{view_count}
 use Rattle.shared_keys.specs.declared.marks.Mark.{Mark}

@@ -1,4 +1,4 @@
-use Rattle.std.proofs.Common.{◌≡◌, ap, sym, subst, ◌∙◌, List, ◌++◌, map}
+use Rattle.std.proofs.Common.{ap, sym, subst, ◌∙◌, List, ◌++◌, map}
 use Rattle.std.specs.List.{AllByRecursion}
 use Rattle.gfx_model.specs.Views.{view_count}
 use Rattle.shared_keys.specs.declared.marks.Mark.{Mark}

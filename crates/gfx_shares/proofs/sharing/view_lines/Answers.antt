@@ -1,9 +1,9 @@
-use Rattle.std.proofs.Common.{List, map, ap, ◌∙◌, subst}
+use Rattle.std.proofs.Common.{ap, ◌∙◌}
 use Rattle.scene_model.specs.Fold.{plans}
 use Rattle.scene_text.specs.Seen.{scene_seen}
 use Rattle.gfx_shares.specs.Listed.{lists_seen, lines_of}
 use Rattle.gfx_shares.proofs.Lists.{lines_from_lists}
-use Rattle.gfx_shares.proofs.sharing.scene_lines.Goals as goal
+use Rattle.gfx_shares.proofs.sharing.view_lines.Goals as goal
 
 pub returns : goal.returns
 returns g c =

@@ -1,0 +1,3 @@
+mod Harmless
+mod Frames
+mod Shaped

@@ -1,0 +1,4 @@
+pub mod Finds
+pub mod Joined
+pub mod Sharing
+mod Examples
