@@ -34,7 +34,7 @@ static NO_CALL: [u32; 0] = [];
 static FIRST_CALL: [u32; 1] = [0];
 
 // A run without words, with ample room, whose source does not fail.
-fn run(text: &[u8]) -> Run<'_> {
+fn plain_run(text: &[u8]) -> Run<'_> {
     Run {
         words: &NO_WORD,
         text,
@@ -97,7 +97,7 @@ fn two_encoders_share_or_not(rt: HostRuntime) -> Result<(), Fail> {
         ),
     ];
     for (text, lines) in scenes {
-        let (status, _, same) = left_by(&rt, rt.alloc(), run(text), lines)?;
+        let (status, _, same) = left_by(&rt, rt.alloc(), plain_run(text), lines)?;
         assert_eq!(rt; (status, same), (SharesStatus::Done, true));
     }
     Ok(())
@@ -116,7 +116,7 @@ fn the_first_line_that_fails(rt: HostRuntime) -> Result<(), Fail> {
         ),
     ];
     for (text, line, cause) in texts {
-        let (status, length, _) = left_by(&rt, rt.alloc(), run(text), b"")?;
+        let (status, length, _) = left_by(&rt, rt.alloc(), plain_run(text), b"")?;
         assert_eq!(rt; (status, length), (SharesStatus::Scene { line, cause }, 0));
     }
     Ok(())
@@ -128,7 +128,7 @@ fn words_that_ask_for_nothing(rt: HostRuntime) -> Result<(), Fail> {
     for words in refused {
         let asked = Run {
             words,
-            ..run(TWO_BLITS)
+            ..plain_run(TWO_BLITS)
         };
         let (status, length, _) = left_by(&rt, rt.alloc(), asked, b"")?;
         assert_eq!(rt; (status, length), (SharesStatus::Usage, 0));
@@ -140,11 +140,11 @@ fn words_that_ask_for_nothing(rt: HostRuntime) -> Result<(), Fail> {
 fn a_read_and_a_write_that_fail(rt: HostRuntime) -> Result<(), Fail> {
     let unread = Run {
         fails: &FIRST_CALL,
-        ..run(TWO_BLITS)
+        ..plain_run(TWO_BLITS)
     };
     let short = Run {
         capacity: 9,
-        ..run(TWO_BLITS)
+        ..plain_run(TWO_BLITS)
     };
     let (read, length, _) = left_by(&rt, rt.alloc(), unread, b"")?;
     let (cut, _, same) = left_by(&rt, rt.alloc(), short, b"frame 1 v")?;
@@ -157,7 +157,7 @@ fn a_read_and_a_write_that_fail(rt: HostRuntime) -> Result<(), Fail> {
 fn pairs_and_a_write_that_fails(rt: HostRuntime) -> Result<(), Fail> {
     let pairs = Run {
         words: &PAIRS,
-        ..run(TWO_BLITS)
+        ..plain_run(TWO_BLITS)
     };
     let short = Run {
         capacity: 30,
@@ -188,7 +188,12 @@ fn long_left<R: Threads + Wait + Sync>(
     comment: usize,
 ) -> Result<(usize, Left), AllocError> {
     let text = long_scene(alloc, comment)?;
-    let left = left_by(rt, alloc, run(&text), b"frame 1 view 3 encoders 0 1\n")?;
+    let left = left_by(
+        rt,
+        alloc,
+        plain_run(&text),
+        b"frame 1 view 3 encoders 0 1\n",
+    )?;
     Ok((text.len(), left))
 }
 
