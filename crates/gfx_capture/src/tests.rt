@@ -91,7 +91,7 @@ static NO_CALL: [u32; 0] = [];
 static FIRST_CALL: [u32; 1] = [0];
 
 // A run in small rooms whose source does not fail.
-fn run<'a>(words: &'a [&'a str], bytes: &'a [u8]) -> Run<'a> {
+fn plain_run<'a>(words: &'a [&'a str], bytes: &'a [u8]) -> Run<'a> {
     Run {
         words,
         bytes,
@@ -102,7 +102,7 @@ fn run<'a>(words: &'a [&'a str], bytes: &'a [u8]) -> Run<'a> {
 
 #[test]
 fn records_a_picture(rt: HostRuntime) -> Result<(), Fail> {
-    let record = run(&RECORD, SCENE);
+    let record = plain_run(&RECORD, SCENE);
     let (status, frames, _, same) = left_by(&rt, rt.alloc(), record, [CAPTURE, NOTES])?;
     assert_eq!(rt; (status, frames, same), (CaptureStatus::Done, 1, [true; 2]));
     Ok(())
@@ -110,7 +110,7 @@ fn records_a_picture(rt: HostRuntime) -> Result<(), Fail> {
 
 #[test]
 fn shows_its_picture(rt: HostRuntime) -> Result<(), Fail> {
-    let show = run(&SHOW, CAPTURE);
+    let show = plain_run(&SHOW, CAPTURE);
     let (status, frames, _, same) = left_by(&rt, rt.alloc(), show, [TEXT, b""])?;
     assert_eq!(rt; (status, frames, same), (CaptureStatus::Done, 0, [true; 2]));
     Ok(())
@@ -126,7 +126,12 @@ fn words_that_are_refused(rt: HostRuntime) -> Result<(), Fail> {
         &["Show"],
     ];
     for words in refused {
-        let (status, _, lengths, _) = left_by(&rt, rt.alloc(), run(words, SCENE), [b"", b""])?;
+        let (status, _, lengths, _) = left_by(
+            &rt,
+            rt.alloc(),
+            plain_run(words, SCENE),
+            [b"", b""],
+        )?;
         assert_eq!(rt; (status, lengths[0]), (CaptureStatus::Usage, 0));
     }
     Ok(())
@@ -134,8 +139,18 @@ fn words_that_are_refused(rt: HostRuntime) -> Result<(), Fail> {
 
 #[test]
 fn texts_that_are_refused(rt: HostRuntime) -> Result<(), Fail> {
-    let scene = left_by(&rt, rt.alloc(), run(&RECORD, &SCENE[..50]), [b"", b""])?;
-    let cut = left_by(&rt, rt.alloc(), run(&SHOW, &CAPTURE[..19]), [b"", b""])?;
+    let scene = left_by(
+        &rt,
+        rt.alloc(),
+        plain_run(&RECORD, &SCENE[..50]),
+        [b"", b""],
+    )?;
+    let cut = left_by(
+        &rt,
+        rt.alloc(),
+        plain_run(&SHOW, &CAPTURE[..19]),
+        [b"", b""],
+    )?;
     let (line, frame) = (
         CaptureStatus::Scene { line: 5, cause: 2 },
         CaptureStatus::Capture { frame: 0, cause: 3 },
@@ -180,12 +195,12 @@ fn put_by<R: Threads + Wait + Sync>(
 
 #[test]
 fn what_was_recorded_is_shown(rt: HostRuntime) -> Result<(), Fail> {
-    let two = put_by(&rt, rt.alloc(), run(&RECORD, TWO_FRAMES), TWO_RUNS)?;
-    let two_shown = put_by(&rt, rt.alloc(), run(&SHOW, TWO_RUNS), TWO_TEXTS)?;
-    let row = put_by(&rt, rt.alloc(), run(&RECORD, ONE_ROW), ROW_RUNS)?;
+    let two = put_by(&rt, rt.alloc(), plain_run(&RECORD, TWO_FRAMES), TWO_RUNS)?;
+    let two_shown = put_by(&rt, rt.alloc(), plain_run(&SHOW, TWO_RUNS), TWO_TEXTS)?;
+    let row = put_by(&rt, rt.alloc(), plain_run(&RECORD, ONE_ROW), ROW_RUNS)?;
     let shown = Run {
         rooms: [1000, 64],
-        ..run(&SHOW, ROW_RUNS)
+        ..plain_run(&SHOW, ROW_RUNS)
     };
     let row_shown = put_by(&rt, rt.alloc(), shown, &row_text(rt.alloc())?)?;
     assert_eq!(rt; [two, two_shown, row, row_shown], [true; 4]);
@@ -207,7 +222,7 @@ fn the_largest_pictures_and_one_more(rt: HostRuntime) -> Result<(), Fail> {
     let ten = large_frames(rt.alloc(), 10)?;
     let all = Run {
         rooms: [700_000, 1000],
-        ..run(&RECORD, &ten)
+        ..plain_run(&RECORD, &ten)
     };
     let (status, frames, lengths, _) = left_by(&rt, rt.alloc(), all, [b"", b""])?;
     assert_eq!(rt;
@@ -215,7 +230,7 @@ fn the_largest_pictures_and_one_more(rt: HostRuntime) -> Result<(), Fail> {
         (CaptureStatus::Done, 10, 658_012)
     );
     let eleven = large_frames(rt.alloc(), 11)?;
-    let more = left_by(&rt, rt.alloc(), run(&RECORD, &eleven), [b"", b""])?;
+    let more = left_by(&rt, rt.alloc(), plain_run(&RECORD, &eleven), [b"", b""])?;
     assert_eq!(rt; more, (CaptureStatus::TooLarge, 0, [0; 2], [true; 2]));
     Ok(())
 }
@@ -223,9 +238,9 @@ fn the_largest_pictures_and_one_more(rt: HostRuntime) -> Result<(), Fail> {
 #[test]
 fn a_scene_that_is_too_long(rt: HostRuntime) -> Result<(), Fail> {
     let mut text = vec![in rt.alloc(); b'\n'; 16_777_216]?;
-    let longest = left_by(&rt, rt.alloc(), run(&RECORD, &text), [b"", b""])?.0;
+    let longest = left_by(&rt, rt.alloc(), plain_run(&RECORD, &text), [b"", b""])?.0;
     text.push(b'\n')?;
-    let (status, _, lengths, _) = left_by(&rt, rt.alloc(), run(&RECORD, &text), [b"", b""])?;
+    let (status, _, lengths, _) = left_by(&rt, rt.alloc(), plain_run(&RECORD, &text), [b"", b""])?;
     let line = CaptureStatus::Scene {
         line: 16_777_217,
         cause: 2,
@@ -264,17 +279,17 @@ fn a_capture_that_is_too_long(rt: HostRuntime) -> Result<(), Fail> {
 fn what_fails(rt: HostRuntime) -> Result<(), Fail> {
     let unread = Run {
         fails: &FIRST_CALL,
-        ..run(&RECORD, SCENE)
+        ..plain_run(&RECORD, SCENE)
     };
     let read = left_by(&rt, rt.alloc(), unread, [b"", b""])?;
     let short = Run {
         rooms: [9, 64],
-        ..run(&RECORD, SCENE)
+        ..plain_run(&RECORD, SCENE)
     };
     let put = left_by(&rt, rt.alloc(), short, [&CAPTURE[..9], NOTES])?;
     let few = Run {
         rooms: [64, 9],
-        ..run(&RECORD, SCENE)
+        ..plain_run(&RECORD, SCENE)
     };
     let noted = left_by(&rt, rt.alloc(), few, [b"", &NOTES[..9]])?;
     assert_eq!(rt; read, (CaptureStatus::ReadFault, 0, [0; 2], [true; 2]));

@@ -25,7 +25,7 @@ static NO_CALL: [u32; 0] = [];
 static FIRST_CALL: [u32; 1] = [0];
 
 // A load with ample room whose source does not fail.
-fn run(text: &[u8]) -> Run<'_> {
+fn plain_run(text: &[u8]) -> Run<'_> {
     Run {
         text,
         fails: &NO_CALL,
@@ -151,7 +151,13 @@ const ONE_CALLER: &[u8] =
 fn an_index_comes_back_after_two_frames(rt: HostRuntime) -> Result<(), Fail> {
     let notes =
         b"0:0 index 0 serial 1\n0:1 index 0 serial 2\n0:2 done\n0:3 index 1 serial 3\n0:4 frame 0\n0:5 frame 1\n0:6 index 0 serial 4\n";
-    let (status, _, same) = left_by(&rt, rt.alloc(), run(ONE_CALLER), &NoGate, [notes, b""])?;
+    let (status, _, same) = left_by(
+        &rt,
+        rt.alloc(),
+        plain_run(ONE_CALLER),
+        &NoGate,
+        [notes, b""],
+    )?;
     assert_eq!(rt; (status, same[0]), (LoadStatus::Done, true));
     Ok(())
 }
@@ -161,7 +167,7 @@ fn two_callers_in_some_order(rt: HostRuntime) -> Result<(), Fail> {
     let text = b"load 1\ncallers 2\ncaller 0\nprogram a solid\ncaller 1\nprogram a solid\ndone\n";
     let first = b"0:0 index 0 serial 1\n1:0 index 1 serial 2\n";
     let second = b"1:0 index 0 serial 1\n0:0 index 1 serial 2\n";
-    let (status, _, same) = left_by(&rt, rt.alloc(), run(text), &NoGate, [first, second])?;
+    let (status, _, same) = left_by(&rt, rt.alloc(), plain_run(text), &NoGate, [first, second])?;
     assert_eq!(rt; (status, same[0] || same[1]), (LoadStatus::Done, true));
     Ok(())
 }
@@ -174,7 +180,7 @@ const TWO_CALLERS: &[u8] =
 fn the_second_caller_is_held(rt: HostRuntime) -> Result<(), Fail> {
     let gate = Hold::new(1);
     let first = b"0:0 index 0 serial 1\n";
-    let (status, _, same) = left_by(&rt, rt.alloc(), run(TWO_CALLERS), &gate, [first, b""])?;
+    let (status, _, same) = left_by(&rt, rt.alloc(), plain_run(TWO_CALLERS), &gate, [first, b""])?;
     assert_eq!(rt;
         (status, gate.has_met(), same[2]),
         (LoadStatus::Done, true, true)
@@ -186,7 +192,7 @@ fn the_second_caller_is_held(rt: HostRuntime) -> Result<(), Fail> {
 fn the_first_caller_is_held(rt: HostRuntime) -> Result<(), Fail> {
     let gate = Hold::new(0);
     let first = b"1:0 index 0 serial 1\n";
-    let (status, _, same) = left_by(&rt, rt.alloc(), run(TWO_CALLERS), &gate, [first, b""])?;
+    let (status, _, same) = left_by(&rt, rt.alloc(), plain_run(TWO_CALLERS), &gate, [first, b""])?;
     assert_eq!(rt;
         (status, gate.has_met(), same[2]),
         (LoadStatus::Done, true, true)
@@ -203,7 +209,13 @@ fn what_was_refused_is_not_destroyed(rt: HostRuntime) -> Result<(), Fail> {
     let gate = Hold::new(1);
     let first = b"0:0 index 0 serial 1\n0:1 index 0 serial 2\n1:0 refused 6\n";
     let second = b"0:0 index 0 serial 1\n1:0 refused 6\n0:1 index 0 serial 2\n";
-    let (status, _, same) = left_by(&rt, rt.alloc(), run(ONE_REFUSED), &gate, [first, second])?;
+    let (status, _, same) = left_by(
+        &rt,
+        rt.alloc(),
+        plain_run(ONE_REFUSED),
+        &gate,
+        [first, second],
+    )?;
     assert_eq!(rt; (status, gate.has_met()), (LoadStatus::Done, true));
     assert!(rt; same[0] || same[1]);
     Ok(())
@@ -216,7 +228,7 @@ fn counted<R: Threads + Wait + Sync>(
     text: &[u8],
 ) -> Result<(LoadStatus, (u32, u32, u32)), AllocError> {
     let gate = Count::new();
-    let (status, _, _) = left_by(rt, alloc, run(text), &gate, [b"", b""])?;
+    let (status, _, _) = left_by(rt, alloc, plain_run(text), &gate, [b"", b""])?;
     Ok((status, gate.found()))
 }
 
@@ -235,14 +247,14 @@ fn a_thing_is_destroyed_twice(rt: HostRuntime) -> Result<(), Fail> {
     let text =
         b"load 1\n# three blocks of eight\ncallers 8\ncaller 3\n\nprogram a color\ndestroy a\ndestroy a\ncaller 7\ndone\n";
     let notes = b"3:0 index 0 serial 1\n3:1 done\n3:2 refused 2\n";
-    let (status, _, same) = left_by(&rt, rt.alloc(), run(text), &NoGate, [notes, b""])?;
+    let (status, _, same) = left_by(&rt, rt.alloc(), plain_run(text), &NoGate, [notes, b""])?;
     assert_eq!(rt; (status, same[0]), (LoadStatus::Done, true));
     Ok(())
 }
 
 #[test]
 fn no_block_is_a_load(rt: HostRuntime) -> Result<(), Fail> {
-    let none = run(b"load 1\ncallers 2\ndone\n");
+    let none = plain_run(b"load 1\ncallers 2\ndone\n");
     let (status, length, _) = left_by(&rt, rt.alloc(), none, &NoGate, [b"", b""])?;
     assert_eq!(rt; (status, length), (LoadStatus::Done, 0));
     Ok(())
@@ -286,7 +298,7 @@ fn the_first_line_that_fails(rt: HostRuntime) -> Result<(), Fail> {
         (b"load 1\ncallers 1\ndone\n#", 4),
     ];
     for (text, line) in texts {
-        let (status, length, _) = left_by(&rt, rt.alloc(), run(text), &NoGate, [b"", b""])?;
+        let (status, length, _) = left_by(&rt, rt.alloc(), plain_run(text), &NoGate, [b"", b""])?;
         assert_eq!(rt; (status, length), (LoadStatus::Text { line }, 0));
     }
     Ok(())
@@ -296,11 +308,11 @@ fn the_first_line_that_fails(rt: HostRuntime) -> Result<(), Fail> {
 fn a_read_and_a_write_that_fail(rt: HostRuntime) -> Result<(), Fail> {
     let unread = Run {
         fails: &FIRST_CALL,
-        ..run(ONE_CALLER)
+        ..plain_run(ONE_CALLER)
     };
     let short = Run {
         capacity: 9,
-        ..run(ONE_CALLER)
+        ..plain_run(ONE_CALLER)
     };
     let (read, length, _) = left_by(&rt, rt.alloc(), unread, &NoGate, [b"", b""])?;
     let (cut, _, same) = left_by(&rt, rt.alloc(), short, &NoGate, [b"0:0 index", b""])?;
@@ -324,7 +336,7 @@ fn long_left<R: Threads + Wait + Sync>(
     comment: usize,
 ) -> Result<(usize, LoadStatus, usize), AllocError> {
     let text = long_load(alloc, comment)?;
-    let (status, length, _) = left_by(rt, alloc, run(&text), &NoGate, [b"", b""])?;
+    let (status, length, _) = left_by(rt, alloc, plain_run(&text), &NoGate, [b"", b""])?;
     Ok((text.len(), status, length))
 }
 

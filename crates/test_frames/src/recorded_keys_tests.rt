@@ -132,7 +132,7 @@ fn views(alloc: Global) -> Result<ViewTable, Fail> {
     Ok(views)
 }
 
-fn words() -> Result<Words, Fail> {
+fn plain_words() -> Result<Words, Fail> {
     let state = StateWord::read(15).map_err(|_| "state")?;
     let stencil = StencilWord::read(0).map_err(|_| "stencil")?;
     Ok(Words { state, stencil })
@@ -166,7 +166,7 @@ fn views_of_three_encoders(rt: HostRuntime) -> Result<(), Fail> {
             second: 2,
         },
     ];
-    let words = words()?;
+    let words = plain_words()?;
     assert!(rt; are_shared(rt.alloc(), &words, &wanted)?);
     Ok(())
 }

@@ -1,6 +1,6 @@
 // Frames by hand: what is named and not there, and a frame that wants memory.
 use crate::render_core_stray_tests::positions;
-use crate::render_core_tests::{Parts, framed, render, rest};
+use crate::render_core_tests::{Parts, framed, render, rest_of};
 use cmd_buffer::Command;
 use draw_encoder::{DrawItem, IndexSet, Item, VertexSet};
 use fix_math::{Affine, Rect};
@@ -76,7 +76,7 @@ fn frame_of(alloc: Global, made: Made<'_>) -> Result<Frame, Fail> {
     // The types of a draw's parts are seen here, as the check asks.
     let _parts: Option<Parts> = None;
     let draw = draw(made.view)?;
-    let mut rest = rest(alloc, 0, made.pre, made.post)?;
+    let mut rest = rest_of(alloc, 0, made.pre, made.post)?;
     if made.is_green {
         let _ = rest.views.set_clear(0, 1, [0, 255, 0, 255], 0, 0);
     }

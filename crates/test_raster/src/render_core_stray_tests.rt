@@ -1,7 +1,7 @@
 // Frames that no context makes.
 ghost use Rattle.std.specs.Prelude.{◌≡◌, ◌≤◌, ◌<◌};
 
-use crate::render_core_tests::{framed, render, rest};
+use crate::render_core_tests::{framed, render, rest_of};
 use cmd_buffer::Command;
 use draw_encoder::{BlitCall, BlitItem, DrawItem, IndexSet, Item, VertexSet};
 use fix_math::{Affine, Rect};
@@ -212,7 +212,7 @@ fn stray_frame(alloc: Global, seed: u64, words: (StateWord, StencilWord)) -> Res
     ];
     let post = [stray_change(next(three))];
     let target = Handle::of(Kind::FrameBuffer, small(seed, 20), 1, Info::Plain);
-    let mut rest = rest(alloc, 0, &pre, &post)?;
+    let mut rest = rest_of(alloc, 0, &pre, &post)?;
     rest.views
         .set_target(1, Some(target))
         .map_err(|_| "target")?;
@@ -264,7 +264,7 @@ fn last_commands(alloc: Global, layout: VertexLayout) -> Result<Vec<Command>, Al
 fn last_frame(alloc: Global, words: (StateWord, StencilWord)) -> Result<Frame, Fail> {
     let layout = positions()?;
     let pre = last_commands(alloc, layout)?;
-    let rest = rest(alloc, 0, &pre, &[])?;
+    let rest = rest_of(alloc, 0, &pre, &[])?;
     let draw = stray_draw((1 << 16) | (1 << 12), words);
     Ok(framed(alloc, rest, draw)?)
 }

@@ -65,7 +65,7 @@ pub(crate) struct Rest {
 }
 
 /// Plain views, with commands before and after a frame, and the payloads.
-pub(crate) fn rest(
+pub(crate) fn rest_of(
     alloc: Global,
     number: u32,
     pre: &[Command],
