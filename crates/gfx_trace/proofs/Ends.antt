@@ -56,10 +56,12 @@ status_long job bytes source told h =
 sink-taken : (job : Job) (sink notes : Putting) → AreTaken (Some job) sink notes → HasFailedToTake sink → ⊥
 sink-taken (jobs.Pixel p) sink notes t = t
 sink-taken (jobs.Steps frame) sink notes t = t.0
+sink-taken (jobs.Blame frame) sink notes t = t
 
 notes-taken : (job : Job) (bytes : List ℕ) (sink notes : Putting) → AreTaken (Some job) sink notes → HasFailedToNote job bytes sink notes → ⊥
 notes-taken (jobs.Pixel p) bytes sink notes t h = h
 notes-taken (jobs.Steps frame) bytes sink notes t h = t.1 h.2
+notes-taken (jobs.Blame frame) bytes sink notes t h = h
 
 job_ends_as : (st : TraceStatus) (job : Job) (source : Reading) (sink notes : Putting) (bytes : List ℕ) → EndsJob st job source sink notes → IsGiven (Some job) source bytes → (status_of (Some job) bytes ≡ status.Done → AreTaken (Some job) sink notes) → EndsAs (status_of (Some job) bytes) st
 job_ends_as status.Done job source sink notes bytes (b, r, h) given cut = inl (sym (status_told job bytes b status.Done source given.0 r h.0))
@@ -95,6 +97,21 @@ put_answered (status.Journal place) p bytes text sink notes is same h quiet = ab
 put_answered status.OutOfMemory p bytes text sink notes is same h quiet = (h, quiet)
 put_answered status.NoFrame p bytes text sink notes is same h quiet = absurd h
 put_answered status.NoPixel p bytes text sink notes is same h quiet = absurd h
+
+-- a picture of deeds
+pub blame_answered : (st : TraceStatus) (frame : ℕ) (bytes text : List ℕ) (sink notes : Putting) → asked_status (jobs.Blame frame) (asked_of bytes) ≡ status.Done → text_of (jobs.Blame frame) bytes ≡ text → IsPut st text sink → IsUntouched notes
+    → IsAnswered st (jobs.Blame frame) bytes sink notes
+blame_answered status.Done frame bytes text sink notes is same h quiet = (is, h ∙ ap (with_back sink.before) (sym same), quiet)
+blame_answered status.Usage frame bytes text sink notes is same h quiet = absurd h
+blame_answered (status.Scene line cause) frame bytes text sink notes is same h quiet = absurd h
+blame_answered status.ReadFault frame bytes text sink notes is same h quiet = absurd h
+blame_answered status.PictureFault frame bytes text sink notes is same h quiet = (is, subst (λ (t : List ℕ). HasPutFront t sink) (sym same) h.0, h.1, quiet)
+blame_answered status.NoteFault frame bytes text sink notes is same h quiet = absurd h
+blame_answered status.TooLong frame bytes text sink notes is same h quiet = absurd h
+blame_answered (status.Journal place) frame bytes text sink notes is same h quiet = absurd h
+blame_answered status.OutOfMemory frame bytes text sink notes is same h quiet = (h, quiet)
+blame_answered status.NoFrame frame bytes text sink notes is same h quiet = absurd h
+blame_answered status.NoPixel frame bytes text sink notes is same h quiet = absurd h
 
 -- the lines of steps whose pictures were put
 pub noted_ended : (st : TraceStatus) (end : StepsEnd) (lines : List ℕ) (notes : Putting) → end.fault ≡ None → IsNoted st lines notes → AreEnded st end lines notes
@@ -142,6 +159,7 @@ none_front text sink h = (0, h ∙ with_back-nothing sink.before)
 -- nothing was put where memory ran out
 none_stopped : (job : Job) (bytes : List ℕ) (sink : Putting) → IsUntouched sink → HasStopped job bytes sink
 none_stopped (jobs.Pixel p) bytes sink h = h
+none_stopped (jobs.Blame frame) bytes sink h = h
 none_stopped (jobs.Steps frame) bytes sink h = none_front (text_of (jobs.Steps frame) bytes) sink h
 
 pub memory_answered : (job : Job) (bytes : List ℕ) (sink notes : Putting) → IsUntouched sink → IsUntouched notes → IsAnswered status.OutOfMemory job bytes sink notes
@@ -153,6 +171,7 @@ memory_ends job source sink notes u q = (go job, q)
     go : (job : Job) → IsStopped job source sink
     go (jobs.Pixel p) = u
     go (jobs.Steps frame) = inl u
+    go (jobs.Blame frame) = u
 
 -- the statuses with which a job over bytes is refused
 abbrev pub IsRefusal : TraceStatus → Type 0
@@ -184,6 +203,7 @@ refused_answered wanted st job bytes line sink notes r is same u (inr (e, q)) = 
 stopped_ends : (job : Job) (bytes : List ℕ) (source : Reading) (sink : Putting) → IsRead bytes source → HasStopped job bytes sink → IsStopped job source sink
 stopped_ends (jobs.Pixel p) bytes source sink r h = h
 stopped_ends (jobs.Steps frame) bytes source sink r h = inr (bytes, r, h)
+stopped_ends (jobs.Blame frame) bytes source sink r h = h
 
 pub answered_ends : (st : TraceStatus) (job : Job) (bytes : List ℕ) (source : Reading) (sink notes : Putting) → IsRead bytes source → IsAnswered st job bytes sink notes → EndsJob st job source sink notes
 answered_ends status.Done job bytes source sink notes r h = (bytes, r, h)
@@ -233,6 +253,15 @@ module _ (s : Scene) (frame : ℕ) where
   pub steps_there : place_status s (jobs.Steps frame) ≡ status.Done → frame < length s.frames
   steps_there e = steps_frame (nat_lt frame (length s.frames)) refl e
 
+  pub no_blame : nat_lt frame (length s.frames) ≡ false → place_status s (jobs.Blame frame) ≡ status.NoFrame
+  no_blame e = ap by_frame e
+
+  pub is_blamed : nat_lt frame (length s.frames) ≡ true → place_status s (jobs.Blame frame) ≡ status.Done
+  is_blamed e = ap by_frame e
+
+  pub blame_there : place_status s (jobs.Blame frame) ≡ status.Done → frame < length s.frames
+  blame_there e = steps_frame (nat_lt frame (length s.frames)) refl e
+
 first : (a b : Bool) → by_tests a b ≡ status.Done → a ≡ true
 first true b e = refl
 first false b e = absurd (cc e)
@@ -280,3 +309,13 @@ pub frame_is_there : (st : TraceStatus) (o : Option Job) (source : Reading) (sin
     → source.before ≡ Some bytes → asked_of bytes ≡ scene_by s j → frame < length s.frames
 frame_is_there st o source sink notes bytes s j frame h done words told asked =
     steps_done frame source sink notes bytes s j (subst (λ (i : Option Job). Ends status.Done i source sink notes) words (subst (λ (t : TraceStatus). Ends t o source sink notes) done h)) told asked
+
+blame_done : (frame : ℕ) (source : Reading) (sink notes : Putting) (bytes : List ℕ) (s : Scene) (j : Journal) → EndsJob status.Done (jobs.Blame frame) source sink notes → source.before ≡ Some bytes → asked_of bytes ≡ scene_by s j → frame < length s.frames
+blame_done frame source sink notes bytes s j (b, r, h) told asked =
+    blame_there s frame (ap (asked_status (jobs.Blame frame)) (sym asked ∙ ap asked_of (sym (read_told bytes b source told r))) ∙ h.0)
+
+-- a frame whose deeds were put as a picture is there
+pub blame_is_there : (st : TraceStatus) (o : Option Job) (source : Reading) (sink notes : Putting) (bytes : List ℕ) (s : Scene) (j : Journal) (frame : ℕ) → Ends st o source sink notes → st ≡ status.Done → o ≡ Some (jobs.Blame frame)
+    → source.before ≡ Some bytes → asked_of bytes ≡ scene_by s j → frame < length s.frames
+blame_is_there st o source sink notes bytes s j frame h done words told asked =
+    blame_done frame source sink notes bytes s j (subst (λ (i : Option Job). Ends status.Done i source sink notes) words (subst (λ (t : TraceStatus). Ends t o source sink notes) done h)) told asked

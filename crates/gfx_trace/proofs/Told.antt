@@ -18,9 +18,10 @@ use Rattle.trace_laws.specs.Moments.{Moment, moments_from}
 use Rattle.trace_lines.specs.Numbered.{lines_at}
 use Rattle.item_lines.specs.Items.{item_lines}
 use Rattle.trace_lines.specs.Steps.{step_lines}
+use Rattle.scene_tracing.specs.Blame.{blame_at}
 use Rattle.scene_tracing.specs.Steps.{doers_at, steps_at}
 use Rattle.gfx_trace.specs.Asked.{Asked, scene_by, no_scene, no_journal, unless_fault, by_journal, behind_front, alone_or_front, asked_of}
-use Rattle.gfx_trace.specs.Lines.{AreSeen, IsTold}
+use Rattle.gfx_trace.specs.Lines.{AreSeen, IsBlamed, IsTold}
 
 -- ---- a journal has a list for each frame
 
@@ -118,3 +119,11 @@ are-seen moment_law step_law many bytes s j k asked frame =
       last = (step_law m.it.world m.it.content).last;
       lines = λ i. step_lines (item_lines bytes s k) 1 (doers_at (plan.at i) (entries.at i));
     }
+
+-- the numbers of a frame that is there
+pub is-blamed : PlanCountLaw → (bytes : List ℕ) (s : Scene) (j : Journal) (k : ℕ) → asked_of bytes ≡ scene_by s j → k < length s.frames → IsBlamed s j k
+is-blamed many bytes s j k asked frame =
+    let lists = alone many s j bytes (scene_of whole_language bytes) asked in
+    let planned : length (plans s) ≡ length s.frames = many s in
+    let m = begun (first_world s.width s.height) (plans s) j k (omega (arith, planned, frame)) (omega (arith, lists, frame)) in
+    record { moment = m.it; begins = m.at; numbers = ap blame_at m.at }

@@ -6,6 +6,7 @@ use Rattle.scene_model.specs.Output.{length_line}
 use Rattle.gfx_trace.specs.Asked.{Asked, scene_by, no_scene, no_journal, asked_of}
 use Rattle.frame_steps.specs.declared.steps.StepFault.TheVariants as faults
 use Rattle.scene_tracing.specs.declared.stepped.StepsEnd.{StepsEnd}
+use Rattle.scene_tracing.specs.Blame.{scene_blame_text}
 use Rattle.scene_tracing.specs.Steps.{scene_steps_text}
 use Rattle.gfx_trace.specs.Lines.{history_text, step_notes}
 use Rattle.io_whole.specs.Runs.{Reading, HasFailedToGive, IsUnread, Putting, HasFailedToTake, IsUntouched, HasPut, HasPutFront, HasTried}
@@ -23,6 +24,7 @@ abbrev pub place_status : Scene → Job → TraceStatus
 place_status s (jobs.Pixel p) =
     if nat_lt p.frame (length s.frames) then (if nat_lt p.x s.width && nat_lt p.y s.height then status.Done else status.NoPixel) else status.NoFrame
 place_status s (jobs.Steps frame) = if nat_lt frame (length s.frames) then status.Done else status.NoFrame
+place_status s (jobs.Blame frame) = if nat_lt frame (length s.frames) then status.Done else status.NoFrame
 
 -- what was asked for is there
 abbrev pub asked_status : Job → Asked → TraceStatus
@@ -37,10 +39,11 @@ status_of (Some job) bytes = if nat_lt longest (length bytes) then status.TooLon
 
 -- ---- what is put
 
--- the lines of the pixel in the frame, or the pictures of the frame's steps
+-- the lines of the pixel in the frame, the pictures of the frame's steps, or the picture of the deeds to which its pixels are due
 abbrev pub asked_text : Job → List ℕ → Asked → List ℕ
 asked_text (jobs.Pixel p) bytes (scene_by s j) = history_text bytes s j p.frame p.x p.y
 asked_text (jobs.Steps frame) bytes (scene_by s j) = scene_steps_text s j frame
+asked_text (jobs.Blame frame) bytes (scene_by s j) = scene_blame_text s j frame
 asked_text job bytes _ = []
 
 -- the text that a job over an input puts
@@ -80,19 +83,22 @@ AreEnded _ end lines notes = ⊥
 
 -- ---- what stands after each status
 
--- what is in the notes after a job that was done: of a pixel nothing
+-- what is in the notes after a job that was done: the lines of steps, and else nothing
 abbrev pub HasNoted : Job → (bytes : List ℕ) → (notes : Putting) → Type 0
 HasNoted (jobs.Pixel p) bytes notes = IsUntouched notes
+HasNoted (jobs.Blame frame) bytes notes = IsUntouched notes
 HasNoted (jobs.Steps frame) bytes notes = HasPut (notes_of (jobs.Steps frame) bytes) notes
 
--- the notes failed, when all pictures of the steps were put; it is no end of a pixel
+-- the notes failed, when all pictures of the steps were put; it is an end of steps alone
 abbrev pub HasFailedToNote : Job → (bytes : List ℕ) → (sink notes : Putting) → Type 0
 HasFailedToNote (jobs.Pixel p) bytes sink notes = ⊥
+HasFailedToNote (jobs.Blame frame) bytes sink notes = ⊥
 HasFailedToNote (jobs.Steps frame) bytes sink notes = HasPut (text_of (jobs.Steps frame) bytes) sink × HasPutFront (notes_of (jobs.Steps frame) bytes) notes × HasFailedToTake notes
 
--- what was put where memory ran out: of a pixel nothing, of steps a front of their pictures
+-- what was put where memory ran out: of steps a front of their pictures, and else nothing
 abbrev pub HasStopped : Job → (bytes : List ℕ) → (sink : Putting) → Type 0
 HasStopped (jobs.Pixel p) bytes sink = IsUntouched sink
+HasStopped (jobs.Blame frame) bytes sink = IsUntouched sink
 HasStopped (jobs.Steps frame) bytes sink = HasPutFront (text_of (jobs.Steps frame) bytes) sink
 
 -- what stands after a run over bytes
@@ -110,6 +116,7 @@ IsAnswered st job bytes sink notes = (asked_status job (asked_of bytes) ≡ st) 
 -- the same where memory ran out, and it is not said how far the source was read
 abbrev pub IsStopped : Job → Reading → (sink : Putting) → Type 0
 IsStopped (jobs.Pixel p) source sink = IsUntouched sink
+IsStopped (jobs.Blame frame) source sink = IsUntouched sink
 IsStopped (jobs.Steps frame) source sink = IsUntouched sink ⊎ ((bytes : List ℕ) × IsRead bytes source × HasPutFront (text_of (jobs.Steps frame) bytes) sink)
 
 -- what stands after a run of a job

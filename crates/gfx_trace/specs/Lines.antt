@@ -13,6 +13,8 @@ use Rattle.trace_laws.specs.Moments.{Moment, moments}
 use Rattle.trace_lines.specs.Numbered.{numbered_lines, scene_numbered_lines}
 use Rattle.trace_lines.specs.Steps.{step_lines}
 use Rattle.item_lines.specs.Items.{item_lines}
+use Rattle.frame_blame.specs.Blame.{numbers_text, pixel_blame}
+use Rattle.scene_tracing.specs.Blame.{by_rows, scene_blame_text}
 use Rattle.scene_tracing.specs.Steps.{scene_doers, scene_steps_text}
 
 -- the lines of a pixel in a frame of a scene by a journal, each item with the number of the line of the scene's text that records it
@@ -56,3 +58,12 @@ pub record AreSeen (bytes : List ℕ) (s : Scene) (j : Journal) (frame : ℕ) : 
   pub steps : AreSteps moment.world moment.content
   pub last : slice_get (step_pictures moment.world moment.content) (length (deeds moment.content)) ≡ Some picture
   pub lines : step_notes bytes s j frame ≡ step_lines (item_lines bytes s frame) 1 (doers plan entries)
+
+-- the frame has its moment, and the numbers are those of the deeds from it on: of each pixel of the back buffer the last deed of its history that
+-- gives it a colour
+pub record IsBlamed (s : Scene) (j : Journal) (frame : ℕ) : Type 0 where
+  pub moment : Moment
+  pub begins : slice_get (moments s j) frame ≡ Some moment
+  pub numbers :
+      scene_blame_text s j frame
+      ≡ numbers_text moment.world.back.color.width moment.world.back.color.height (by_rows moment.world.back.color.width moment.world.back.color.height (pixel_blame moment.world moment.content))

@@ -9,7 +9,7 @@ use Rattle.io_whole.specs.Runs.{Putting, IsUntouched, HasTried}
 
 -- the words are refused
 abbrev pub usage_line : List ℕ
-usage_line = codes "usage: gfx_trace pixel F X Y | steps F\n"
+usage_line = codes "usage: gfx_trace pixel F X Y | steps F | blame F\n"
 
 -- the scene has no such frame
 abbrev pub frame_line : ℕ → List ℕ
@@ -23,11 +23,13 @@ pixel_line x y = codes "there is no pixel " ++ (decimal x ++ (codes " " ++ (deci
 abbrev pub job_frame_line : Job → List ℕ
 job_frame_line (jobs.Pixel p) = frame_line p.frame
 job_frame_line (jobs.Steps frame) = frame_line frame
+job_frame_line (jobs.Blame frame) = frame_line frame
 
 -- the line of the pixel that a job names, if it names one
 abbrev pub job_pixel_line : Job → List ℕ
 job_pixel_line (jobs.Pixel p) = pixel_line p.x p.y
 job_pixel_line (jobs.Steps frame) = []
+job_pixel_line (jobs.Blame frame) = []
 
 -- the line with which a job is refused
 abbrev pub refusal_line : Job → TraceStatus → List ℕ

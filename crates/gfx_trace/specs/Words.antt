@@ -18,8 +18,17 @@ abbrev pub steps_job : (frame : Option ℕ) → Option Job
 steps_job (Some frame) = Some (jobs.Steps frame)
 steps_job None = None
 
--- what the words ask for: `pixel F X Y` or `steps F`
+-- to which deed of a frame each pixel is due, where the word is a number
+abbrev pub blame_job : (frame : Option ℕ) → Option Job
+blame_job (Some frame) = Some (jobs.Blame frame)
+blame_job None = None
+
+-- what two words ask for
+abbrev pub frame_job : List ℕ → (frame : Option ℕ) → Option Job
+frame_job word frame = if bytes_eq word (codes "steps") then steps_job frame else (if bytes_eq word (codes "blame") then blame_job frame else None)
+
+-- what the words ask for: `pixel F X Y`, `steps F` or `blame F`
 abbrev pub job_of : List (List ℕ) → Option Job
 job_of (word ∷ frame ∷ x ∷ y ∷ []) = if bytes_eq word (codes "pixel") then pixel_job (number_of frame) (number_of x) (number_of y) else None
-job_of (word ∷ frame ∷ []) = if bytes_eq word (codes "steps") then steps_job (number_of frame) else None
+job_of (word ∷ frame ∷ []) = frame_job word (number_of frame)
 job_of words = None

@@ -1,6 +1,8 @@
 //! `gfx_trace pixel F X Y`: what the pixel in column X and row Y of frame F of the scene on standard input goes through, a line for each
 //! clear and each fragment, to standard output. `gfx_trace steps F`: the pictures of frame F before its first deed and after each, to standard
-//! output, and a line for each deed, to standard error. A journal may stand behind the scene; else its items come as on one thread.
+//! output, and a line for each deed, to standard error. `gfx_trace blame F`: a picture whose pixels are numbers in three bytes, to standard
+//! output: of each pixel of frame F that of the deed that gave it its colour last, counted from 1; 0 where none did. A journal may stand behind
+//! the scene; else its items come as on one thread.
 //!
 //! What is refused is told on standard error. The exit status is the number of the run's status: 0 done, 1 refused words, 2 no scene, 3 a
 //! read failed, 4 a write to standard output failed, 5 one to standard error, 6 an input that is too long, 7 a journal that is refused, 8
@@ -8,6 +10,7 @@
 #![tactic(auto)]
 
 mod asked;
+mod blame;
 mod numbers;
 mod refusing;
 mod status;

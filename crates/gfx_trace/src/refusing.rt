@@ -10,7 +10,7 @@ use io_whole::put_all;
 use std::alloc::{AllocError, Global};
 
 /// The line of refused words.
-pub(crate) const USAGE: &[u8] = b"usage: gfx_trace pixel F X Y | steps F\n";
+pub(crate) const USAGE: &[u8] = b"usage: gfx_trace pixel F X Y | steps F | blame F\n";
 
 /// The line of an input that is too long.
 pub(crate) const TOO_LONG: &[u8] = b"input is longer than 16777216 bytes\n";

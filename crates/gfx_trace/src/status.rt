@@ -13,7 +13,7 @@ pub enum TraceStatus {
     Scene { line: u32, cause: u8 },
     /// A read failed.
     ReadFault,
-    /// A write of the history, or of the pictures of the steps, failed.
+    /// A write of the history, of the pictures of the steps, or of the picture of the deeds failed.
     PictureFault,
     /// A write of the lines of the steps failed.
     NoteFault,

@@ -10,10 +10,11 @@ ghost use Rattle.gfx_trace.specs.Asked.{asked_of, scene_by};
 ghost use Rattle.gfx_trace.specs.Ended.{AreTaken, Ends, EndsAs, EndsJob, IsAnswered, IsGiven, IsPut, status_of};
 ghost use Rattle.gfx_trace.specs.Found.{asked_seen};
 ghost use Rattle.io_whole.specs.Runs.{putting, reading};
-ghost use Rattle.gfx_trace.specs.Lines.{AreSeen, IsTold, history_text};
+ghost use Rattle.gfx_trace.specs.Lines.{AreSeen, IsBlamed, IsTold, history_text};
 ghost use Rattle.gfx_trace.specs.Words.{job_of};
 
 use crate::asked::{Asked, AskedFault, read_asked};
+use crate::blame::do_blame;
 use crate::refusing::{
     TOO_LONG, USAGE, refuse, refuse_frame, refuse_journal, refuse_pixel, refuse_scene,
 };
@@ -127,6 +128,11 @@ fn do_job<P: Sink + Drop, N: Sink>(
             Traced { status, sink }
         }
         Job::Steps { frame } => do_steps(alloc, bytes, asked, frame, sink, notes),
+        Job::Blame { frame } => {
+            let mut sink = sink;
+            let status = do_blame(alloc, asked, frame, &mut sink, notes);
+            Traced { status, sink }
+        }
     }
 }
 
@@ -223,18 +229,19 @@ fn run<R: Threads + Wait + Sync, S: Source, P: Sink + Drop, N: Sink>(
 
 /// Does what the words say. `pixel F X Y` puts a line for each clear and each fragment that the pixel in column X and row Y of frame F of
 /// the scene that the source gives goes through, in order. `steps F` puts the picture before the first deed of frame F and that after each,
-/// and a line for each deed into the notes. Columns are counted from the left, rows from the top, and all three from 0.
+/// and a line for each deed into the notes. `blame F` puts a picture whose pixels are numbers in three bytes: that of the deed of frame F that
+/// gave the pixel its colour last, counted from 1; 0 where none did. Columns are counted from the left, rows from the top, and all three from 0.
 ///
 /// The order is: the words, whose numbers are decimal, without a leading zero and up to 4,294,967,295; the source, which is read to its end, at
 /// most 16,777,216 bytes; the scene; the journal that may stand behind it, else its items come as on one thread; the frame; the pixel; the lines,
-/// or the pictures, each when its deed is done, and then the lines of the deeds.
+/// or the pictures, each when its deed is done, and then the lines of the deeds, or the picture of the deeds.
 /// The frames before are rendered, and so is the frame, by this thread alone; only where a journal stands behind the scene are its frames
 /// recorded once before, by recorder threads where they can be started.
 ///
 /// What is refused is told to the notes, as far as they take it, and nothing is put. The status says how it ended. `Usage`, `TooLong`,
 /// `Scene`, `Journal`, `NoFrame` and `NoPixel` come exactly by the words and the bytes; `ReadFault`, `PictureFault` and `NoteFault` only where
-/// that object's count of faults rose in this call; `OutOfMemory` is free. After `PictureFault` a front of the lines or of the pictures was put,
-/// after `NoteFault` all pictures and a front of their lines, after `OutOfMemory` of `steps` a front of the pictures, and after the others but
+/// that object's count of faults rose in this call; `OutOfMemory` is free. After `PictureFault` a front of what was to be put was put, after
+/// `NoteFault` all pictures and a front of their lines, after `OutOfMemory` of `steps` a front of the pictures, and after the others but
 /// `Done` nothing. It may wait for its own threads.
 pub fn trace<R: Threads + Wait + Sync, S: Source, P: Sink + Drop, N: Sink>(
     rt: &R,
@@ -272,6 +279,10 @@ pub fn trace<R: Threads + Wait + Sync, S: Source, P: Sink + Drop, N: Sink>(
     ensures seen { (bytes : List ℕ) (s : model.Scene) (j : Journal) (frame : ℕ)
         → result.status ≡ TraceStatus.Done → job_of (map string_bytes words.now) ≡ Some (Job.Steps frame) → S.left source.old ≡ Some bytes → asked_of bytes ≡ scene_by s j
         → AreSeen bytes s j frame }
+    // Where pixels were blamed, the numbers are those of the deeds from the frame's moment on.
+    ensures blamed { (bytes : List ℕ) (s : model.Scene) (j : Journal) (frame : ℕ)
+        → result.status ≡ TraceStatus.Done → job_of (map string_bytes words.now) ≡ Some (Job.Blame frame) → S.left source.old ≡ Some bytes → asked_of bytes ≡ scene_by s j
+        → IsBlamed s j frame }
 {
     moment_law();
     scene_pixel_law();

@@ -1,6 +1,6 @@
 // The words of the command line.
 ghost use Rattle.std.specs.Prelude.{◌≡◌, map, string_bytes};
-ghost use Rattle.gfx_trace.specs.Words.{job_of, number_of, pixel_job, steps_job};
+ghost use Rattle.gfx_trace.specs.Words.{blame_job, frame_job, job_of, number_of, pixel_job, steps_job};
 
 use crate::numbers::number_of;
 
@@ -19,6 +19,8 @@ pub enum Job {
     Pixel(Place),
     /// The pictures of a frame's steps.
     Steps { frame: u32 },
+    /// To which deed of a frame each pixel is due.
+    Blame { frame: u32 },
 }
 
 /// The history of a pixel, where the three words are numbers.
@@ -39,7 +41,28 @@ fn steps_job(frame: &str) -> Option<Job>
     Some(Job::Steps { frame })
 }
 
-/// What the words ask for: `pixel F X Y` or `steps F`.
+/// To which deed of a frame each pixel is due, where the word is a number.
+fn blame_job(frame: &str) -> Option<Job>
+    ensures { result ≡ blame_job (number_of frame.now) }
+{
+    let frame = number_of(frame.as_bytes())?;
+    Some(Job::Blame { frame })
+}
+
+/// What two words ask for.
+fn frame_job(word: &str, frame: &str) -> Option<Job>
+    ensures { result ≡ frame_job word.now (number_of frame.now) }
+{
+    if word == "steps" {
+        return steps_job(frame);
+    }
+    if word == "blame" {
+        return blame_job(frame);
+    }
+    None
+}
+
+/// What the words ask for: `pixel F X Y`, `steps F` or `blame F`.
 pub(crate) fn job_of(words: &[String]) -> Option<Job>
     ensures { result ≡ job_of (map string_bytes words.now) }
 {
@@ -50,12 +73,7 @@ pub(crate) fn job_of(words: &[String]) -> Option<Job>
             }
             pixel_job(frame.as_str(), x.as_str(), y.as_str())
         }
-        [word, frame] => {
-            if word.as_str() != "steps" {
-                return None;
-            }
-            steps_job(frame.as_str())
-        }
+        [word, frame] => frame_job(word.as_str(), frame.as_str()),
         _ => None,
     }
 }

@@ -6,3 +6,5 @@ mod StepLines
 mod Steppers
 mod GivenFrames
 mod SceneSteps
+mod Blamers
+mod SceneBlame

@@ -1,5 +1,5 @@
 -- The pictures of the steps of a frame that a link was given are those of the scene.
-use Rattle.std.proofs.Common.{◌≡◌, ◌∙◌, ℕ, ◌+◌, ◌<◌, ◌≤◌, ◌-◌, Bool, List, ◌++◌, map, take, length, Option, Some, None, inl, inr, sym, ap, subst, arith, length-append, ⊎_elim}
+use Rattle.std.proofs.Common.{◌≡◌, ◌∙◌, ℕ, ◌<◌, ◌≤◌, ◌-◌, Bool, List, ◌++◌, map, take, length, Option, Some, None, inl, inr, sym, ap, subst, arith, length-append, ⊎_elim}
 use Rattle.std.proofs.Math.Logic.{∥∥₁_map, ∥∥₁_elim}
 use Rattle.std.specs.Coded.{codes, Coded, Coded-set, coded_ℕ, coded_list, coded_option, le_prop}
 use Rattle.std.specs.Prelude.{flat_map}

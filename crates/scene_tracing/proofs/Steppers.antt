@@ -1,10 +1,9 @@
 -- Steppers that are given one frame more.
-use Rattle.std.proofs.Common.{◌≡◌, ◌∙◌, ℕ, zero, ◌+◌, ◌<◌, false, is_some, List, [], ◌∷◌, ◌++◌, map, length, take, slice_get, Option, Some, None, IfSome, inl, inr, refl, sym, ap, subst}
-use Rattle.store_laws.specs.ByIndex.{Stores, frame_by_index}
+use Rattle.std.proofs.Common.{◌≡◌, ◌∙◌, ℕ, false, is_some, List, [], ◌∷◌, ◌++◌, Option, Some, None, IfSome, inl, inr, refl, sym, ap, subst}
+use Rattle.store_laws.specs.ByIndex.{Stores}
 use Rattle.frame_record.specs.declared.frame.Frame.{Frame}
 use Rattle.io_edge.specs.declared.sure.SureSink.{SureSink}
 use Rattle.render_core.specs.declared.renderer.Renderer.{Renderer}
-use Rattle.render_core.specs.Seen.{frame_seen}
 use Rattle.render_stores.specs.Seen.{stores_seen}
 use Rattle.frame_steps.specs.declared.steps.StepFault.TheVariants as faults
 use Rattle.scene_tracing.specs.Tracing.{IsBefore}

@@ -3,3 +3,5 @@ pub mod Histories
 pub mod Tracing
 pub mod Steps
 pub mod Stepping
+pub mod Blame
+pub mod Blaming

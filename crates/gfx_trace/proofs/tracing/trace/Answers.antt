@@ -1,5 +1,5 @@
-use Rattle.gfx_trace.proofs.Ends.{ends_as, pixel_is_there, frame_is_there}
-use Rattle.gfx_trace.proofs.Told.{is-told, are-seen}
+use Rattle.gfx_trace.proofs.Ends.{ends_as, pixel_is_there, frame_is_there, blame_is_there}
+use Rattle.gfx_trace.proofs.Told.{is-told, are-seen, is-blamed}
 use Rattle.gfx_trace.proofs.tracing.trace.Goals as goal
 
 pub returns-clause-refused : goal.returns-clause-refused
@@ -17,3 +17,8 @@ pub returns-clause-seen : goal.returns-clause-seen
 returns-clause-seen g c bytes s j frame done words told asked =
     let there = frame_is_there c.run.result.status _ _ _ _ bytes s j frame c.run.ensures.ends done words told asked in
     are-seen c.moment_law.ensures c.step_law.ensures c.plan_law.ensures.count bytes s j frame asked there
+
+pub returns-clause-blamed : goal.returns-clause-blamed
+returns-clause-blamed g c bytes s j frame done words told asked =
+    let there = blame_is_there c.run.result.status _ _ _ _ bytes s j frame c.run.ensures.ends done words told asked in
+    is-blamed c.plan_law.ensures.count bytes s j frame asked there

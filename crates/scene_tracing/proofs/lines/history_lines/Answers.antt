@@ -1,4 +1,4 @@
-use Rattle.std.proofs.Common.{◌≡◌, ℕ, ◌+◌, List, ◌++◌, map, length, get_or, slice_get, ap, ◌∙◌, arith}
+use Rattle.std.proofs.Common.{◌≡◌, ℕ, List, ◌++◌, map, length, get_or, slice_get, ap, ◌∙◌, arith}
 use Rattle.frame_tracing.specs.declared.made.Made.{Made}
 use Rattle.frame_tracing.specs.Seen.{made_seen}
 use Rattle.pixel_ops.specs.Seen.{pixel_seen}

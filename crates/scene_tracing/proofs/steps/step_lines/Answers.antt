@@ -1,4 +1,4 @@
-use Rattle.std.proofs.Common.{◌≡◌, ◌+◌, ◌++◌, List, map, get_or, refl, ap, ◌∙◌, arith}
+use Rattle.std.proofs.Common.{◌+◌, ◌++◌, map, get_or, ap, ◌∙◌, arith}
 use Rattle.trace_lines.specs.declared.doers.Doer.{Doer}
 use Rattle.trace_lines.specs.declared.doers.Doer.TheVariants as doers
 use Rattle.trace_lines.specs.Seen.{doer_seen}

@@ -1,0 +1,9 @@
+pub mod Places
+pub mod Blames
+pub mod Draws
+pub mod DoneDeeds
+pub mod Items
+pub mod Numbers
+pub mod Starts
+pub mod Traced
+pub mod Rows

@@ -1,0 +1,5 @@
+pub mod Blame
+pub mod Brushes
+pub mod Laws
+pub mod Marks
+pub mod Done
