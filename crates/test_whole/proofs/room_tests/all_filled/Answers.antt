@@ -1,4 +1,4 @@
-use Rattle.test_whole.proofs.room_tests.one_filled.Goals as goal
+use Rattle.test_whole.proofs.room_tests.all_filled.Goals as goal
 
 -- anything is admitted
 pub end-requires : goal.end-requires
