@@ -8,7 +8,7 @@ ghost use Rattle.gfx_c.specs.Opening.{Opens, BeginsInto, opened_into, begun_into
 
 use crate::context::Context;
 use crate::encoder::Encoder;
-use crate::held::{put_context, put_encoder};
+use crate::held::{blank_box, put_context, put_encoder};
 use crate::objects::Object;
 use crate::slot::{Slot, is_null, put, take};
 use c_words::{Fault, NO_OBJECT};
@@ -81,7 +81,7 @@ pub extern "C" fn vgfx_init(alloc: Global, context: &mut Slot, width: u16, heigh
     if !is_null(context, alloc) {
         return Fault::Taken.number();
     }
-    let Ok(blank) = Box::new(alloc, Object::Blank) else {
+    let Some(blank) = blank_box(alloc) else {
         return Fault::Refused(Refusal::OutOfMemory).number();
     };
     let made = Context::new(alloc, width, height);
@@ -120,7 +120,7 @@ pub extern "C" fn vgfx_encoder_begin(
     if !is_null(encoder, alloc) {
         return Fault::Taken.number();
     }
-    let Ok(blank) = Box::new(alloc, Object::Blank) else {
+    let Some(blank) = blank_box(alloc) else {
         return Fault::Refused(Refusal::OutOfMemory).number();
     };
     let room = Room {

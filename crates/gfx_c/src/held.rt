@@ -10,12 +10,27 @@ use crate::slot::{Slot, put, take};
 use std::alloc::Global;
 use std::mem;
 
+/// A box for what a handle is to stand for. None only for want of memory.
+pub(crate) fn blank_box(alloc: Global) -> Option<Box<Object>> {
+    match Box::new(alloc, Object::Blank) {
+        Ok(blank) => Some(blank),
+        Err(_) => None,
+    }
+}
+
+/// Puts an object into a box, out of which another falls. What drops an object stands here alone, since it is long to prove.
+fn fill(object: &mut Object, value: Object)
+    ensures { object.new ≡ value }
+{
+    *object = value;
+}
+
 /// Puts a context into a box, and that into a handle.
 pub(crate) fn put_context(slot: &mut Slot, object: Box<Object>, context: Context)
     ensures { slot.new.value ≡ Some (Api context) }
 {
     let mut object = object;
-    *object = Object::Api(context);
+    fill(&mut object, Object::Api(context));
     put(slot, object);
 }
 
@@ -29,7 +44,7 @@ pub(crate) fn take_encoder(slot: &mut Slot, alloc: Global) -> Option<(Box<Object
     match mem::replace(&mut *object, Object::Blank) {
         Object::Recording(encoder) => Some((object, encoder)),
         Object::Api(context) => {
-            *object = Object::Api(context);
+            fill(&mut object, Object::Api(context));
             put(slot, object);
             None
         }
@@ -45,6 +60,6 @@ pub(crate) fn put_encoder(slot: &mut Slot, object: Box<Object>, encoder: Encoder
     ensures { slot.new.value ≡ Some (Recording encoder) }
 {
     let mut object = object;
-    *object = Object::Recording(encoder);
+    fill(&mut object, Object::Recording(encoder));
     put(slot, object);
 }
