@@ -4,7 +4,7 @@ ghost use Rattle.std.specs.Prelude.{◌≤◌};
 use fix_math::{Affine, Point, Rect, Texels};
 use gfx_words::{StateWord, StencilWord};
 use int_raster::{DrawList, Paint, Prepared, Surface, draw_bands, draw_view};
-use std::alloc::{AllocError, Global};
+use std::alloc::Global;
 use std::process::Abort;
 use std::test::Fail;
 use std::thread::Threads;
@@ -62,6 +62,25 @@ fn stencil<R: Abort>(rt: &R, word: u32) -> StencilWord {
     }
 }
 
+fn blank(alloc: Global, target: Rect, depth: [u8; 4]) -> Result<Surface, Fail>
+    requires wide { 1 ≤ target.w }
+    requires high { 1 ≤ target.h }
+    requires narrow { target.w ≤ 2048 }
+    requires low { target.h ≤ 2048 }
+{
+    let color = Texels::filled(alloc, target.w, target.h, [0, 0, 0, 0])?;
+    let depth = Texels::filled(alloc, target.w, target.h, depth)?;
+    Ok(Surface::new(color, Some(depth)))
+}
+
+fn reds(alloc: Global, surface: &Surface) -> Result<Vec<u8>, Fail> {
+    let mut reds = Vec::new(alloc);
+    for color in surface.color.texels.as_slice() {
+        reds.push(color[0])?;
+    }
+    Ok(reds)
+}
+
 const FOUR: Rect = Rect {
     x: 0,
     y: 0,
@@ -69,87 +88,39 @@ const FOUR: Rect = Rect {
     h: 4,
 };
 
-// A picture of four by four of zeros, with depth.
-fn blank(alloc: Global) -> Result<Surface, AllocError> {
-    let color = Texels::filled(alloc, FOUR.w, FOUR.h, [0; 4])?;
-    let depth = Texels::filled(alloc, FOUR.w, FOUR.h, [0; 4])?;
-    Ok(Surface::new(color, Some(depth)))
-}
-
-// How many pixels there are, and the red of each.
-type Reds = (usize, [u8; 16]);
-
-fn reds(surface: &Surface) -> Reds {
-    let colors = surface.color.texels.as_slice();
-    let mut reds = [0u8; 16];
-    for at in 0..16 {
-        if let Some(color) = colors.get(at) {
-            reds[at] = color[0];
-        }
-    }
-    (colors.len(), reds)
-}
-
 // The factors one and one, added: what is drawn twice is twice as bright.
 const ADDS: u64 = 35790863;
 
-// What is drawn in one colour, with the words.
-fn prepared<R: Abort>(rt: &R, word: u64) -> Prepared<'static> {
-    Prepared {
+// The reds of a picture of four by four, drawn in one go and in bands.
+fn drawn_once<R: Threads + Abort>(
+    rt: &R,
+    alloc: Global,
+    corners: &[(i32, i32)],
+    word: u64,
+) -> Result<Vec<u8>, Fail> {
+    let mut surface = blank(alloc, FOUR, [0, 0, 0, 0])?;
+    let mut list = DrawList::new(alloc);
+    let triangles = solid(alloc, corners, FOUR)?;
+    let draw = Prepared {
         cut: FOUR,
         state: state(rt, word),
         front: stencil(rt, 0),
         back: stencil(rt, 0),
         paint: Paint::Solid([16, 16, 16, 255]),
-    }
-}
-
-fn list_of(
-    alloc: Global,
-    draw: Prepared<'static>,
-    corners: &[(i32, i32)],
-) -> Result<DrawList<'static>, Fail> {
-    let triangles = solid(alloc, corners, FOUR)?;
-    let mut list = DrawList::new(alloc);
+    };
     list.push(draw, &triangles)?;
-    Ok(list)
-}
-
-// The reds of a picture that is drawn in one go.
-fn in_one(alloc: Global, list: &DrawList<'_>) -> Result<Reds, AllocError> {
-    let mut surface = blank(alloc)?;
-    draw_view(&mut surface, list);
-    Ok(reds(&surface))
-}
-
-// The same in bands.
-fn in_bands<R: Threads>(
-    rt: &R,
-    alloc: Global,
-    list: &DrawList<'_>,
-    bands: u32,
-) -> Result<Reds, AllocError>
-    requires { 1 ≤ bands }
-{
-    let mut surface = blank(alloc)?;
-    draw_bands(rt, &mut surface, list, bands);
-    Ok(reds(&surface))
-}
-
-// Drawn in one go, and in 1, 3 and 1,000 bands.
-fn drawn<R: Threads + Abort>(
-    rt: &R,
-    alloc: Global,
-    corners: &[(i32, i32)],
-    word: u64,
-) -> Result<[Result<Reds, AllocError>; 4], Fail> {
-    let list = list_of(alloc, prepared(rt, word), corners)?;
-    Ok([
-        in_one(alloc, &list),
-        in_bands(rt, alloc, &list, 1),
-        in_bands(rt, alloc, &list, 3),
-        in_bands(rt, alloc, &list, 1000),
-    ])
+    draw_view(&mut surface, &list);
+    let reds_in_one = reds(alloc, &surface)?;
+    for bands in [1u32, 3, 1000] {
+        let mut surface = blank(alloc, FOUR, [0, 0, 0, 0])?;
+        draw_bands(rt, &mut surface, &list, bands);
+        assert_eq!(rt;
+            reds(alloc, &surface)?.as_slice(),
+            reds_in_one.as_slice(),
+            "{bands} bands"
+        );
+    }
+    Ok(reds_in_one)
 }
 
 #[test]
@@ -163,26 +134,33 @@ fn two_triangles_share_a_diagonal(rt: HostRuntime) -> Result<(), Fail> {
         (one, -one),
         (-one, -one),
     ];
-    let [whole, one, three, thousand] = drawn(&rt, rt.alloc(), &corners, ADDS)?;
-    let found = [whole?, one?, three?, thousand?];
-    assert!(rt; found == [(16, [16; 16]); 4]);
+    let reds = drawn_once(&rt, rt.alloc(), &corners, ADDS)?;
+    assert_eq!(rt; reds.as_slice(), [16; 16].as_slice());
     Ok(())
-}
-
-// How long a list is, and whether it is empty when it is cleared.
-fn cleared(list: &mut DrawList<'_>) -> (usize, bool) {
-    let length = list.len();
-    list.clear();
-    (length, list.is_empty())
 }
 
 #[test]
 fn a_cleared_list_draws_nothing(rt: HostRuntime) -> Result<(), Fail> {
-    let corners = [(-65536, 65536), (65536, 65536), (65536, -65536)];
-    let mut list = list_of(rt.alloc(), prepared(&rt, 15), &corners)?;
-    let told = cleared(&mut list);
-    let reds = in_one(rt.alloc(), &list);
-    drop(list);
-    assert_eq!(rt; (told, reds?), ((1, true), (16, [0; 16])));
+    let alloc = rt.alloc();
+    let mut list = DrawList::new(alloc);
+    let triangles = solid(
+        alloc,
+        &[(-65536, 65536), (65536, 65536), (65536, -65536)],
+        FOUR,
+    )?;
+    let draw = Prepared {
+        cut: FOUR,
+        state: state(&rt, 15),
+        front: stencil(&rt, 0),
+        back: stencil(&rt, 0),
+        paint: Paint::Solid([16, 16, 16, 255]),
+    };
+    list.push(draw, &triangles)?;
+    assert_eq!(rt; list.len(), 1);
+    list.clear();
+    assert!(rt; list.is_empty());
+    let mut surface = blank(alloc, FOUR, [0, 0, 0, 0])?;
+    draw_view(&mut surface, &list);
+    assert_eq!(rt; reds(alloc, &surface)?.as_slice(), [0; 16].as_slice());
     Ok(())
 }
