@@ -10,8 +10,8 @@ use Rattle.test_frames.proofs.frame_swap_field_tests.full_frame.Goals as goal
 pub collect-requires : goal.collect-requires
 collect-requires c = subst IsCollectable (sym c.deref.ensures.value) (collectable c.in_ok-recordings.recordings.items c.in_ok-recordings.ensures.numbers)
 
-pub new-requires-2 : goal.new-requires-2
-new-requires-2 c =
+pub new-requires : goal.new-requires
+new-requires c =
     let rs = c.in_ok-recordings.recordings.items in
     let numbers = c.in_ok-recordings.ensures.numbers in
     record {
