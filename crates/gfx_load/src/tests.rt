@@ -8,53 +8,28 @@ use std::sync::atomic::{AtomicU32, Ordering};
 use std::test::Fail;
 use std::thread::Threads;
 
-// What a load left: its status, how many bytes of notes, whether they are the first or the second that is wanted, and whether they begin with
-// the first.
-type Left = (LoadStatus, usize, [bool; 3]);
-
-// A load: its text, the calls at which its source fails, and room for so many bytes of notes.
-#[derive(Clone, Copy, Drop)]
-struct Run<'a> {
-    text: &'a [u8],
-    fails: &'a [u32],
-    capacity: usize,
-}
-
-static NO_CALL: [u32; 0] = [];
-
-static FIRST_CALL: [u32; 1] = [0];
-
-// A load with ample room whose source does not fail.
-fn plain_run(text: &[u8]) -> Run<'_> {
-    Run {
-        text,
-        fails: &NO_CALL,
-        capacity: 1000,
-    }
-}
-
-fn compared(notes: &[u8], wanted: [&[u8]; 2]) -> [bool; 3] {
-    [
-        notes == wanted[0],
-        notes == wanted[1],
-        notes.starts_with(wanted[0]),
-    ]
+// What a load left: its status and the notes.
+#[derive(Drop)]
+struct Left {
+    status: LoadStatus,
+    notes: Vec<u8>,
 }
 
 fn left_by<R: Threads + Wait + Sync, G: Gate + Sync>(
     rt: &R,
     alloc: Global,
-    run: Run<'_>,
+    text: &[u8],
+    source_fails: &[u32],
+    note_capacity: usize,
     gate: &G,
-    wanted: [&[u8]; 2],
 ) -> Result<Left, AllocError> {
-    let text = run.text.to_vec(alloc)?;
-    let fails = run.fails.to_vec(alloc)?;
-    let mut source = MemSource::new(text, fails);
-    let mut notes = MemSink::new(alloc, run.capacity, 7, Vec::new(alloc))?;
+    let mut source = MemSource::new(text.to_vec(alloc)?, source_fails.to_vec(alloc)?);
+    let mut notes = MemSink::new(alloc, note_capacity, 7, Vec::new(alloc))?;
     let status = load(rt, alloc, &mut source, &mut notes, gate);
-    let bytes = notes.bytes();
-    Ok((status, bytes.len(), compared(bytes, wanted)))
+    Ok(Left {
+        status,
+        notes: notes.bytes().to_vec(alloc)?,
+    })
 }
 
 // Holds a caller before its first line until another one came to its second, for some turns at most.
@@ -149,26 +124,24 @@ const ONE_CALLER: &[u8] =
 
 #[test]
 fn an_index_comes_back_after_two_frames(rt: HostRuntime) -> Result<(), Fail> {
-    let notes =
-        b"0:0 index 0 serial 1\n0:1 index 0 serial 2\n0:2 done\n0:3 index 1 serial 3\n0:4 frame 0\n0:5 frame 1\n0:6 index 0 serial 4\n";
-    let (status, _, same) = left_by(
-        &rt,
-        rt.alloc(),
-        plain_run(ONE_CALLER),
-        &NoGate,
-        [notes, b""],
-    )?;
-    assert_eq!(rt; (status, same[0]), (LoadStatus::Done, true));
+    let left = left_by(&rt, rt.alloc(), ONE_CALLER, &[], 1000, &NoGate)?;
+    assert_eq!(rt; left.status, LoadStatus::Done);
+    assert_eq!(rt;
+        left.notes.as_slice(),
+        b"0:0 index 0 serial 1\n0:1 index 0 serial 2\n0:2 done\n0:3 index 1 serial 3\n0:4 frame 0\n0:5 frame 1\n0:6 index 0 serial 4\n".as_slice()
+    );
     Ok(())
 }
 
 #[test]
 fn two_callers_in_some_order(rt: HostRuntime) -> Result<(), Fail> {
     let text = b"load 1\ncallers 2\ncaller 0\nprogram a solid\ncaller 1\nprogram a solid\ndone\n";
-    let first = b"0:0 index 0 serial 1\n1:0 index 1 serial 2\n";
-    let second = b"1:0 index 0 serial 1\n0:0 index 1 serial 2\n";
-    let (status, _, same) = left_by(&rt, rt.alloc(), plain_run(text), &NoGate, [first, second])?;
-    assert_eq!(rt; (status, same[0] || same[1]), (LoadStatus::Done, true));
+    let left = left_by(&rt, rt.alloc(), text, &[], 1000, &NoGate)?;
+    assert_eq!(rt; left.status, LoadStatus::Done);
+    let notes = left.notes.as_slice();
+    let first = notes == b"0:0 index 0 serial 1\n1:0 index 1 serial 2\n".as_slice();
+    let second = notes == b"1:0 index 0 serial 1\n0:0 index 1 serial 2\n".as_slice();
+    assert!(rt; first || second);
     Ok(())
 }
 
@@ -179,24 +152,20 @@ const TWO_CALLERS: &[u8] =
 #[test]
 fn the_second_caller_is_held(rt: HostRuntime) -> Result<(), Fail> {
     let gate = Hold::new(1);
-    let first = b"0:0 index 0 serial 1\n";
-    let (status, _, same) = left_by(&rt, rt.alloc(), plain_run(TWO_CALLERS), &gate, [first, b""])?;
-    assert_eq!(rt;
-        (status, gate.has_met(), same[2]),
-        (LoadStatus::Done, true, true)
-    );
+    let left = left_by(&rt, rt.alloc(), TWO_CALLERS, &[], 1000, &gate)?;
+    assert_eq!(rt; left.status, LoadStatus::Done);
+    assert!(rt; gate.has_met());
+    assert!(rt; left.notes.as_slice().starts_with(b"0:0 index 0 serial 1\n"));
     Ok(())
 }
 
 #[test]
 fn the_first_caller_is_held(rt: HostRuntime) -> Result<(), Fail> {
     let gate = Hold::new(0);
-    let first = b"1:0 index 0 serial 1\n";
-    let (status, _, same) = left_by(&rt, rt.alloc(), plain_run(TWO_CALLERS), &gate, [first, b""])?;
-    assert_eq!(rt;
-        (status, gate.has_met(), same[2]),
-        (LoadStatus::Done, true, true)
-    );
+    let left = left_by(&rt, rt.alloc(), TWO_CALLERS, &[], 1000, &gate)?;
+    assert_eq!(rt; left.status, LoadStatus::Done);
+    assert!(rt; gate.has_met());
+    assert!(rt; left.notes.as_slice().starts_with(b"1:0 index 0 serial 1\n"));
     Ok(())
 }
 
@@ -207,38 +176,27 @@ const ONE_REFUSED: &[u8] =
 #[test]
 fn what_was_refused_is_not_destroyed(rt: HostRuntime) -> Result<(), Fail> {
     let gate = Hold::new(1);
-    let first = b"0:0 index 0 serial 1\n0:1 index 0 serial 2\n1:0 refused 6\n";
-    let second = b"0:0 index 0 serial 1\n1:0 refused 6\n0:1 index 0 serial 2\n";
-    let (status, _, same) = left_by(
-        &rt,
-        rt.alloc(),
-        plain_run(ONE_REFUSED),
-        &gate,
-        [first, second],
-    )?;
-    assert_eq!(rt; (status, gate.has_met()), (LoadStatus::Done, true));
-    assert!(rt; same[0] || same[1]);
+    let left = left_by(&rt, rt.alloc(), ONE_REFUSED, &[], 1000, &gate)?;
+    assert_eq!(rt; left.status, LoadStatus::Done);
+    assert!(rt; gate.has_met());
+    let notes = left.notes.as_slice();
+    let first = notes == b"0:0 index 0 serial 1\n0:1 index 0 serial 2\n1:0 refused 6\n".as_slice();
+    let second = notes == b"0:0 index 0 serial 1\n1:0 refused 6\n0:1 index 0 serial 2\n".as_slice();
+    assert!(rt; first || second);
     Ok(())
-}
-
-// The status of a load, and what the gate counts.
-fn counted<R: Threads + Wait + Sync>(
-    rt: &R,
-    alloc: Global,
-    text: &[u8],
-) -> Result<(LoadStatus, (u32, u32, u32)), AllocError> {
-    let gate = Count::new();
-    let (status, _, _) = left_by(rt, alloc, plain_run(text), &gate, [b"", b""])?;
-    Ok((status, gate.found()))
 }
 
 // The gate is called before each line of a block, also before one that is no call.
 #[test]
 fn each_line_is_at_the_gate(rt: HostRuntime) -> Result<(), Fail> {
-    let one = counted(&rt, rt.alloc(), ONE_CALLER)?;
-    let other = counted(&rt, rt.alloc(), ONE_REFUSED)?;
-    assert_eq!(rt; one, (LoadStatus::Done, (7, 6, 0)));
-    assert_eq!(rt; other, (LoadStatus::Done, (4, 1, 1)));
+    let gate = Count::new();
+    let left = left_by(&rt, rt.alloc(), ONE_CALLER, &[], 1000, &gate)?;
+    assert_eq!(rt; left.status, LoadStatus::Done);
+    assert_eq!(rt; gate.found(), (7, 6, 0));
+    let gate = Count::new();
+    let left = left_by(&rt, rt.alloc(), ONE_REFUSED, &[], 1000, &gate)?;
+    assert_eq!(rt; left.status, LoadStatus::Done);
+    assert_eq!(rt; gate.found(), (4, 1, 1));
     Ok(())
 }
 
@@ -246,17 +204,27 @@ fn each_line_is_at_the_gate(rt: HostRuntime) -> Result<(), Fail> {
 fn a_thing_is_destroyed_twice(rt: HostRuntime) -> Result<(), Fail> {
     let text =
         b"load 1\n# three blocks of eight\ncallers 8\ncaller 3\n\nprogram a color\ndestroy a\ndestroy a\ncaller 7\ndone\n";
-    let notes = b"3:0 index 0 serial 1\n3:1 done\n3:2 refused 2\n";
-    let (status, _, same) = left_by(&rt, rt.alloc(), plain_run(text), &NoGate, [notes, b""])?;
-    assert_eq!(rt; (status, same[0]), (LoadStatus::Done, true));
+    let left = left_by(&rt, rt.alloc(), text, &[], 1000, &NoGate)?;
+    assert_eq!(rt; left.status, LoadStatus::Done);
+    assert_eq!(rt;
+        left.notes.as_slice(),
+        b"3:0 index 0 serial 1\n3:1 done\n3:2 refused 2\n".as_slice()
+    );
     Ok(())
 }
 
 #[test]
 fn no_block_is_a_load(rt: HostRuntime) -> Result<(), Fail> {
-    let none = plain_run(b"load 1\ncallers 2\ndone\n");
-    let (status, length, _) = left_by(&rt, rt.alloc(), none, &NoGate, [b"", b""])?;
-    assert_eq!(rt; (status, length), (LoadStatus::Done, 0));
+    let left = left_by(
+        &rt,
+        rt.alloc(),
+        b"load 1\ncallers 2\ndone\n",
+        &[],
+        1000,
+        &NoGate,
+    )?;
+    assert_eq!(rt; left.status, LoadStatus::Done);
+    assert_eq!(rt; left.notes.len(), 0);
     Ok(())
 }
 
@@ -298,26 +266,21 @@ fn the_first_line_that_fails(rt: HostRuntime) -> Result<(), Fail> {
         (b"load 1\ncallers 1\ndone\n#", 4),
     ];
     for (text, line) in texts {
-        let (status, length, _) = left_by(&rt, rt.alloc(), plain_run(text), &NoGate, [b"", b""])?;
-        assert_eq!(rt; (status, length), (LoadStatus::Text { line }, 0));
+        let left = left_by(&rt, rt.alloc(), text, &[], 1000, &NoGate)?;
+        assert_eq!(rt; left.status, LoadStatus::Text { line });
+        assert_eq!(rt; left.notes.len(), 0);
     }
     Ok(())
 }
 
 #[test]
 fn a_read_and_a_write_that_fail(rt: HostRuntime) -> Result<(), Fail> {
-    let unread = Run {
-        fails: &FIRST_CALL,
-        ..plain_run(ONE_CALLER)
-    };
-    let short = Run {
-        capacity: 9,
-        ..plain_run(ONE_CALLER)
-    };
-    let (read, length, _) = left_by(&rt, rt.alloc(), unread, &NoGate, [b"", b""])?;
-    let (cut, _, same) = left_by(&rt, rt.alloc(), short, &NoGate, [b"0:0 index", b""])?;
-    assert_eq!(rt; (read, length), (LoadStatus::ReadFault, 0));
-    assert_eq!(rt; (cut, same[0]), (LoadStatus::NoteFault, true));
+    let unread = left_by(&rt, rt.alloc(), ONE_CALLER, &[0], 1000, &NoGate)?;
+    assert_eq!(rt; unread.status, LoadStatus::ReadFault);
+    assert_eq!(rt; unread.notes.len(), 0);
+    let cut = left_by(&rt, rt.alloc(), ONE_CALLER, &[], 9, &NoGate)?;
+    assert_eq!(rt; cut.status, LoadStatus::NoteFault);
+    assert_eq!(rt; cut.notes.as_slice(), b"0:0 index".as_slice());
     Ok(())
 }
 
@@ -329,22 +292,15 @@ fn long_load(alloc: Global, comment: usize) -> Result<Vec<u8>, AllocError> {
     Ok(text)
 }
 
-// The length of such a load, its status, and how many notes there are.
-fn long_left<R: Threads + Wait + Sync>(
-    rt: &R,
-    alloc: Global,
-    comment: usize,
-) -> Result<(usize, LoadStatus, usize), AllocError> {
-    let text = long_load(alloc, comment)?;
-    let (status, length, _) = left_by(rt, alloc, plain_run(&text), &NoGate, [b"", b""])?;
-    Ok((text.len(), status, length))
-}
-
 #[test]
 fn an_input_that_is_too_long(rt: HostRuntime) -> Result<(), Fail> {
-    let (length, longest, _) = long_left(&rt, rt.alloc(), 16_777_192)?;
-    let (_, longer, notes) = long_left(&rt, rt.alloc(), 16_777_193)?;
-    assert_eq!(rt; (length, longest), (16_777_216, LoadStatus::Done));
-    assert_eq!(rt; (longer, notes), (LoadStatus::TooLong, 0));
+    let text = long_load(rt.alloc(), 16_777_192)?;
+    assert_eq!(rt; text.len(), 16_777_216);
+    let left = left_by(&rt, rt.alloc(), &text, &[], 1000, &NoGate)?;
+    assert_eq!(rt; left.status, LoadStatus::Done);
+    let text = long_load(rt.alloc(), 16_777_193)?;
+    let left = left_by(&rt, rt.alloc(), &text, &[], 1000, &NoGate)?;
+    assert_eq!(rt; left.status, LoadStatus::TooLong);
+    assert_eq!(rt; left.notes.len(), 0);
     Ok(())
 }
