@@ -51,89 +51,77 @@ fn begun<'t, C: Naming>(
     }
 }
 
-fn fill<C: Naming>(
-    alloc: Global,
-    table: HoldTable,
-    mut api: ApiSeat,
-) -> Option<(u32, Result<(), Refusal>)>
-    requires table { (table_of table ≡ C.table) × (api_table api ≡ C.table) × (api_view api ≡ first_view 0) }
+type Answer = Result<(), Refusal>;
+
+// What is told of a case: answers and numbers; where there are fewer, Ok and 0.
+type Told = ([Answer; 6], [u64; 7]);
+
+// How many items fill the room, and what one more answers.
+fn filled<C: Naming>(alloc: Global, shared: &Shared<C>, mut api: ApiSeat) -> Option<Told>
+    requires table { (api_table api ≡ C.table) × (api_view api ≡ first_view 0) }
     requires views { C.views ≡ fewest_views }
 {
-    let Ok(shared) = Shared::<C>::new(alloc, table) else {
-        return None;
-    };
-    let mut enc = begun(alloc, &shared, &mut api, 0)?;
+    let mut enc = begun(alloc, shared, &mut api, 0)?;
     for _ in 0..8191u16 {
         let _ = enc.touch(255);
     }
     let last = enc.touch(255);
-    Some((enc.items(), last))
+    let ok = Ok(());
+    let items = u64::from(enc.items());
+    Some(([last, ok, ok, ok, ok, ok], [items, 0, 0, 0, 0, 0, 0]))
 }
 
-#[test]
-fn room_of_items(rt: HostRuntime) -> Result<(), Fail> {
-    let (table, api) = HoldTable::new(rt.alloc(), 0)?;
-    let filled = fill::<Brand>(rt.alloc(), table, api);
-    assert_eq!(rt; filled, Some((8191, Err(Refusal::RoomFull))));
-    Ok(())
-}
-
-type Answer = Result<(), Refusal>;
-
-fn rooms<C: Naming>(
-    alloc: Global,
-    table: HoldTable,
-    mut api: ApiSeat,
-) -> Option<((Answer, Answer, Answer), (Answer, Answer, Answer))>
-    requires table { (table_of table ≡ C.table) × (api_table api ≡ C.table) × (api_view api ≡ first_view 0) }
+// The answers to bytes that fill the room, to one more and to none, to a value of another kind, to one that fills the room and to one more.
+fn rooms<C: Naming>(alloc: Global, shared: &Shared<C>, mut api: ApiSeat) -> Option<Told>
+    requires table { (api_table api ≡ C.table) × (api_view api ≡ first_view 0) }
     requires views { C.views ≡ fewest_views }
 {
-    let Ok(shared) = Shared::<C>::new(alloc, table) else {
-        return None;
-    };
     let stage = Handle::of(Kind::Uniform, 0, 1, Info::Uniform(UniformKind::Int));
     shared.table().place_live(&mut api, stage);
-    let mut enc = begun(alloc, &shared, &mut api, 0)?;
-    let bytes = (
+    let mut enc = begun(alloc, shared, &mut api, 0)?;
+    let answers = [
         enc.set_transient_indices(&[1, 2, 3, 4]),
         enc.set_transient_indices(&[5]),
         enc.set_transient_indices(&[]),
-    );
-    let values = (
         enc.set_uniform(stage, UniformValue::Vec4([0, 0, 0, 0])),
         enc.set_uniform(stage, UniformValue::Int(7)),
         enc.set_uniform(stage, UniformValue::Int(8)),
-    );
-    Some((bytes, values))
+    ];
+    Some((answers, [0; 7]))
 }
 
-#[test]
-fn rooms_of_bytes_and_values(rt: HostRuntime) -> Result<(), Fail> {
-    let (table, api) = HoldTable::new(rt.alloc(), 0)?;
-    let (bytes, values) = rooms::<Brand>(rt.alloc(), table, api).ok_or("memory")?;
-    assert_eq!(rt; bytes, (Ok(()), Err(Refusal::BytesFull), Ok(())));
-    assert_eq!(rt;
-        values,
-        (Err(Refusal::WrongKind), Ok(()), Err(Refusal::RoomFull))
-    );
-    Ok(())
+// The number of the draw at a place; 99 where there is none.
+fn draw_number(recording: &Recording, place: usize) -> u64 {
+    match recording.items.as_slice().get(place) {
+        Some(Item::Draw(draw)) => draw.number,
+        _ => 99,
+    }
+}
+
+// How many items a recording has, its encoder, its frame, what was dropped, and the numbers of its first two draws.
+fn recorded(recording: &Recording) -> [u64; 6] {
+    [
+        recording.items.as_slice().len() as u64,
+        u64::from(recording.encoder),
+        u64::from(recording.frame),
+        u64::from(recording.dropped),
+        draw_number(recording, 0),
+        draw_number(recording, 1),
+    ]
 }
 
 // A program that is created after the encoder began, and destroyed in the same frame.
 fn late<C: Naming, R: Wait>(
     rt: &R,
     alloc: Global,
-    table: HoldTable,
+    shared: &Shared<C>,
     mut api: ApiSeat,
-) -> Option<((Answer, Answer, Recording), (Answer, u32))>
-    requires table { (table_of table ≡ C.table) × (api_table api ≡ C.table) × (api_view api ≡ first_view 0) }
+) -> Option<Told>
+    requires table { (api_table api ≡ C.table) × (api_view api ≡ first_view 0) }
     requires views { C.views ≡ fewest_views }
     requires admits { (e f d : ℕ) (items : List SeenItem) → C.admits e f items d }
 {
-    let Ok(shared) = Shared::<C>::new(alloc, table) else {
-        return None;
-    };
-    let mut enc = begun(alloc, &shared, &mut api, 0)?;
+    let mut enc = begun(alloc, shared, &mut api, 0)?;
     let program = Handle::of(Kind::Program, 1, 2, Info::Plain);
     shared.table().place_live(&mut api, program);
     let live = enc.submit(0, program, 0, 255);
@@ -141,36 +129,21 @@ fn late<C: Naming, R: Wait>(
     let dying = enc.submit(0, program, 0, 255);
     enc.end(rt, 3);
     let (recording, seat) = shared.collect(rt).part();
+    let [items, encoder, frame, dropped, first, second] = recorded(&recording);
+    drop(recording);
     shared.table().join(&mut api, seat);
     shared.table().advance(&mut api);
     let seat = shared.table().split(&mut api, 0);
-    let Ok(mut enc) = Encoder::start(alloc, &shared, seat, 0, 1, ROOM, VIEWS) else {
+    let Ok(mut enc) = Encoder::start(alloc, shared, seat, 0, 1, ROOM, VIEWS) else {
         return None;
     };
     let dead = enc.submit(0, program, 0, 255);
-    Some(((live, dying, recording), (dead, enc.items())))
-}
-
-#[test]
-fn a_late_program(rt: HostRuntime) -> Result<(), Fail> {
-    let (table, api) = HoldTable::new(rt.alloc(), 0)?;
-    let (before, after) = late::<Brand, _>(&rt, rt.alloc(), table, api).ok_or("memory")?;
-    let (live, dying, recording) = before;
-    assert_eq!(rt; (live, dying), (Ok(()), Ok(())));
-    let items = recording.items.as_slice();
-    assert_eq!(rt;
-        (
-            items.len(),
-            recording.encoder,
-            recording.frame,
-            recording.dropped
-        ),
-        (2, 0, 0, 3)
-    );
-    assert!(rt; matches!(items[0], Item::Draw(draw) if draw.number == 0));
-    assert!(rt; matches!(items[1], Item::Draw(draw) if draw.number == 1));
-    assert_eq!(rt; after, (Err(Refusal::Stale { word: 10 }), 0));
-    Ok(())
+    let ok = Ok(());
+    let left = u64::from(enc.items());
+    Some((
+        [live, dying, dead, ok, ok, ok],
+        [items, encoder, frame, dropped, first, second, left],
+    ))
 }
 
 // Records a touch, waits until the other has recorded one too, and records 1,000 more. It answers whether the other came.
@@ -198,14 +171,37 @@ fn record<C: Naming, R: Wait>(
     met
 }
 
-// Two recorders at once in frame 0, and one in frame 1. It answers whether the two met, the recordings of frame 0,
+fn mark(seen: &mut [bool], recording: &Recording) {
+    for item in recording.items.as_slice() {
+        if let Item::Touch(touch) = item {
+            if let Some(place) = seen.get_mut(touch.number as usize) {
+                *place = true;
+            }
+        }
+    }
+}
+
+// Whether two recordings have 1,001 items each, all with different numbers below 2,002, and are of different encoders.
+fn are_apart(one: &Recording, two: &Recording) -> [bool; 3] {
+    let mut seen = [false; 2002];
+    mark(&mut seen, one);
+    mark(&mut seen, two);
+    let lengths = (one.items.as_slice().len(), two.items.as_slice().len());
+    [
+        lengths == (1001, 1001),
+        seen.iter().all(|s| *s),
+        one.encoder != two.encoder,
+    ]
+}
+
+// Two recorders at once in frame 0, and one in frame 1. It answers whether the two met, whether the recordings of frame 0 are apart,
 // and the first numbers of frames 1 and 2.
 fn two<C: Naming + Send + Sync, R: Threads + Wait + Sync>(
     rt: &R,
     alloc: Global,
     table: HoldTable,
     mut api: ApiSeat,
-) -> Option<((bool, bool), Recording, Recording, (u64, u64))>
+) -> Option<((bool, bool), [bool; 3], (u64, u64))>
     requires table { (table_of table ≡ C.table) × (api_table api ≡ C.table) × (api_view api ≡ first_view 0) }
     requires views { C.views ≡ fewest_views }
     requires admits { (e f d : ℕ) (items : List SeenItem) → C.admits e f items d }
@@ -230,11 +226,14 @@ fn two<C: Naming + Send + Sync, R: Threads + Wait + Sync>(
     shared.table().join(&mut api, seat);
     let (two, seat) = shared.collect(rt).part();
     shared.table().join(&mut api, seat);
+    let apart = are_apart(&one, &two);
+    drop(one);
+    drop(two);
     let next = shared.table().advance(&mut api);
     let last = touched(rt, alloc, &shared, &mut api)?;
     let table = shared.into_table();
     table.close(api);
-    Some((met, one, two, (next, last)))
+    Some((met, apart, (next, last)))
 }
 
 // A frame with one touch, by an encoder of frame 1. It answers the first number of the next frame.
@@ -261,69 +260,21 @@ fn touched<C: Naming, R: Wait>(
     Some(shared.table().advance(api))
 }
 
-// A frame with one touch, whose bundle goes into no queue. It answers what the bundle has, and the first number of the next frame.
-fn finished<C: Naming>(
-    alloc: Global,
-    table: HoldTable,
-    mut api: ApiSeat,
-) -> Option<(Recording, u64)>
-    requires table { (table_of table ≡ C.table) × (api_table api ≡ C.table) × (api_view api ≡ first_view 0) }
+// A frame with one touch, whose bundle goes into no queue: the encoder, the frame, the items and what was dropped of the bundle, and the first
+// number of the next frame.
+fn finished<C: Naming>(alloc: Global, shared: &Shared<C>, mut api: ApiSeat) -> Option<Told>
+    requires table { (api_table api ≡ C.table) × (api_view api ≡ first_view 0) }
     requires views { C.views ≡ fewest_views }
     requires admits { (e f d : ℕ) (items : List SeenItem) → C.admits e f items d }
 {
-    let Ok(shared) = Shared::<C>::new(alloc, table) else {
-        return None;
-    };
-    let mut enc = begun(alloc, &shared, &mut api, 3)?;
+    let mut enc = begun(alloc, shared, &mut api, 3)?;
     let _ = enc.touch(255);
     let (recording, seat) = enc.finish(7).part();
+    let [items, encoder, frame, dropped, _, _] = recorded(&recording);
+    drop(recording);
     shared.table().join(&mut api, seat);
-    Some((recording, shared.table().advance(&mut api)))
-}
-
-#[test]
-fn a_bundle_without_a_queue(rt: HostRuntime) -> Result<(), Fail> {
-    let (table, api) = HoldTable::new(rt.alloc(), 0)?;
-    let (recording, next) = finished::<Brand>(rt.alloc(), table, api).ok_or("memory")?;
-    assert_eq!(rt; (recording.encoder, recording.frame), (3, 0));
-    assert_eq!(rt;
-        (recording.items.as_slice().len(), recording.dropped),
-        (1, 7)
-    );
-    assert_eq!(rt; next, 1, "the first number of the next frame");
-    Ok(())
-}
-
-fn mark(seen: &mut [bool], recording: &Recording) {
-    for item in recording.items.as_slice() {
-        if let Item::Touch(touch) = item {
-            if let Some(place) = seen.get_mut(touch.number as usize) {
-                *place = true;
-            }
-        }
-    }
-}
-
-#[test]
-fn two_recorders_at_once(rt: HostRuntime) -> Result<(), Fail> {
-    let (table, api) = HoldTable::new(rt.alloc(), 0)?;
-    let (met, one, two, next) = two::<Brand, _>(&rt, rt.alloc(), table, api).ok_or("memory")?;
-    assert_eq!(rt;
-        met,
-        (true, true),
-        "both recorded before one of them went on"
-    );
-    assert_eq!(rt;
-        (one.items.as_slice().len(), two.items.as_slice().len()),
-        (1001, 1001)
-    );
-    let mut seen = [false; 2002];
-    mark(&mut seen, &one);
-    mark(&mut seen, &two);
-    assert!(rt; seen.iter().all(|s| *s), "2,002 items have 2,002 numbers");
-    assert_eq!(rt; next, (2002, 2003), "the first numbers of the next frames");
-    assert!(rt; one.encoder != two.encoder);
-    Ok(())
+    let next = shared.table().advance(&mut api);
+    Some(([Ok(()); 6], [encoder, frame, items, dropped, next, 0, 0]))
 }
 
 // Collects four bundles, and adds up the numbers that they were ended with.
@@ -336,37 +287,27 @@ fn collect_four<C: Naming, R: Wait>(rt: &R, shared: &Shared<C>) -> u32 {
     sum
 }
 
+// The sum of what four bundles were ended with.
 fn four<C: Naming + Send + Sync, R: Threads + Wait + Sync>(
     rt: &R,
     alloc: Global,
-    table: HoldTable,
+    shared: &Shared<C>,
     mut api: ApiSeat,
-) -> Option<u32>
-    requires table { (table_of table ≡ C.table) × (api_table api ≡ C.table) × (api_view api ≡ first_view 0) }
+) -> Option<Told>
+    requires table { (api_table api ≡ C.table) × (api_view api ≡ first_view 0) }
     requires views { C.views ≡ fewest_views }
     requires admits { (e f d : ℕ) (items : List SeenItem) → C.admits e f items d }
 {
-    let Ok(shared) = Shared::<C>::new(alloc, table) else {
-        return None;
-    };
-    let a = begun(alloc, &shared, &mut api, 0)?;
-    let b = begun(alloc, &shared, &mut api, 1)?;
-    let c = begun(alloc, &shared, &mut api, 2)?;
-    let d = begun(alloc, &shared, &mut api, 3)?;
+    let a = begun(alloc, shared, &mut api, 0)?;
+    let b = begun(alloc, shared, &mut api, 1)?;
+    let c = begun(alloc, shared, &mut api, 2)?;
+    let d = begun(alloc, shared, &mut api, 3)?;
     a.end(rt, 1);
     b.end(rt, 10);
     c.end(rt, 100);
     d.end(rt, 1000);
-    let (sum, _) = thread::join(rt, || collect_four(rt, &shared), || ());
-    Some(sum)
-}
-
-#[test]
-fn four_bundles(rt: HostRuntime) -> Result<(), Fail> {
-    let (table, api) = HoldTable::new(rt.alloc(), 0)?;
-    let sum = four::<Brand, _>(&rt, rt.alloc(), table, api);
-    assert_eq!(rt; sum, Some(1_111));
-    Ok(())
+    let (sum, _) = thread::join(rt, || collect_four(rt, shared), || ());
+    Some(([Ok(()); 6], [u64::from(sum), 0, 0, 0, 0, 0, 0]))
 }
 
 // Lets some time pass, in which another thread may try, yield, come near to its sleep, or sleep.
@@ -413,36 +354,146 @@ fn collect_late<C: Naming, R: Wait>(
     came
 }
 
+// How often a bundle was handed back.
 fn thousand<C: Naming + Send + Sync, R: Threads + Wait + Sync>(
     rt: &R,
     alloc: Global,
-    table: HoldTable,
+    shared: &Shared<C>,
     mut api: ApiSeat,
-) -> Option<u32>
+) -> Option<Told>
+    requires table { (api_table api ≡ C.table) × (api_view api ≡ first_view 0) }
+    requires views { C.views ≡ fewest_views }
+    requires admits { (e f d : ℕ) (items : List SeenItem) → C.admits e f items d }
+{
+    let Ok(collected) = ArrayQueue::<Bundle<C>>::new(alloc, 1) else {
+        return None;
+    };
+    begun(alloc, shared, &mut api, 0)?.end(rt, 1);
+    let _ = collected.push(rt, shared.collect(rt));
+    let (_, came) = thread::join(
+        rt,
+        || put_late(rt, shared, &collected),
+        || collect_late(rt, shared, &collected),
+    );
+    Some(([Ok(()); 6], [u64::from(came), 0, 0, 0, 0, 0, 0]))
+}
+
+// ---- one table for each
+
+// What is tried of a table and its queue.
+#[derive(Clone, Copy, Drop)]
+enum Case {
+    Filled,
+    Rooms,
+    Late,
+    Finished,
+    Four,
+    Thousand,
+}
+
+fn told_in<C: Naming + Send + Sync, R: Threads + Wait + Sync>(
+    rt: &R,
+    alloc: Global,
+    shared: &Shared<C>,
+    api: ApiSeat,
+    case: Case,
+) -> Option<Told>
+    requires table { (api_table api ≡ C.table) × (api_view api ≡ first_view 0) }
+    requires views { C.views ≡ fewest_views }
+    requires admits { (e f d : ℕ) (items : List SeenItem) → C.admits e f items d }
+{
+    match case {
+        Case::Filled => filled(alloc, shared, api),
+        Case::Rooms => rooms(alloc, shared, api),
+        Case::Late => late(rt, alloc, shared, api),
+        Case::Finished => finished(alloc, shared, api),
+        Case::Four => four(rt, alloc, shared, api),
+        Case::Thousand => thousand(rt, alloc, shared, api),
+    }
+}
+
+fn by_case<C: Naming + Send + Sync, R: Threads + Wait + Sync>(
+    rt: &R,
+    alloc: Global,
+    table: HoldTable,
+    api: ApiSeat,
+    case: Case,
+) -> Option<Told>
     requires table { (table_of table ≡ C.table) × (api_table api ≡ C.table) × (api_view api ≡ first_view 0) }
     requires views { C.views ≡ fewest_views }
     requires admits { (e f d : ℕ) (items : List SeenItem) → C.admits e f items d }
 {
-    let Ok(shared) = Shared::<C>::new(alloc, table) else {
-        return None;
-    };
-    let Ok(collected) = ArrayQueue::<Bundle<C>>::new(alloc, 1) else {
-        return None;
-    };
-    begun(alloc, &shared, &mut api, 0)?.end(rt, 1);
-    let _ = collected.push(rt, shared.collect(rt));
-    let (_, came) = thread::join(
-        rt,
-        || put_late(rt, &shared, &collected),
-        || collect_late(rt, &shared, &collected),
-    );
-    Some(came)
+    match Shared::<C>::new(alloc, table) {
+        Ok(shared) => told_in(rt, alloc, &shared, api, case),
+        Err(_) => None,
+    }
+}
+
+fn told<R: Threads + Wait + Sync>(rt: &R, alloc: Global, case: Case) -> Option<Told> {
+    match HoldTable::new(alloc, 0) {
+        Ok((table, api)) => by_case::<Brand, R>(rt, alloc, table, api, case),
+        Err(_) => None,
+    }
+}
+
+#[test]
+fn room_of_items(rt: HostRuntime) -> Result<(), Fail> {
+    let (answers, numbers) = told(&rt, rt.alloc(), Case::Filled).ok_or("memory")?;
+    assert_eq!(rt; (numbers[0], answers[0]), (8191, Err(Refusal::RoomFull)));
+    Ok(())
+}
+
+#[test]
+fn rooms_of_bytes_and_values(rt: HostRuntime) -> Result<(), Fail> {
+    let (answers, _) = told(&rt, rt.alloc(), Case::Rooms).ok_or("memory")?;
+    let wanted = [
+        Ok(()),
+        Err(Refusal::BytesFull),
+        Ok(()),
+        Err(Refusal::WrongKind),
+        Ok(()),
+        Err(Refusal::RoomFull),
+    ];
+    assert_eq!(rt; answers, wanted);
+    Ok(())
+}
+
+// Both draws of frame 0 are recorded, and that of frame 1 is not.
+#[test]
+fn a_late_program(rt: HostRuntime) -> Result<(), Fail> {
+    let (answers, numbers) = told(&rt, rt.alloc(), Case::Late).ok_or("memory")?;
+    let ok = Ok(());
+    let wanted = [ok, ok, Err(Refusal::Stale { word: 10 }), ok, ok, ok];
+    assert_eq!(rt; (answers, numbers), (wanted, [2, 0, 0, 3, 0, 1, 0]));
+    Ok(())
+}
+
+#[test]
+fn a_bundle_without_a_queue(rt: HostRuntime) -> Result<(), Fail> {
+    let (_, numbers) = told(&rt, rt.alloc(), Case::Finished).ok_or("memory")?;
+    assert_eq!(rt; numbers, [3, 0, 1, 7, 1, 0, 0]);
+    Ok(())
+}
+
+#[test]
+fn four_bundles(rt: HostRuntime) -> Result<(), Fail> {
+    let (_, numbers) = told(&rt, rt.alloc(), Case::Four).ok_or("memory")?;
+    assert_eq!(rt; numbers[0], 1_111);
+    Ok(())
 }
 
 #[test]
 fn who_waits_for_a_bundle_wakes(rt: HostRuntime) -> Result<(), Fail> {
+    let (_, numbers) = told(&rt, rt.alloc(), Case::Thousand).ok_or("memory")?;
+    assert_eq!(rt; numbers[0], 1000);
+    Ok(())
+}
+
+// Both recorded before one of them went on, 2,002 items have 2,002 numbers, and the next frames go on from there.
+#[test]
+fn two_recorders_at_once(rt: HostRuntime) -> Result<(), Fail> {
     let (table, api) = HoldTable::new(rt.alloc(), 0)?;
-    let came = thousand::<Brand, _>(&rt, rt.alloc(), table, api);
-    assert_eq!(rt; came, Some(1000));
+    let (met, apart, next) = two::<Brand, _>(&rt, rt.alloc(), table, api).ok_or("memory")?;
+    assert_eq!(rt; (met, apart, next), ((true, true), [true; 3], (2002, 2003)));
     Ok(())
 }
