@@ -108,8 +108,9 @@ impl<C: Naming> Shared<C> {
         }
     }
 
-    /// Puts a bundle into the queue, and tries again while it is full.
-    pub(crate) fn put<R: Wait>(&self, rt: &R, bundle: Bundle<C>) {
+    /// Puts a bundle into the queue, as the end of an encoder does, and tries again while it is full. A bundle that was collected can be put
+    /// back so.
+    pub fn put<R: Wait>(&self, rt: &R, bundle: Bundle<C>) {
         let backoff = Backoff::new();
         let mut bundle = bundle;
         for _ in rt.forever() {
