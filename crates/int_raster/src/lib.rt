@@ -25,9 +25,13 @@ mod spans;
 mod stores;
 mod surfaces;
 mod tiles;
+mod wipe;
+mod wipes;
 
 pub use cuts::{draw_cut, view_rect};
 pub use drawing::{draw_bands, draw_view};
 pub use lists::{DrawList, DrawRoom, Paint, Prepared};
 pub use rasterizer::{BandRasterizer, Rasterizer, SerialRasterizer};
 pub use surfaces::Surface;
+pub use wipe::Wipe;
+pub use wipes::wipe_surface;

@@ -3,7 +3,7 @@ ghost use Rattle.std.specs.Prelude.{◌≤◌};
 
 use fix_math::{Affine, Point, Rect, Texels};
 use gfx_words::{StateWord, StencilWord};
-use int_raster::{DrawList, Paint, Prepared, Surface, draw_bands, draw_view};
+use int_raster::{DrawList, Paint, Prepared, Surface, Wipe, draw_bands, draw_view, wipe_surface};
 use std::alloc::{AllocError, Global};
 use std::process::Abort;
 use std::test::Fail;
@@ -115,10 +115,28 @@ fn list_of(
     Ok(list)
 }
 
+// A wipe of all colours.
+fn wipe(color: [u8; 4]) -> Wipe {
+    Wipe {
+        cut: FOUR,
+        flags: 1,
+        color,
+        depth: 0,
+        stencil: 0,
+    }
+}
+
+// A surface of another colour, which is wiped blank before the draws.
+fn colored(alloc: Global) -> Result<Surface, AllocError> {
+    let mut surface = blank(alloc)?;
+    wipe_surface(&mut surface, &wipe([7; 4]));
+    Ok(surface)
+}
+
 // The reds of a picture that is drawn in one go.
 fn in_one(alloc: Global, list: &DrawList<'_>) -> Result<Reds, AllocError> {
-    let mut surface = blank(alloc)?;
-    draw_view(&mut surface, list);
+    let mut surface = colored(alloc)?;
+    draw_view(&mut surface, &[wipe([0; 4])], list);
     Ok(reds(&surface))
 }
 
@@ -131,8 +149,8 @@ fn in_bands<R: Threads>(
 ) -> Result<Reds, AllocError>
     requires { 1 ≤ bands }
 {
-    let mut surface = blank(alloc)?;
-    draw_bands(rt, &mut surface, list, bands);
+    let mut surface = colored(alloc)?;
+    draw_bands(rt, &mut surface, &[wipe([0; 4])], list, bands);
     Ok(reds(&surface))
 }
 
