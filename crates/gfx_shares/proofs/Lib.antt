@@ -1,3 +1,4 @@
 mod Ends
 mod Lists
+mod Leaving
 mod Free

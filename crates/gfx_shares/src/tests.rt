@@ -43,32 +43,19 @@ fn words_texts_reads_and_writes_that_fail(rt: HostRuntime) -> Result<(), Fail> {
     let alloc = rt.alloc();
     let whole = left_by(&rt, alloc, &[], TWO_BLITS, &[], 1000)?;
     assert_eq!(rt; whole.status, SharesStatus::Done);
-    assert_eq!(rt;
-        whole.lines.as_slice(),
-        b"frame 1 view 3 encoders 0 1\n".as_slice()
-    );
+    assert_eq!(rt; whole.lines.as_slice(), b"frame 1 view 3 encoders 0 1\n".as_slice());
     for words in [["pair"].as_slice(), ["pairs", "pairs"].as_slice()] {
         let none = left_by(&rt, alloc, words, TWO_BLITS, &[], 1000)?;
         assert_eq!(rt; none.status, SharesStatus::Usage);
         assert_eq!(rt; none.lines.len(), 0);
     }
-    let refused = left_by(
-        &rt,
-        alloc,
-        &[],
-        b"scene 1\nsize 1 1\nencoders 9\n",
-        &[],
-        1000,
-    )?;
+    let refused = left_by(&rt, alloc, &[], b"scene 1\nsize 1 1\nencoders 9\n", &[], 1000)?;
     assert_eq!(rt; refused.status, SharesStatus::Scene { line: 3, cause: 7 });
     let unread = left_by(&rt, alloc, &[], TWO_BLITS, &[0], 1000)?;
     assert_eq!(rt; unread.status, SharesStatus::ReadFault);
     assert_eq!(rt; unread.lines.len(), 0);
     let cut = left_by(&rt, alloc, &["pairs"], TWO_BLITS, &[], 30)?;
     assert_eq!(rt; cut.status, SharesStatus::NoteFault);
-    assert_eq!(rt;
-        cut.lines.as_slice(),
-        b"frame 1 view 3 encoders 0 1\npa".as_slice()
-    );
+    assert_eq!(rt; cut.lines.as_slice(), b"frame 1 view 3 encoders 0 1\npa".as_slice());
     Ok(())
 }

@@ -1,5 +1,5 @@
 // The words of the command line.
-ghost use Rattle.std.specs.Prelude.{◌≡◌, map, string_bytes};
+ghost use Rattle.std.specs.Prelude.{◌≡◌, ◌∷◌, [], map, string_bytes};
 ghost use Rattle.gfx_shares.specs.Words.{job_of};
 
 /// What the words ask for.
@@ -9,20 +9,30 @@ pub enum Job {
     Views,
     /// These, each with the least pair of items that share one.
     Pairs,
+    /// These without the harmless ones, of which no pixel cares.
+    Harmless,
 }
 
-/// What the words ask for: none, or `pairs`.
+/// What a word asks for.
+fn job_of_word(word: &str) -> Option<Job>
+    ensures { result ≡ job_of (string_bytes word.now ∷ []) }
+{
+    if word == "pairs" {
+        return Some(Job::Pairs);
+    }
+    if word == "harmless" {
+        return Some(Job::Harmless);
+    }
+    None
+}
+
+/// What the words ask for: none, `pairs` or `harmless`.
 pub(crate) fn job_of(words: &[String]) -> Option<Job>
     ensures { result ≡ job_of (map string_bytes words.now) }
 {
     match words {
         [] => Some(Job::Views),
-        [word] => {
-            if word.as_str() != "pairs" {
-                return None;
-            }
-            Some(Job::Pairs)
-        }
+        [word] => job_of_word(word.as_str()),
         _ => None,
     }
 }
