@@ -12,7 +12,7 @@ use Rattle.gfx_model.specs.World.{Change, layout_content}
 use Rattle.gfx_model.specs.Recorder.{Room}
 use Rattle.gfx_model.specs.Views.{View}
 use Rattle.gfx_model.specs.FrameCalls.{begin_encoder, frame_refusal, frame_refusals}
-use Rattle.gfx_model.specs.Resources.{Thing as Held, Resources, ResourceCall, Effect, create_layout, create_vertex_buffer, create_index_buffer, create_texture, create_frame_buffer, create_program, create_uniform, update_buffer, update_texture, set_view_rect, set_view_scissor, set_view_clear, set_view_mode, set_view_transform, set_view_target, set_view_order, reset_view, named_uniform, destroy as destroy_call, no_layout, no_change, on_thing, with_references, die, refusals, refusal_of, effect, references_of, is_at, is_live_handle, is_kept_thing, is_kept_death, is_over}
+use Rattle.gfx_model.specs.Resources.{Thing as Held, Resources, ResourceCall, Effect, create_layout, create_vertex_buffer, create_index_buffer, create_texture, create_frame_buffer, create_program, create_uniform, update_buffer, update_texture, change_view, set_view_target, set_view_order, named_uniform, destroy as destroy_call, no_layout, no_change, on_thing, with_references, die, refusals, refusal_of, effect, references_of, is_at, is_live_handle, is_kept_thing, is_kept_death, is_over}
 use Rattle.gfx_model.proofs.Apart.{place_below}
 use Rattle.resource_laws.specs.Lawful.{IsLawful}
 use Rattle.resource_laws.proofs.CallLaws.{all_passed}
@@ -117,14 +117,9 @@ module _ (r : Resources) (h : Handle) (c : Change) (cs : List Change) where
     by_test : (b : Bool) → (if b then no_change (on_thing (with_references (λ k. k - 1)) g.serial r) else no_change (die g r)).made ≡ Some h → IsMake r (effect r (destroy_call g)) h
     by_test true made = none_made made
     by_test false made = none_made made
-  make_of (set_view_rect v rect) e m n = none_made m
-  make_of (set_view_scissor v rect) e m n = none_made m
-  make_of (set_view_clear v k) e m n = none_made m
-  make_of (set_view_mode v k) e m n = none_made m
-  make_of (set_view_transform v t) e m n = none_made m
+  make_of (change_view v c) e m n = none_made m
   make_of (set_view_target v t) e m n = none_made m
   make_of (set_view_order ids) e m n = none_made m
-  make_of (reset_view v) e m n = none_made m
 
 placed_by : (cs : List Change) (c : Change) (ds : List Change) (h : Handle) (old new : SeatView) → cs ≡ c ∷ ds → IsPlacedBy cs h old new → (place_at old.places (place_of_handle h) ≡ free) × (new ≡ created (place_of_handle h) h.serial old)
 placed_by cs c ds h old new e p = subst (λ xs. IsPlacedBy xs h old new) e p

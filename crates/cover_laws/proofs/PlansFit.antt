@@ -2,9 +2,9 @@
 use Rattle.std.proofs.Common.{◌≡◌, ℕ, zero, suc, ◌+◌, ◌<◌, Bool, true, false, not, cond, ◌==◌, List, [], ◌∷◌, ◌++◌, map, fold, slice_get, Option, Some, None, Result, Ok, Err, refl, subst, arith, option_map, option_and_then}
 use Rattle.std.specs.List.{AllByRecursion, range_with_len}
 use Rattle.gfx_model.specs.Words.{Kind, program_kind, kind_number, is_kind, greatest, Handle}
-use Rattle.gfx_model.specs.Resources.{ResourceCall, create_layout, create_vertex_buffer, create_index_buffer, create_texture, create_frame_buffer, create_program, create_uniform, update_buffer, update_texture, destroy, set_view_rect, set_view_scissor, set_view_clear, set_view_mode, set_view_transform, set_view_target, set_view_order, reset_view, Effect, Refusal, first_refusal, or_refusal, word_of, deaths_in, answer as answer_resource}
+use Rattle.gfx_model.specs.Resources.{ResourceCall, create_layout, create_vertex_buffer, create_index_buffer, create_texture, create_frame_buffer, create_program, create_uniform, update_buffer, update_texture, destroy, change_view, set_view_target, set_view_order, Effect, Refusal, first_refusal, or_refusal, word_of, deaths_in, answer as answer_resource}
 use Rattle.gfx_model.specs.Recorder.{Recorder, EncoderCall, set_state, set_stencil, set_scissor, set_transform, set_vertices, set_indices, set_transient_vertices, set_transient_indices, set_texture, set_uniform, submit, touch, blit, refusals, is_no_view, is_not_kind, is_not_usable, loaded, lacks_room, after, asked, begun}
-use Rattle.scene_model.specs.Scene.{ResourceLine, layout_line, vertex_buffer_line, index_buffer_line, texture_line, frame_buffer_line, program_line, uniform_line, update_line, texel_update_line, destroy_line, rect_line, view_scissor_line, clear_line, mode_line, target_line, view_transform_line, reset_line, order_line, EncoderLine, state_line, stencil_line, scissor_line, transform_line, vertices_line, indices_line, transient_vertices_line, transient_indices_line, bind_line, set_line, submit_line, touch_line, blit_line, SceneFrame, Scene, views_of, latency_of}
+use Rattle.scene_model.specs.Scene.{ResourceLine, layout_line, vertex_buffer_line, index_buffer_line, texture_line, frame_buffer_line, program_line, uniform_line, update_line, texel_update_line, destroy_line, view_line, target_line, order_line, EncoderLine, state_line, stencil_line, scissor_line, transform_line, vertices_line, indices_line, transient_vertices_line, transient_indices_line, bind_line, set_line, submit_line, touch_line, blit_line, SceneFrame, Scene, views_of, latency_of}
 use Rattle.scene_model.specs.Fold.{Bindings, thing_named, option_named, resource_call, created_name, Progress, bound_by, after_answer, after_call, after_line, after_lines, at_start, encoder_call, Recording, recording_after, after_encoder_call, after_encoder_line, lines_of, recording_of, accepted_of, FramePlan, plan_of, plans_from, first_progress, plans}
 use Rattle.scene_model.proofs.OneSource.{source-of}
 use Rattle.scene_model.proofs.ViewOrder.{Fits}
@@ -65,13 +65,8 @@ call-fits bs names (uniform_line n k) c a e = some-fits (create_uniform _ k) c t
 call-fits bs names (update_line n offset bytes) c a e = map-fits (λ h. update_buffer h offset bytes) (λ x. tt) _ c e
 call-fits bs names (texel_update_line n rect bytes) c a e = map-fits (λ h. update_texture h rect bytes) (λ x. tt) _ c e
 call-fits bs names (destroy_line n) c a e = destroy-call bs n a (thing_named bs n) refl c e
-call-fits bs names (rect_line v rect) c a e = some-fits (set_view_rect v rect) c tt e
-call-fits bs names (view_scissor_line v rect) c a e = some-fits (set_view_scissor v rect) c tt e
-call-fits bs names (clear_line v x) c a e = some-fits (set_view_clear v x) c tt e
-call-fits bs names (mode_line v m) c a e = some-fits (set_view_mode v m) c tt e
+call-fits bs names (view_line v x) c a e = some-fits (change_view v x) c tt e
 call-fits bs names (target_line v t) c a e = map-fits (set_view_target v) (λ x. tt) _ c e
-call-fits bs names (view_transform_line v t) c a e = some-fits (set_view_transform v t) c tt e
-call-fits bs names (reset_line v) c a e = some-fits (reset_view v) c tt e
 call-fits bs names (order_line ids) c a e = some-fits (set_view_order ids) c tt e
 
 pub record ProgressFits (p : Progress) : Type 0 where

@@ -5,7 +5,7 @@ use Rattle.gfx_model.specs.Number.{is_without_repeat}
 use Rattle.gfx_model.specs.Words.{Kind, layout_kind, vertex_buffer_kind, index_buffer_kind, texture_kind, frame_buffer_kind, program_kind, uniform_kind, all_kinds, kind_number, is_kind, greatest, Format, rgba8, is_rgba8, is_format, ProgramKind, UniformKind, vec4, int, vec4_value, int_value, UniformValue, value_kind, is_uniform_kind, Info, plain, texture_info, uniform_info, Handle, free_word, live_word, dying_word, is_live_in}
 use Rattle.gfx_model.specs.Vertex.{Color, Layout}
 use Rattle.gfx_model.specs.Raster.{Affine, Rect, Texels}
-use Rattle.gfx_model.specs.Views.{View, Views, Clear, ViewMode, plain_view, new_views, view_count, set_view}
+use Rattle.gfx_model.specs.Views.{View, Views, Clear, ViewMode, ViewChange, rect_change, scissor_change, clear_change, mode_change, transform_change, plain_change, view_after, new_views, view_count, set_view}
 use Rattle.gfx_model.specs.World.{Content, layout_content, vertex_content, index_content, texture_content, frame_buffer_content, program_content, uniform_content, Change, create_thing, update_bytes, update_texels, texel_in}
 
 -- ---- refusals
@@ -201,14 +201,28 @@ pub data ResourceCall : Type 0 where
   update_buffer : (buffer : Handle) → (offset : ℕ) → (bytes : List ℕ) → ResourceCall
   update_texture : (texture : Handle) → Rect → (bytes : List ℕ) → ResourceCall
   destroy : Handle → ResourceCall
-  set_view_rect : (view : ℕ) → Rect → ResourceCall
-  set_view_scissor : (view : ℕ) → Rect → ResourceCall
-  set_view_clear : (view : ℕ) → Clear → ResourceCall
-  set_view_mode : (view : ℕ) → ViewMode → ResourceCall
-  set_view_transform : (view : ℕ) → Affine → ResourceCall
+  change_view : (view : ℕ) → ViewChange → ResourceCall
   set_view_target : (view : ℕ) → Option Handle → ResourceCall
   set_view_order : List ℕ → ResourceCall
-  reset_view : (view : ℕ) → ResourceCall
+
+-- the calls that change a view, by their names
+abbrev pub set_view_rect : (view : ℕ) → Rect → ResourceCall
+set_view_rect v rect = change_view v (rect_change rect)
+
+abbrev pub set_view_scissor : (view : ℕ) → Rect → ResourceCall
+set_view_scissor v rect = change_view v (scissor_change rect)
+
+abbrev pub set_view_clear : (view : ℕ) → Clear → ResourceCall
+set_view_clear v c = change_view v (clear_change c)
+
+abbrev pub set_view_mode : (view : ℕ) → ViewMode → ResourceCall
+set_view_mode v m = change_view v (mode_change m)
+
+abbrev pub set_view_transform : (view : ℕ) → Affine → ResourceCall
+set_view_transform v t = change_view v (transform_change t)
+
+abbrev pub reset_view : (view : ℕ) → ResourceCall
+reset_view v = change_view v plain_change
 
 -- ---- which call is refused
 
@@ -311,6 +325,11 @@ uniform_refusals r k (Some t) =
     (not (is_uniform_kind k (uniform_kind_in t.content)), wrong_kind)
     ∷ (nat_le greatest_references t.references, full) ∷ []
 
+-- the conditions of a change of a view: flags to clear that there are not, and a depth that is too great
+abbrev pub change_refusals : ViewChange → List (Bool × Refusal)
+change_refusals (clear_change c) = (nat_lt 7 c.flags || nat_lt 16777215 c.depth, bad_state) ∷ []
+change_refusals c = []
+
 -- what a call is refused for, in the order in which it is tested
 abbrev pub refusals : Resources → ResourceCall → List (Bool × Refusal)
 refusals r (create_layout l) = lacks_index r layout_kind ∷ lacks_serial r ∷ []
@@ -337,17 +356,12 @@ refusals r (update_texture h rect bytes) =
     is_not_kind texture_kind h ∷ is_not_live r h ∷ (passes_side rect h.info, bad_range)
     ∷ (not (length bytes == 4 * (rect.w * rect.h)), bad_size) ∷ []
 refusals r (destroy h) = is_not_live r h ∷ (if is_kind h.kind texture_kind then attached_by (least_index (holders r h)) else [])
-refusals r (set_view_rect v rect) = is_no_view r v ∷ []
-refusals r (set_view_scissor v rect) = is_no_view r v ∷ []
-refusals r (set_view_clear v c) = is_no_view r v ∷ (nat_lt 7 c.flags || nat_lt 16777215 c.depth, bad_state) ∷ []
-refusals r (set_view_mode v m) = is_no_view r v ∷ []
-refusals r (set_view_transform v t) = is_no_view r v ∷ []
+refusals r (change_view v c) = is_no_view r v ∷ change_refusals c
 refusals r (set_view_target v None) = is_no_view r v ∷ []
 refusals r (set_view_target v (Some h)) = is_no_view r v ∷ is_not_kind frame_buffer_kind h ∷ is_not_live r h ∷ []
 refusals r (set_view_order ids) =
     (list_any (λ v. nat_le (view_count r.views) v) ids, bad_view)
     ∷ (nat_lt (view_count r.views) (length ids) || not (is_without_repeat ids), bad_range) ∷ []
-refusals r (reset_view v) = is_no_view r v ∷ []
 
 -- the refusal of a call, if it is refused
 abbrev pub refusal_of : Resources → ResourceCall → Option Refusal
@@ -488,14 +502,9 @@ effect r (create_uniform name k) = uniform_effect r name k (named_uniform r name
 effect r (update_buffer h offset bytes) = record { after = r; made = None; changes = update_bytes h.serial offset bytes ∷ [] }
 effect r (update_texture h rect bytes) = record { after = r; made = None; changes = update_texels h.serial rect bytes ∷ [] }
 effect r (destroy h) = destroy_effect r h
-effect r (set_view_rect v rect) = changed_views r v (λ view. record view { rect = rect })
-effect r (set_view_scissor v rect) = changed_views r v (λ view. record view { scissor = rect })
-effect r (set_view_clear v c) = changed_views r v (λ view. record view { clear = c })
-effect r (set_view_mode v m) = changed_views r v (λ view. record view { mode = m })
-effect r (set_view_transform v t) = changed_views r v (λ view. record view { transform = t })
+effect r (change_view v c) = changed_views r v (view_after c)
 effect r (set_view_target v t) = changed_views r v (λ view. record view { target = t })
 effect r (set_view_order ids) = no_change (with_views (with_order ids r.views) r)
-effect r (reset_view v) = changed_views r v (λ view. plain_view)
 
 -- the answer to a call: its effect, or its refusal, which changes nothing
 abbrev pub answer : Resources → ResourceCall → Result Effect Refusal

@@ -2,10 +2,10 @@
 use Rattle.std.proofs.Common.{ℕ, zero, suc, ◌+◌, ◌-◌, Bool, true, false, cond, List, [], ◌∷◌, map, replicate, Option, Some, None, refl}
 use Rattle.std.specs.Prelude.{⊤, option_map, option_and_then, slice_index_or, slice_set, nat_lt}
 use Rattle.std.specs.List.{AllByRecursion, find}
-use Rattle.gfx_model.specs.Views.{Views, View, plain_view}
-use Rattle.gfx_model.specs.Resources.{Resources, ResourceCall, create_layout, create_vertex_buffer, create_index_buffer, create_texture, create_frame_buffer, create_program, create_uniform, update_buffer, update_texture, destroy, set_view_rect, set_view_scissor, set_view_clear, set_view_mode, set_view_transform, set_view_target, set_view_order, reset_view, Thing, Effect, effect, uniform_effect, named_uniform, no_change, on_thing, with_references, die, references_of, is_at, with_live_target, deaths_in, Refusal, refusal_of, or_refusal}
+use Rattle.gfx_model.specs.Views.{Views, View, plain_view, rect_change, scissor_change, clear_change, mode_change, transform_change, plain_change}
+use Rattle.gfx_model.specs.Resources.{Resources, ResourceCall, create_layout, create_vertex_buffer, create_index_buffer, create_texture, create_frame_buffer, create_program, create_uniform, update_buffer, update_texture, destroy, change_view, set_view_target, set_view_order, Thing, Effect, effect, uniform_effect, named_uniform, no_change, on_thing, with_references, die, references_of, is_at, with_live_target, deaths_in, Refusal, refusal_of, or_refusal}
 use Rattle.gfx_model.specs.Vertex.{layout_of_parts}
-use Rattle.scene_model.specs.Scene.{ResourceLine, layout_line, vertex_buffer_line, index_buffer_line, texture_line, frame_buffer_line, program_line, uniform_line, update_line, texel_update_line, destroy_line, rect_line, view_scissor_line, clear_line, mode_line, target_line, view_transform_line, reset_line, order_line, SceneFrame, Scene, views_of}
+use Rattle.scene_model.specs.Scene.{ResourceLine, layout_line, vertex_buffer_line, index_buffer_line, texture_line, frame_buffer_line, program_line, uniform_line, update_line, texel_update_line, destroy_line, view_line, target_line, order_line, SceneFrame, Scene, views_of}
 use Rattle.scene_model.specs.Fold.{Bindings, Progress, thing_named, option_named, resource_call, after_answer, after_call, after_line, after_lines, at_start, plans_from, first_progress}
 use Rattle.spelling_model.specs.Readable.{IsResourceLine, AreResourceLines, bound_by, bound_by_lines, AreFrames, bound_by_frame}
 use Rattle.picture_laws.specs.Whole.{IsFour, ClearsToColors, WholeLaw}
@@ -40,7 +40,7 @@ new-clear (suc n) = (refl, new-clear n)
 -- ---- calls
 
 abbrev CallClears : ResourceCall → Type 0
-CallClears (set_view_clear v c) = IsFour c.color
+CallClears (change_view v (clear_change c)) = IsFour c.color
 CallClears _ = ⊤
 
 abbrev MayClear : Option ResourceCall → Type 0
@@ -67,14 +67,14 @@ effect-clear r (update_buffer h offset bytes) ok own = own
 effect-clear r (update_texture h rect bytes) ok own = own
 effect-clear r (destroy h) ok own =
     either-clear (nat_lt 1 (references_of (find (is_at h.kind h.index) r.things))) (no_change (on_thing (with_references (λ n. n - 1)) h.serial r)) (no_change (die h r)) own own
-effect-clear r (set_view_rect v rect) ok own = set-clear r.views.settings v _ own (at-clear r.views.settings v own)
-effect-clear r (set_view_scissor v rect) ok own = set-clear r.views.settings v _ own (at-clear r.views.settings v own)
-effect-clear r (set_view_clear v c) ok own = set-clear r.views.settings v _ own ok
-effect-clear r (set_view_mode v m) ok own = set-clear r.views.settings v _ own (at-clear r.views.settings v own)
-effect-clear r (set_view_transform v t) ok own = set-clear r.views.settings v _ own (at-clear r.views.settings v own)
+effect-clear r (change_view v (rect_change rect)) ok own = set-clear r.views.settings v _ own (at-clear r.views.settings v own)
+effect-clear r (change_view v (scissor_change rect)) ok own = set-clear r.views.settings v _ own (at-clear r.views.settings v own)
+effect-clear r (change_view v (clear_change c)) ok own = set-clear r.views.settings v _ own ok
+effect-clear r (change_view v (mode_change m)) ok own = set-clear r.views.settings v _ own (at-clear r.views.settings v own)
+effect-clear r (change_view v (transform_change t)) ok own = set-clear r.views.settings v _ own (at-clear r.views.settings v own)
 effect-clear r (set_view_target v t) ok own = set-clear r.views.settings v _ own (at-clear r.views.settings v own)
 effect-clear r (set_view_order ids) ok own = own
-effect-clear r (reset_view v) ok own = set-clear r.views.settings v _ own refl
+effect-clear r (change_view v plain_change) ok own = set-clear r.views.settings v _ own refl
 
 -- ---- lines
 
@@ -98,13 +98,13 @@ call-clears bs names views bound (uniform_line n k) h = tt
 call-clears bs names views bound (update_line n offset bytes) h = mapped (λ x. update_buffer x offset bytes) (thing_named bs n) (λ x. tt)
 call-clears bs names views bound (texel_update_line n r bytes) h = mapped (λ x. update_texture x r bytes) (thing_named bs n) (λ x. tt)
 call-clears bs names views bound (destroy_line n) h = mapped destroy (thing_named bs n) (λ x. tt)
-call-clears bs names views bound (rect_line v r) h = tt
-call-clears bs names views bound (view_scissor_line v r) h = tt
-call-clears bs names views bound (clear_line v c) h = h.1.1.0
-call-clears bs names views bound (mode_line v m) h = tt
+call-clears bs names views bound (view_line v (rect_change r)) h = tt
+call-clears bs names views bound (view_line v (scissor_change r)) h = tt
+call-clears bs names views bound (view_line v (clear_change c)) h = h.1.1.0
+call-clears bs names views bound (view_line v (mode_change m)) h = tt
 call-clears bs names views bound (target_line v t) h = mapped (set_view_target v) (option_named bs t) (λ x. tt)
-call-clears bs names views bound (view_transform_line v t) h = tt
-call-clears bs names views bound (reset_line v) h = tt
+call-clears bs names views bound (view_line v (transform_change t)) h = tt
+call-clears bs names views bound (view_line v plain_change) h = tt
 call-clears bs names views bound (order_line ids) h = tt
 
 answered : (p : Progress) (l : ResourceLine) (e : Effect) (o : Option Refusal) → AreClear e.after.views → AreClear p.resources.views → AreClear (after_answer p l (or_refusal e o)).resources.views

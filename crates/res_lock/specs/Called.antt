@@ -68,14 +68,9 @@ abbrev pub IsChange : LockCall → Type 0
 IsChange (on_things (model.update_buffer buffer offset bytes)) = ⊤
 IsChange (on_things (model.update_texture texture rect bytes)) = ⊤
 IsChange (on_things (model.destroy thing)) = ⊤
-IsChange (on_things (model.set_view_rect view rect)) = ⊤
-IsChange (on_things (model.set_view_scissor view rect)) = ⊤
-IsChange (on_things (model.set_view_clear view clear)) = ⊤
-IsChange (on_things (model.set_view_mode view mode)) = ⊤
-IsChange (on_things (model.set_view_transform view transform)) = ⊤
+IsChange (on_things (model.change_view view c)) = ⊤
 IsChange (on_things (model.set_view_target view target)) = ⊤
 IsChange (on_things (model.set_view_order ids)) = ⊤
-IsChange (on_things (model.reset_view view)) = ⊤
 IsChange _ = ⊥
 
 -- ---- what a pass learns

@@ -5,7 +5,7 @@ use Rattle.std.proofs.lemmas.List.{length-append}
 use Rattle.gfx_model.specs.Words.{Kind, Handle, Info, UniformKind}
 use Rattle.gfx_model.specs.World.{Content}
 use Rattle.gfx_model.specs.Commands.{Command}
-use Rattle.gfx_model.specs.Resources.{Thing, Resources, ResourceCall, is_live, is_at, is_live_handle, change_of_serial, with_death, with_references, make, top_index, book_of, uniform_effect, zero_value, no_change, on_thing, die, with_views, named_uniform, references_of, refusals, refusal_of, effect, create_layout, create_vertex_buffer, create_index_buffer, create_texture, create_frame_buffer, create_program, create_uniform, update_buffer, update_texture, destroy, set_view_rect, set_view_scissor, set_view_clear, set_view_mode, set_view_transform, set_view_target, set_view_order, reset_view}
+use Rattle.gfx_model.specs.Resources.{Thing, Resources, ResourceCall, is_live, is_at, is_live_handle, change_of_serial, with_death, with_references, make, top_index, book_of, uniform_effect, zero_value, no_change, on_thing, die, with_views, named_uniform, references_of, refusals, refusal_of, effect, create_layout, create_vertex_buffer, create_index_buffer, create_texture, create_frame_buffer, create_program, create_uniform, update_buffer, update_texture, destroy, change_view, set_view_target, set_view_order}
 use Rattle.resource_laws.specs.Lawful.{count_where, IsLawful}
 use Rattle.resource_laws.proofs.AttachLaws.{count_snoc}
 use Rattle.resource_laws.proofs.DeathLaws.{by_serial, one_changed, has_serial}
@@ -96,11 +96,6 @@ moves r (destroy h) law e =
     let passed = all_passed (refusals r (destroy h)) e in
     let live = live_found r h law (not_false (is_live_handle r h) passed.0) in
     moves_destroy r h (nat_lt 1 (references_of (find (is_at h.kind h.index) r.things))) (counts_dead r.frame h r live.0 law live.1 live.2 live.3)
-moves r (set_view_rect v rect) law e = same_moves r _
-moves r (set_view_scissor v rect) law e = same_moves r _
-moves r (set_view_clear v c) law e = same_moves r _
-moves r (set_view_mode v m) law e = same_moves r _
-moves r (set_view_transform v t) law e = same_moves r _
+moves r (change_view v c) law e = same_moves r _
 moves r (set_view_target v t) law e = same_moves r _
 moves r (set_view_order ids) law e = same_moves r _
-moves r (reset_view v) law e = same_moves r _

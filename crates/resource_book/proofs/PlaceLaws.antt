@@ -4,7 +4,7 @@ use Rattle.std.specs.List.{AllByRecursion, find}
 use Rattle.std.proofs.lemmas.Option.{none-some}
 use Rattle.gfx_model.specs.Words.{Kind, Handle, Info, UniformKind, layout_kind, vertex_buffer_kind, index_buffer_kind, texture_kind, frame_buffer_kind, program_kind, uniform_kind, plain, texture_info, uniform_info, greatest, place_of_handle}
 use Rattle.gfx_model.specs.World.{Content}
-use Rattle.gfx_model.specs.Resources.{Thing, Resources, ResourceCall, create_layout, create_vertex_buffer, create_index_buffer, create_texture, create_frame_buffer, create_program, create_uniform, update_buffer, update_texture, destroy, set_view_rect, set_view_scissor, set_view_clear, set_view_mode, set_view_transform, set_view_target, set_view_order, reset_view, refusals, refusal_of, is_at, lacks_index, lacks_serial, named_uniform, uniform_refusals, uniform_effect, no_change}
+use Rattle.gfx_model.specs.Resources.{Thing, Resources, ResourceCall, create_layout, create_vertex_buffer, create_index_buffer, create_texture, create_frame_buffer, create_program, create_uniform, update_buffer, update_texture, destroy, change_view, set_view_target, set_view_order, refusals, refusal_of, is_at, lacks_index, lacks_serial, named_uniform, uniform_refusals, uniform_effect, no_change}
 use Rattle.store_laws.specs.Standing.{serials, serial_at}
 use Rattle.store_laws.specs.Says.{created}
 use Rattle.call_laws.specs.Calls.{Ties, GivesPlace, GivesFree}
@@ -53,15 +53,10 @@ module _ (place : ℕ → ℕ) (r : Resources) (things : List (ℕ × Content)) 
   free_by (update_buffer b offset bytes) p g = tt
   free_by (update_texture x rect bytes) p g = tt
   free_by (destroy h) p g = destroy_free _ _ _
-  free_by (set_view_rect v rect) p g = tt
-  free_by (set_view_scissor v rect) p g = tt
-  free_by (set_view_clear v c) p g = tt
-  free_by (set_view_mode v m) p g = tt
-  free_by (set_view_transform v x) p g = tt
+  free_by (change_view v c) p g = tt
   free_by (set_view_target v None) p g = tt
   free_by (set_view_target v (Some h)) p g = tt
   free_by (set_view_order ids) p g = tt
-  free_by (reset_view v) p g = tt
 
   pub gives_free : (c : ResourceCall) → refusal_of r c ≡ None → GivesPlace place r c → GivesFree place r c things
   gives_free c passes g = free_by c (all_passed (refusals r c) passes) g

@@ -4,7 +4,7 @@ use Rattle.std.specs.List.{find}
 use Rattle.std.proofs.lemmas.List.{length-set}
 use Rattle.gfx_model.specs.Views.{View, view_count}
 use Rattle.gfx_model.specs.Words.{Handle, UniformKind}
-use Rattle.gfx_model.specs.Resources.{Thing, Resources, create_layout, create_vertex_buffer, create_index_buffer, create_texture, create_frame_buffer, create_program, create_uniform, update_buffer, update_texture, destroy, set_view_rect, set_view_scissor, set_view_clear, set_view_mode, set_view_transform, set_view_target, set_view_order, reset_view, effect, named_uniform, uniform_effect, no_change, die, on_thing, with_references, references_of, is_at}
+use Rattle.gfx_model.specs.Resources.{Thing, Resources, create_layout, create_vertex_buffer, create_index_buffer, create_texture, create_frame_buffer, create_program, create_uniform, update_buffer, update_texture, destroy, change_view, set_view_target, set_view_order, effect, named_uniform, uniform_effect, no_change, die, on_thing, with_references, references_of, is_at}
 use Rattle.resource_book.specs.Laws.{SameLaw}
 
 -- two states with the same of all three
@@ -33,11 +33,6 @@ same_law r (create_uniform name k) = same_uniform r name k (named_uniform r name
 same_law r (update_buffer h offset bytes) = (refl, refl, refl)
 same_law r (update_texture h rect bytes) = (refl, refl, refl)
 same_law r (destroy h) = same_destroy r h (nat_lt 1 (references_of (find (is_at h.kind h.index) r.things)))
-same_law r (set_view_rect v rect) = (same_view r v _, refl, refl)
-same_law r (set_view_scissor v rect) = (same_view r v _, refl, refl)
-same_law r (set_view_clear v c) = (same_view r v _, refl, refl)
-same_law r (set_view_mode v m) = (same_view r v _, refl, refl)
-same_law r (set_view_transform v t) = (same_view r v _, refl, refl)
+same_law r (change_view v c) = (same_view r v _, refl, refl)
 same_law r (set_view_target v t) = (same_view r v _, refl, refl)
 same_law r (set_view_order ids) = (refl, refl, refl)
-same_law r (reset_view v) = (same_view r v _, refl, refl)

@@ -4,7 +4,7 @@ use Rattle.std.proofs.lemmas.List.{append-nil}
 use Rattle.std.specs.List.{find}
 use Rattle.gfx_model.specs.Words.{kind_number}
 use Rattle.gfx_model.specs.Commands.{destroy_command}
-use Rattle.gfx_model.specs.Resources.{Thing, Resources, ResourceCall, effect, references_of, is_at, create_layout, create_vertex_buffer, create_index_buffer, create_texture, create_frame_buffer, create_program, create_uniform, update_buffer, update_texture, destroy, set_view_rect, set_view_scissor, set_view_clear, set_view_mode, set_view_transform, set_view_target, set_view_order, reset_view}
+use Rattle.gfx_model.specs.Resources.{Thing, Resources, ResourceCall, effect, references_of, is_at, create_layout, create_vertex_buffer, create_index_buffer, create_texture, create_frame_buffer, create_program, create_uniform, update_buffer, update_texture, destroy, change_view, set_view_target, set_view_order}
 use Rattle.call_laws.specs.Calls.{Written, after_call, written, payload_for, where_changed, destroys_of}
 use Rattle.resource_laws.specs.Bare.{bare, bare_of}
 use Rattle.resource_laws.proofs.BareCalls.{find_bare}
@@ -31,14 +31,9 @@ destroys_bare r (create_program k) = refl
 destroys_bare r (create_uniform name k) = refl
 destroys_bare r (update_buffer h offset bytes) = refl
 destroys_bare r (update_texture h rect bytes) = refl
-destroys_bare r (set_view_rect v rect) = refl
-destroys_bare r (set_view_scissor v rect) = refl
-destroys_bare r (set_view_clear v c) = refl
-destroys_bare r (set_view_mode v m) = refl
-destroys_bare r (set_view_transform v t) = refl
+destroys_bare r (change_view v c) = refl
 destroys_bare r (set_view_target v t) = refl
 destroys_bare r (set_view_order ids) = refl
-destroys_bare r (reset_view v) = refl
 
 pub written_law : (v : Written) (call : ResourceCall) → bared (after_call v call) ≡ after_in call (effect v.resources call).made (bared v)
 written_law v call =

@@ -4,7 +4,7 @@ use Rattle.std.proofs.lemmas.List.{length-replicate}
 use Rattle.std.specs.List.{find, fold}
 use Rattle.gfx_model.specs.Words.{Handle, Kind, Info, UniformKind, vec4, int, UniformValue, vec4_value, int_value, texture_kind, frame_buffer_kind, uniform_kind, is_kind, is_live_in}
 use Rattle.gfx_model.specs.World.{Content, layout_content, vertex_content, index_content, texture_content, frame_buffer_content, program_content, uniform_content}
-use Rattle.gfx_model.specs.Resources.{Thing, Resources, ResourceCall, full, stale, bad_range, bad_size, wrong_kind, texels_full, word_of, word_of_thing, is_at, is_live, is_not_live, not_live_option, texel_count, byte_count, bytes_of_thing, has_name, holds_texture, uniform_kind_in, layout_of_content, layout_in, named_uniform, uniform_refusals, greatest_references, greatest_bytes, greatest_texels, is_size, source_fits, is_not_kind, lacks_index, lacks_serial, can_attach, is_buffer, passes_side, attached_by, least_index, is_no_view, refusals, create_layout, create_vertex_buffer, create_index_buffer, create_texture, create_frame_buffer, create_program, create_uniform, update_buffer, update_texture, destroy, set_view_rect, set_view_scissor, set_view_clear, set_view_mode, set_view_transform, set_view_target, set_view_order, reset_view}
+use Rattle.gfx_model.specs.Resources.{Thing, Resources, ResourceCall, full, stale, bad_range, bad_size, wrong_kind, texels_full, word_of, word_of_thing, is_at, is_live, is_not_live, not_live_option, texel_count, byte_count, bytes_of_thing, has_name, holds_texture, uniform_kind_in, layout_of_content, layout_in, named_uniform, uniform_refusals, greatest_references, greatest_bytes, greatest_texels, is_size, source_fits, is_not_kind, lacks_index, lacks_serial, can_attach, is_buffer, passes_side, attached_by, least_index, is_no_view, refusals, create_layout, create_vertex_buffer, create_index_buffer, create_texture, create_frame_buffer, create_program, create_uniform, update_buffer, update_texture, destroy, change_view, set_view_target, set_view_order}
 use Rattle.resource_laws.specs.Bare.{bare, bare_content, bare_of}
 
 find_step : (p : Thing → Bool) (t : Thing) (ts : List Thing) (b : Bool) → find p (map bare ts) ≡ option_map bare (find p ts) → (if b then Some (bare t) else find p (map bare ts)) ≡ option_map bare (if b then Some t else find p ts)
@@ -132,12 +132,7 @@ refusals_bare r (update_buffer h offset bytes) = λ j. (not (is_buffer h), wrong
     ∷ (nat_lt ((ap bytes_of_thing (find_bare (is_at h.kind h.index) (λ t. refl) r.things) ∙ held_step (find (is_at h.kind h.index) r.things)) j) (offset + length bytes), bad_range) ∷ []
 refusals_bare r (update_texture h rect bytes) = λ j. is_not_kind texture_kind h ∷ not_live_bare r h j ∷ (passes_side rect h.info, bad_range) ∷ (not (length bytes == 4 * (rect.w * rect.h)), bad_size) ∷ []
 refusals_bare r (destroy h) = λ j. not_live_bare r h j ∷ (if is_kind h.kind texture_kind then attached_by (least_index (holders_bare h r.things j)) else [])
-refusals_bare r (set_view_rect v rect) = refl
-refusals_bare r (set_view_scissor v rect) = refl
-refusals_bare r (set_view_clear v c) = refl
-refusals_bare r (set_view_mode v m) = refl
-refusals_bare r (set_view_transform v t) = refl
+refusals_bare r (change_view v c) = refl
 refusals_bare r (set_view_target v None) = refl
 refusals_bare r (set_view_target v (Some h)) = λ j. is_no_view r v ∷ is_not_kind frame_buffer_kind h ∷ not_live_bare r h j ∷ []
 refusals_bare r (set_view_order ids) = refl
-refusals_bare r (reset_view v) = refl

@@ -6,7 +6,7 @@ use Rattle.gfx_model.specs.Words.{Handle, Kind, Info, UniformKind, vec4_value, i
 use Rattle.gfx_model.specs.Views.{Views}
 use Rattle.gfx_model.specs.Vertex.{Layout}
 use Rattle.gfx_model.specs.World.{Content, layout_content, vertex_content, index_content, texture_content, frame_buffer_content, program_content, uniform_content}
-use Rattle.gfx_model.specs.Resources.{Thing, Resources, ResourceCall, effect, make, is_at, change_of_serial, on_thing, with_references, with_death, die, destroy_effect, uniform_effect, named_uniform, references_of, no_change, layout_of_handle, texels_from, serial_option, zero_value, no_layout, top_index, book_of, create_layout, create_vertex_buffer, create_index_buffer, create_texture, create_frame_buffer, create_program, create_uniform, update_buffer, update_texture, destroy, set_view_rect, set_view_scissor, set_view_clear, set_view_mode, set_view_transform, set_view_target, set_view_order, reset_view, layout_in}
+use Rattle.gfx_model.specs.Resources.{Thing, Resources, ResourceCall, effect, make, is_at, change_of_serial, on_thing, with_references, with_death, die, destroy_effect, uniform_effect, named_uniform, references_of, no_change, layout_of_handle, texels_from, serial_option, zero_value, no_layout, top_index, book_of, create_layout, create_vertex_buffer, create_index_buffer, create_texture, create_frame_buffer, create_program, create_uniform, update_buffer, update_texture, destroy, change_view, set_view_target, set_view_order, layout_in}
 use Rattle.resource_laws.specs.Bare.{bare, bare_content, bare_of}
 use Rattle.resource_laws.specs.Laws.{IsSameEffect}
 use Rattle.resource_laws.proofs.BareCalls.{find_bare, named_bare, layout_step}
@@ -81,11 +81,6 @@ effect_same r (destroy h) =
     let e : references_of (find (is_at h.kind h.index) (map bare r.things)) ≡ references_of (find (is_at h.kind h.index) r.things) = ap references_of (find_bare (is_at h.kind h.index) (λ t. refl) r.things) ∙ refs_step (find (is_at h.kind h.index) r.things) in
     subst (λ (n : ℕ). IsSameEffect (if nat_lt 1 n then no_change (on_thing (with_references (λ n. n - 1)) h.serial (bare_of r)) else no_change (die h (bare_of r))) (destroy_effect r h)) (sym e)
     (destroy_same h r (nat_lt 1 (references_of (find (is_at h.kind h.index) r.things))))
-effect_same r (set_view_rect v rect) = view_same r _
-effect_same r (set_view_scissor v rect) = view_same r _
-effect_same r (set_view_clear v c) = view_same r _
-effect_same r (set_view_mode v m) = view_same r _
-effect_same r (set_view_transform v t) = view_same r _
+effect_same r (change_view v c) = view_same r _
 effect_same r (set_view_target v t) = view_same r _
 effect_same r (set_view_order ids) = view_same r _
-effect_same r (reset_view v) = view_same r _

@@ -6,7 +6,7 @@ use Rattle.std.proofs.lemmas.Option.{none-some}
 use Rattle.gfx_model.specs.Words.{layout_kind, vertex_buffer_kind, index_buffer_kind, texture_kind, frame_buffer_kind, program_kind, uniform_kind, kind_number, is_kind, Format, rgba8, d24s8, plain, texture_info, uniform_info, UniformKind, Handle}
 use Rattle.gfx_model.specs.Views.{Views}
 use Rattle.gfx_model.specs.World.{layout_content, vertex_content, index_content, texture_content, frame_buffer_content, program_content, uniform_content}
-use Rattle.gfx_model.specs.Resources.{Refusal, first_refusal, Thing, Resources, ResourceCall, create_layout, create_vertex_buffer, create_index_buffer, create_texture, create_frame_buffer, create_program, create_uniform, update_buffer, update_texture, destroy, set_view_rect, set_view_scissor, set_view_clear, set_view_mode, set_view_transform, set_view_target, set_view_order, reset_view, refusals, refusal_of, effect, with_views, is_at, is_live, is_live_handle, texture_sides, sides_in, same_sides, can_attach, layout_of_handle, texels_from, zero_value, named_uniform, has_name, uniform_refusals, uniform_effect, no_change, die, on_thing, with_references, references_of, holders, holds_texture, least_index, lesser_index, attached_by, greatest_references}
+use Rattle.gfx_model.specs.Resources.{Refusal, first_refusal, Thing, Resources, ResourceCall, create_layout, create_vertex_buffer, create_index_buffer, create_texture, create_frame_buffer, create_program, create_uniform, update_buffer, update_texture, destroy, change_view, set_view_target, set_view_order, refusals, refusal_of, effect, with_views, is_at, is_live, is_live_handle, texture_sides, sides_in, same_sides, can_attach, layout_of_handle, texels_from, zero_value, named_uniform, has_name, uniform_refusals, uniform_effect, no_change, die, on_thing, with_references, references_of, holders, holds_texture, least_index, lesser_index, attached_by, greatest_references}
 use Rattle.resource_laws.specs.Lawful.{outlives, is_texture_until, HasTextureUntil, IsLawful}
 use Rattle.resource_laws.proofs.LawfulLaws.{lawful_made}
 use Rattle.resource_laws.proofs.DeathLaws.{has_serial, by_serial, found_true, and_parts, IsUnheld, lawful_died, lawful_referred}
@@ -143,14 +143,9 @@ lawful_by r (destroy h) l p =
     let place = and_parts (kind_number t.handle.kind == kind_number h.kind) (t.handle.index == h.index) (found_true (is_at h.kind h.index) r.things t found.1) in
     destroyed r h t (nat_lt 1 (references_of (find (is_at h.kind h.index) r.things))) l found.1 found.2 found.3
     (unheld r h t (is_kind h.kind texture_kind) refl (eqb-true (kind_number t.handle.kind) (kind_number h.kind) place.0) p.1)
-lawful_by r (set_view_rect v rect) l p = viewed r _ l
-lawful_by r (set_view_scissor v rect) l p = viewed r _ l
-lawful_by r (set_view_clear v c) l p = viewed r _ l
-lawful_by r (set_view_mode v m) l p = viewed r _ l
-lawful_by r (set_view_transform v t) l p = viewed r _ l
+lawful_by r (change_view v c) l p = viewed r _ l
 lawful_by r (set_view_target v t) l p = viewed r _ l
 lawful_by r (set_view_order ids) l p = viewed r _ l
-lawful_by r (reset_view v) l p = viewed r _ l
 
 pub lawful_call : (r : Resources) (c : ResourceCall) → IsLawful r → refusal_of r c ≡ None → IsLawful (effect r c).after
 lawful_call r c l e = lawful_by r c l (all_passed (refusals r c) e)

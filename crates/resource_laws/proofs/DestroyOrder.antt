@@ -7,7 +7,7 @@ use mathlib.Core.Logic.{dite}
 use native.Mathlib.Decide.{ℕ_discrete}
 use Rattle.gfx_model.specs.Words.{Kind, all_kinds, kind_number, is_kind, Info, Handle, UniformKind, layout_kind, vertex_buffer_kind, index_buffer_kind, texture_kind, frame_buffer_kind, program_kind, uniform_kind, plain, texture_info, uniform_info}
 use Rattle.gfx_model.specs.World.{Content, layout_content, vertex_content, index_content, texture_content, frame_buffer_content, program_content, uniform_content}
-use Rattle.gfx_model.specs.Resources.{Thing, Resources, Book, book_of, without_top_index, with_waiting, make, die, on_thing, with_references, no_change, references_of, is_at, effect, uniform_effect, named_uniform, layout_of_handle, texels_from, serial_option, zero_value, ResourceCall, create_layout, create_vertex_buffer, create_index_buffer, create_texture, create_frame_buffer, create_program, create_uniform, update_buffer, update_texture, destroy, set_view_rect, set_view_scissor, set_view_clear, set_view_mode, set_view_transform, set_view_target, set_view_order, reset_view}
+use Rattle.gfx_model.specs.Resources.{Thing, Resources, Book, book_of, without_top_index, with_waiting, make, die, on_thing, with_references, no_change, references_of, is_at, effect, uniform_effect, named_uniform, layout_of_handle, texels_from, serial_option, zero_value, ResourceCall, create_layout, create_vertex_buffer, create_index_buffer, create_texture, create_frame_buffer, create_program, create_uniform, update_buffer, update_texture, destroy, change_view, set_view_target, set_view_order}
 use Rattle.resource_laws.specs.Laws.{dead_by, dead_by_all, after_all}
 use Rattle.resource_laws.proofs.LawfulLaws.{no_book, book_same, book_other}
 
@@ -74,14 +74,9 @@ call_waits r (create_uniform name k) e = uniform_waits r name k (named_uniform r
 call_waits r (update_buffer h offset bytes) e = same_waits r e
 call_waits r (update_texture h rect bytes) e = same_waits r e
 call_waits r (destroy h) e = destroy_waits h r (nat_lt 1 (references_of (find (is_at h.kind h.index) r.things))) e
-call_waits r (set_view_rect v rect) e = view_waits r _ e refl refl
-call_waits r (set_view_scissor v rect) e = view_waits r _ e refl refl
-call_waits r (set_view_clear v c) e = view_waits r _ e refl refl
-call_waits r (set_view_mode v m) e = view_waits r _ e refl refl
-call_waits r (set_view_transform v t) e = view_waits r _ e refl refl
+call_waits r (change_view v c) e = view_waits r _ e refl refl
 call_waits r (set_view_target v t) e = view_waits r _ e refl refl
 call_waits r (set_view_order ids) e = view_waits r _ e refl refl
-call_waits r (reset_view v) e = view_waits r _ e refl refl
 
 waiting_append : (k : Kind) (frame : ℕ) (xs ys : List Handle) → waiting_of k frame (xs ++ ys) ≡ waiting_of k frame xs ++ waiting_of k frame ys
 waiting_append k frame xs ys = ap (map _) (filter-append (λ (h : Handle). is_kind h.kind k) xs ys) ∙ map-append _ (filter (λ (h : Handle). is_kind h.kind k) xs) (filter (λ (h : Handle). is_kind h.kind k) ys)

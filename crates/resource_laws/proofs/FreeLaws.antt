@@ -4,7 +4,7 @@ use Rattle.std.specs.List.{AllByRecursion, find}
 use Rattle.std.proofs.lemmas.Option.{none-some, same_Some}
 use Rattle.gfx_model.specs.Words.{Kind, Handle, Info, UniformKind, layout_kind, vertex_buffer_kind, index_buffer_kind, texture_kind, frame_buffer_kind, program_kind, uniform_kind, plain, solid, texture_info, uniform_info}
 use Rattle.gfx_model.specs.World.{program_content}
-use Rattle.gfx_model.specs.Resources.{Thing, Resources, ResourceCall, create_layout, create_vertex_buffer, create_index_buffer, create_texture, create_frame_buffer, create_program, create_uniform, update_buffer, update_texture, destroy, set_view_rect, set_view_scissor, set_view_clear, set_view_mode, set_view_transform, set_view_target, set_view_order, reset_view, refusals, refusal_of, effect, is_at, book_of, top_index, lacks_index, lacks_serial, named_uniform, uniform_refusals, uniform_effect, no_change}
+use Rattle.gfx_model.specs.Resources.{Thing, Resources, ResourceCall, create_layout, create_vertex_buffer, create_index_buffer, create_texture, create_frame_buffer, create_program, create_uniform, update_buffer, update_texture, destroy, change_view, set_view_target, set_view_order, refusals, refusal_of, effect, is_at, book_of, top_index, lacks_index, lacks_serial, named_uniform, uniform_refusals, uniform_effect, no_change}
 use Rattle.resource_laws.specs.Lawful.{count_where, IsLawful}
 use Rattle.resource_laws.specs.Laws.{IsFree, Gives}
 use Rattle.resource_laws.proofs.LawfulLaws.{top_below, none_before}
@@ -49,15 +49,10 @@ gives_by r (create_uniform name k) h l p e = uniform_gives r name k (named_unifo
 gives_by r (update_buffer b offset bytes) h l p e = absurd (none-some h e)
 gives_by r (update_texture t rect bytes) h l p e = absurd (none-some h e)
 gives_by r (destroy g) h l p e = absurd (destroy_gives _ _ _ h e)
-gives_by r (set_view_rect v rect) h l p e = absurd (none-some h e)
-gives_by r (set_view_scissor v rect) h l p e = absurd (none-some h e)
-gives_by r (set_view_clear v c) h l p e = absurd (none-some h e)
-gives_by r (set_view_mode v m) h l p e = absurd (none-some h e)
-gives_by r (set_view_transform v t) h l p e = absurd (none-some h e)
+gives_by r (change_view v c) h l p e = absurd (none-some h e)
 gives_by r (set_view_target v None) h l p e = absurd (none-some h e)
 gives_by r (set_view_target v (Some g)) h l p e = absurd (none-some h e)
 gives_by r (set_view_order ids) h l p e = absurd (none-some h e)
-gives_by r (reset_view v) h l p e = absurd (none-some h e)
 
 pub gives : (r : Resources) (c : ResourceCall) (h : Handle) → IsLawful r → refusal_of r c ≡ None → (effect r c).made ≡ Some h → Gives r c h
 gives r c h l passes e = gives_by r c h l (all_passed (refusals r c) passes) e

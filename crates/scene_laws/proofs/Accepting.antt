@@ -4,7 +4,7 @@ use Rattle.std.specs.List.{AllByRecursion, find}
 use Rattle.std.proofs.lemmas.Option.{same_Some, none-some}
 use Rattle.gfx_model.specs.Words.{Kind, layout_kind, vertex_buffer_kind, index_buffer_kind, texture_kind, frame_buffer_kind, program_kind, uniform_kind, greatest, Info, plain, texture_info, uniform_info, UniformKind, Handle, place_of_handle, first_place}
 use Rattle.gfx_model.specs.World.{Content, layout_content}
-use Rattle.gfx_model.specs.Resources.{Refusal, Thing, Resources, is_at, is_live, has_name, is_live_handle, book_of, top_index, no_layout, named_uniform, lacks_index, lacks_serial, ResourceCall, create_layout, create_vertex_buffer, create_index_buffer, create_texture, create_frame_buffer, create_program, create_uniform, update_buffer, update_texture, destroy, set_view_rect, set_view_scissor, set_view_clear, set_view_mode, set_view_transform, set_view_target, set_view_order, reset_view, refusals, refusal_of, uniform_refusals, effect, uniform_effect, destroy_effect, no_change, on_thing, with_references, references_of, die}
+use Rattle.gfx_model.specs.Resources.{Refusal, Thing, Resources, is_at, is_live, has_name, is_live_handle, book_of, top_index, no_layout, named_uniform, lacks_index, lacks_serial, ResourceCall, create_layout, create_vertex_buffer, create_index_buffer, create_texture, create_frame_buffer, create_program, create_uniform, update_buffer, update_texture, destroy, change_view, set_view_target, set_view_order, refusals, refusal_of, uniform_refusals, effect, uniform_effect, destroy_effect, no_change, on_thing, with_references, references_of, die}
 use Rattle.store_laws.specs.Standing.{serials, serial_at}
 use Rattle.store_laws.specs.Says.{created}
 use Rattle.call_laws.specs.Calls.{Ties, IsLiveThing, HasLive, NamesLive, SourceFits, GivesFree, GivesPlace, Written, IsWritten, things_by, IsAccepted}
@@ -41,15 +41,10 @@ named_in (create_uniform name k) = []
 named_in (update_buffer h offset bytes) = h ∷ []
 named_in (update_texture h rect bytes) = h ∷ []
 named_in (destroy h) = h ∷ []
-named_in (set_view_rect v rect) = []
-named_in (set_view_scissor v rect) = []
-named_in (set_view_clear v c) = []
-named_in (set_view_mode v m) = []
-named_in (set_view_transform v t) = []
+named_in (change_view v c) = []
 named_in (set_view_target v None) = []
 named_in (set_view_target v (Some h)) = h ∷ []
 named_in (set_view_order ids) = []
-named_in (reset_view v) = []
 
 -- the handle of a new thing
 abbrev pub new_handle : Kind → Info → Resources → Handle
@@ -72,14 +67,9 @@ new_handles r (create_uniform name k) = new_uniform r k (named_uniform r name)
 new_handles r (update_buffer h offset bytes) = []
 new_handles r (update_texture h rect bytes) = []
 new_handles r (destroy h) = []
-new_handles r (set_view_rect v rect) = []
-new_handles r (set_view_scissor v rect) = []
-new_handles r (set_view_clear v c) = []
-new_handles r (set_view_mode v m) = []
-new_handles r (set_view_transform v t) = []
+new_handles r (change_view v c) = []
 new_handles r (set_view_target v t) = []
 new_handles r (set_view_order ids) = []
-new_handles r (reset_view v) = []
 
 -- ---- handles of live things
 
@@ -107,14 +97,9 @@ module _ (given : ℕ → Handle) (r : Resources) (l : IsLawful r) (things : Thi
   names_live (update_buffer h offset bytes) p n = live_given given r h l things n.0 p.1.0
   names_live (update_texture h rect bytes) p n = live_given given r h l things n.0 p.1.0
   names_live (destroy h) p n = live_given given r h l things n.0 p.0
-  names_live (set_view_rect v rect) p n = tt
-  names_live (set_view_scissor v rect) p n = tt
-  names_live (set_view_clear v c) p n = tt
-  names_live (set_view_mode v m) p n = tt
-  names_live (set_view_transform v t) p n = tt
+  names_live (change_view v c) p n = tt
   names_live (set_view_target v t) p n = tt
   names_live (set_view_order ids) p n = tt
-  names_live (reset_view v) p n = tt
 
   -- ---- the handle that a call gives
 
@@ -151,14 +136,9 @@ module _ (given : ℕ → Handle) (r : Resources) (l : IsLawful r) (things : Thi
       step : (b : Bool) → (if b then no_change (on_thing (with_references (λ n. n - 1)) x.serial r) else no_change (die x r)).made ≡ Some h → IsGivenBelow h
       step true q = absurd (none-some h q)
       step false q = absurd (none-some h q)
-  made_given (set_view_rect v rect) h p new e = absurd (none-some h e)
-  made_given (set_view_scissor v rect) h p new e = absurd (none-some h e)
-  made_given (set_view_clear v c) h p new e = absurd (none-some h e)
-  made_given (set_view_mode v m) h p new e = absurd (none-some h e)
-  made_given (set_view_transform v t) h p new e = absurd (none-some h e)
+  made_given (change_view v c) h p new e = absurd (none-some h e)
   made_given (set_view_target v t) h p new e = absurd (none-some h e)
   made_given (set_view_order ids) h p new e = absurd (none-some h e)
-  made_given (reset_view v) h p new e = absurd (none-some h e)
 
   -- ---- its place is free
 
@@ -198,14 +178,9 @@ module _ (given : ℕ → Handle) (r : Resources) (l : IsLawful r) (things : Thi
         step : (b : Bool) → AllByRecursion (λ n. serial_at (place_by given) (serials ts) (place_by given n) ≡ None) (created (if b then no_change (on_thing (with_references (λ n. n - 1)) x.serial r) else no_change (die x r)).changes)
         step true = tt
         step false = tt
-    gives_free (set_view_rect v rect) p new = tt
-    gives_free (set_view_scissor v rect) p new = tt
-    gives_free (set_view_clear v c) p new = tt
-    gives_free (set_view_mode v m) p new = tt
-    gives_free (set_view_transform v t) p new = tt
+    gives_free (change_view v c) p new = tt
     gives_free (set_view_target v t) p new = tt
     gives_free (set_view_order ids) p new = tt
-    gives_free (reset_view v) p new = tt
 
 -- an accepted call whose handles were given, and whose new handle is the one that is given with its serial
 pub is_accepted : (given : ℕ → Handle) (first : List (ℕ × Content)) (v : Written) (c : ResourceCall) → IsLawful v.resources → ThingsGiven given v.resources.things → IsWritten (place_by given) first v

@@ -5,7 +5,7 @@ use Rattle.gfx_model.specs.Number.{u32_at}
 use Rattle.gfx_model.specs.Vertex.{Color}
 use Rattle.gfx_model.specs.Commands.{u32_bytes}
 use Rattle.gfx_model.specs.Resources.{TexelSource, fill_source, bytes_source}
-use Rattle.scene_model.specs.Scene.{ResourceLine, layout_line, vertex_buffer_line, index_buffer_line, texture_line, frame_buffer_line, program_line, uniform_line, update_line, texel_update_line, destroy_line, rect_line, view_scissor_line, clear_line, mode_line, target_line, view_transform_line, reset_line, order_line, SceneFrame, Scene, views_of}
+use Rattle.scene_model.specs.Scene.{ResourceLine, layout_line, vertex_buffer_line, index_buffer_line, texture_line, frame_buffer_line, program_line, uniform_line, update_line, texel_update_line, destroy_line, view_line, target_line, order_line, SceneFrame, Scene, views_of}
 use Rattle.spelling_model.specs.Readable.{IsColor, IsSource, IsResourceLine, AreResourceLines, bound_by, bound_by_lines, IsFrame, AreFrames, bound_by_frame, IsReadable}
 use Rattle.scene_laws.specs.SceneFrames.{HasColor, LineHasColor, FrameHasColors, HasColors}
 
@@ -42,13 +42,8 @@ line_color views bound (uniform_line n k) h = tt
 line_color views bound (update_line n offset bytes) h = tt
 line_color views bound (texel_update_line n r bytes) h = tt
 line_color views bound (destroy_line n) h = tt
-line_color views bound (rect_line v r) h = tt
-line_color views bound (view_scissor_line v r) h = tt
-line_color views bound (clear_line v c) h = tt
-line_color views bound (mode_line v m) h = tt
+line_color views bound (view_line v c) h = tt
 line_color views bound (target_line v t) h = tt
-line_color views bound (view_transform_line v t) h = tt
-line_color views bound (reset_line v) h = tt
 line_color views bound (order_line ids) h = tt
 
 lines_color : (views : ℕ) (bound : List Bool) (ls : List ResourceLine) → AreResourceLines views bound ls → AllByRecursion LineHasColor ls

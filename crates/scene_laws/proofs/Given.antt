@@ -4,7 +4,7 @@ use Rattle.std.specs.Prelude.{⊤}
 use Rattle.std.specs.List.{AllByRecursion, find}
 use Rattle.std.proofs.lemmas.List.{length-append}
 use Rattle.gfx_model.specs.Words.{layout_kind, uniform_kind, plain, UniformKind, Handle}
-use Rattle.gfx_model.specs.Resources.{Refusal, or_refusal, Thing, Resources, is_at, named_uniform, references_of, with_references, on_thing, die, no_change, uniform_effect, ResourceCall, create_layout, create_vertex_buffer, create_index_buffer, create_texture, create_frame_buffer, create_program, create_uniform, update_buffer, update_texture, destroy, set_view_rect, set_view_scissor, set_view_clear, set_view_mode, set_view_transform, set_view_target, set_view_order, reset_view, effect, refusal_of}
+use Rattle.gfx_model.specs.Resources.{Refusal, or_refusal, Thing, Resources, is_at, named_uniform, references_of, with_references, on_thing, die, no_change, uniform_effect, ResourceCall, create_layout, create_vertex_buffer, create_index_buffer, create_texture, create_frame_buffer, create_program, create_uniform, update_buffer, update_texture, destroy, change_view, set_view_target, set_view_order, effect, refusal_of}
 use Rattle.scene_model.specs.Scene.{ResourceLine, SceneFrame, Scene}
 use Rattle.scene_model.specs.Fold.{Progress, resource_call, after_call, after_answer, after_line, after_lines, at_start}
 use Rattle.scene_laws.proofs.Accepting.{IsGiven, new_handles, new_uniform}
@@ -55,14 +55,9 @@ call_new r (create_uniform name k) = uniform_new r name k (named_uniform r name)
 call_new r (update_buffer h offset bytes) = none_new r _ refl
 call_new r (update_texture h rect bytes) = none_new r _ refl
 call_new r (destroy h) = destroy_new r h (nat_lt 1 (references_of (find (is_at h.kind h.index) r.things)))
-call_new r (set_view_rect v rect) = none_new r _ refl
-call_new r (set_view_scissor v rect) = none_new r _ refl
-call_new r (set_view_clear v c) = none_new r _ refl
-call_new r (set_view_mode v m) = none_new r _ refl
-call_new r (set_view_transform v t) = none_new r _ refl
+call_new r (change_view v c) = none_new r _ refl
 call_new r (set_view_target v t) = none_new r _ refl
 call_new r (set_view_order ids) = none_new r _ refl
-call_new r (reset_view v) = none_new r _ refl
 
 answer_new : (p : Progress) (line : ResourceLine) (c : ResourceCall) (o : Option Refusal) → Numbers p.resources (new_where p.resources c o) (after_answer p line (or_refusal (effect p.resources c) o)).resources
 answer_new p line c None = call_new p.resources c

@@ -7,9 +7,9 @@ use Rattle.std.proofs.lemmas.Bool.{eqb-true}
 use Rattle.gfx_model.specs.Words.{Kind, frame_buffer_kind, kind_number, Handle, UniformKind}
 use Rattle.gfx_model.specs.Commands.{Command}
 use Rattle.gfx_model.specs.Vertex.{layout_of_parts}
-use Rattle.gfx_model.specs.Views.{View, Views, plain_view, set_view}
+use Rattle.gfx_model.specs.Views.{View, Views, plain_view, set_view, rect_change, scissor_change, clear_change, mode_change, transform_change, plain_change}
 use Rattle.gfx_model.specs.World.{Content}
-use Rattle.gfx_model.specs.Resources.{Refusal, or_refusal, Thing, Resources, is_at, is_live_handle, named_uniform, references_of, with_references, with_death, on_thing, die, no_change, uniform_effect, ResourceCall, create_layout, create_vertex_buffer, create_index_buffer, create_texture, create_frame_buffer, create_program, create_uniform, update_buffer, update_texture, destroy, set_view_rect, set_view_scissor, set_view_clear, set_view_mode, set_view_transform, set_view_target, set_view_order, reset_view, refusals, refusal_of, effect, with_views, answer}
+use Rattle.gfx_model.specs.Resources.{Refusal, or_refusal, Thing, Resources, is_at, is_live_handle, named_uniform, references_of, with_references, with_death, on_thing, die, no_change, uniform_effect, ResourceCall, create_layout, create_vertex_buffer, create_index_buffer, create_texture, create_frame_buffer, create_program, create_uniform, update_buffer, update_texture, destroy, change_view, set_view_target, set_view_order, refusals, refusal_of, effect, with_views, answer}
 use Rattle.call_laws.specs.Calls.{HasLive, SourceFits, Written, after_call, IsWritten, IsAccepted}
 use Rattle.call_laws.specs.Context.{AllAccepted, no_call, next_call, HasThere, HasThereOption}
 use Rattle.call_laws.proofs.WrittenLaws.{written_after}
@@ -17,7 +17,7 @@ use Rattle.resource_laws.specs.Lawful.{IsLawful}
 use Rattle.resource_laws.proofs.AttachLaws.{all_more, all_snoc}
 use Rattle.resource_laws.proofs.DeathLaws.{all_change}
 use Rattle.resource_laws.proofs.CallLaws.{all_passed, lawful_call}
-use Rattle.scene_model.specs.Scene.{Name, ResourceLine, layout_line, vertex_buffer_line, index_buffer_line, texture_line, frame_buffer_line, program_line, uniform_line, update_line, texel_update_line, destroy_line, rect_line, view_scissor_line, clear_line, mode_line, target_line, view_transform_line, reset_line, order_line}
+use Rattle.scene_model.specs.Scene.{Name, ResourceLine, layout_line, vertex_buffer_line, index_buffer_line, texture_line, frame_buffer_line, program_line, uniform_line, update_line, texel_update_line, destroy_line, view_line, target_line, order_line}
 use Rattle.scene_model.specs.Fold.{Bindings, thing_named, option_named, resource_call, created_name, Progress, bound_by, after_answer, drop_line, after_line, after_lines}
 use Rattle.scene_laws.specs.SceneFrames.{unless_refused, accepted_call, calls_of, LineHasColor}
 use Rattle.scene_laws.proofs.Moves.{Moves, moved, frame_kept, handles_moved, Stays, stays_call, stays_option}
@@ -112,13 +112,8 @@ module _ (given : ℕ → Handle) (bs : Bindings) (a : NamesGiven given bs) wher
   line_call names (update_line n offset bytes) c has e = one (λ h. update_buffer h offset bytes) (λ h own. record { named = (own, tt); source = tt }) n c e
   line_call names (texel_update_line n rect bytes) c has e = one (λ h. update_texture h rect bytes) (λ h own. record { named = (own, tt); source = tt }) n c e
   line_call names (destroy_line n) c has e = one destroy (λ h own. record { named = (own, tt); source = tt }) n c e
-  line_call names (rect_line v rect) c has e = plain (set_view_rect v rect) c (record { named = tt; source = tt }) e
-  line_call names (view_scissor_line v rect) c has e = plain (set_view_scissor v rect) c (record { named = tt; source = tt }) e
-  line_call names (clear_line v k) c has e = plain (set_view_clear v k) c (record { named = tt; source = tt }) e
-  line_call names (mode_line v m) c has e = plain (set_view_mode v m) c (record { named = tt; source = tt }) e
+  line_call names (view_line v x) c has e = plain (change_view v x) c (record { named = tt; source = tt }) e
   line_call names (target_line v t) c has e = target v (option_named bs t) (λ d. option_given given bs t d a) c e
-  line_call names (view_transform_line v t) c has e = plain (set_view_transform v t) c (record { named = tt; source = tt }) e
-  line_call names (reset_line v) c has e = plain (reset_view v) c (record { named = tt; source = tt }) e
   line_call names (order_line ids) c has e = plain (set_view_order ids) c (record { named = tt; source = tt }) e
 
 -- ---- what is known of the state and of the names
@@ -178,18 +173,18 @@ targets_before given r (create_uniform name k) lawful things named p a = subst (
 targets_before given r (update_buffer h offset bytes) lawful things named p a = a
 targets_before given r (update_texture h rect bytes) lawful things named p a = a
 targets_before given r (destroy h) lawful things named p a = subst (λ (vs : Views). TargetsThere r vs.settings) (sym (destroy_views r h (nat_lt 1 (references_of (find (is_at h.kind h.index) r.things))))) a
-targets_before given r (set_view_rect v rect) lawful things named p a = view_changed r r.views.settings v (λ w. record w { rect = rect }) (λ w h. h) a
-targets_before given r (set_view_scissor v rect) lawful things named p a = view_changed r r.views.settings v (λ w. record w { scissor = rect }) (λ w h. h) a
-targets_before given r (set_view_clear v c) lawful things named p a = view_changed r r.views.settings v (λ w. record w { clear = c }) (λ w h. h) a
-targets_before given r (set_view_mode v m) lawful things named p a = view_changed r r.views.settings v (λ w. record w { mode = m }) (λ w h. h) a
-targets_before given r (set_view_transform v t) lawful things named p a = view_changed r r.views.settings v (λ w. record w { transform = t }) (λ w h. h) a
+targets_before given r (change_view v (rect_change rect)) lawful things named p a = view_changed r r.views.settings v (λ w. record w { rect = rect }) (λ w h. h) a
+targets_before given r (change_view v (scissor_change rect)) lawful things named p a = view_changed r r.views.settings v (λ w. record w { scissor = rect }) (λ w h. h) a
+targets_before given r (change_view v (clear_change c)) lawful things named p a = view_changed r r.views.settings v (λ w. record w { clear = c }) (λ w h. h) a
+targets_before given r (change_view v (mode_change m)) lawful things named p a = view_changed r r.views.settings v (λ w. record w { mode = m }) (λ w h. h) a
+targets_before given r (change_view v (transform_change t)) lawful things named p a = view_changed r r.views.settings v (λ w. record w { transform = t }) (λ w h. h) a
 targets_before given r (set_view_target v None) lawful things named p a = view_changed r r.views.settings v (λ w. record w { target = None }) (λ w h. tt) a
 targets_before given r (set_view_target v (Some h)) lawful things named p a =
     let kind : h.kind ≡ frame_buffer_kind = kind_by h.kind (eqb-true (kind_number h.kind) (kind_number frame_buffer_kind) (not_true (kind_number h.kind == kind_number frame_buffer_kind) p.1.0)) in
     let live : HasThere r frame_buffer_kind h = live_there r h kind (live_given given r h lawful things named.0 p.1.1.0) in
     view_changed r r.views.settings v (λ w. record w { target = Some h }) (λ w q. live) a
 targets_before given r (set_view_order ids) lawful things named p a = a
-targets_before given r (reset_view v) lawful things named p a = view_changed r r.views.settings v (λ w. plain_view) (λ w h. tt) a
+targets_before given r (change_view v plain_change) lawful things named p a = view_changed r r.views.settings v (λ w. plain_view) (λ w h. tt) a
 
 -- ---- each thing is of a handle that was given
 
@@ -216,14 +211,9 @@ module _ (given : ℕ → Handle) (r : Resources) (a : ThingsGiven given r.thing
   new_given (update_buffer h offset bytes) new = a
   new_given (update_texture h rect bytes) new = a
   new_given (destroy h) new = destroyed_given h (nat_lt 1 (references_of (find (is_at h.kind h.index) r.things)))
-  new_given (set_view_rect v rect) new = a
-  new_given (set_view_scissor v rect) new = a
-  new_given (set_view_clear v c) new = a
-  new_given (set_view_mode v m) new = a
-  new_given (set_view_transform v t) new = a
+  new_given (change_view v c) new = a
   new_given (set_view_target v t) new = a
   new_given (set_view_order ids) new = a
-  new_given (reset_view v) new = a
 
 -- ---- one line
 

@@ -3,7 +3,7 @@ use Rattle.std.proofs.Common.{◌≡◌, ℕ, ◌+◌, ◌-◌, ◌==◌, nat_lt
 use Rattle.std.specs.List.{AllByRecursion, find}
 use Rattle.std.proofs.lemmas.Option.{same_Some, none-some}
 use Rattle.gfx_model.specs.Words.{Kind, Handle, kind_number}
-use Rattle.gfx_model.specs.Resources.{Thing, Resources, is_at, change_of_serial, with_death, with_references, ResourceCall, create_layout, create_vertex_buffer, create_index_buffer, create_texture, create_frame_buffer, create_program, create_uniform, update_buffer, update_texture, destroy, set_view_rect, set_view_scissor, set_view_clear, set_view_mode, set_view_transform, set_view_target, set_view_order, reset_view, effect, uniform_effect, named_uniform, destroy_effect, references_of, no_change, on_thing, die}
+use Rattle.gfx_model.specs.Resources.{Thing, Resources, is_at, change_of_serial, with_death, with_references, ResourceCall, create_layout, create_vertex_buffer, create_index_buffer, create_texture, create_frame_buffer, create_program, create_uniform, update_buffer, update_texture, destroy, change_view, set_view_target, set_view_order, effect, uniform_effect, named_uniform, destroy_effect, references_of, no_change, on_thing, die}
 use Rattle.gfx_model.specs.Words.{UniformKind}
 use Rattle.call_laws.specs.Calls.{is_there}
 use Rattle.call_laws.specs.Context.{IsThingThere, HasThere, HasThereOption}
@@ -45,14 +45,9 @@ moved r (create_uniform name k) = uniform_moves r name k (named_uniform r name)
 moved r (update_buffer h offset bytes) = stay refl
 moved r (update_texture h rect bytes) = stay refl
 moved r (destroy h) = destroy_moves r h (nat_lt 1 (references_of (find (is_at h.kind h.index) r.things)))
-moved r (set_view_rect v rect) = stay refl
-moved r (set_view_scissor v rect) = stay refl
-moved r (set_view_clear v c) = stay refl
-moved r (set_view_mode v m) = stay refl
-moved r (set_view_transform v t) = stay refl
+moved r (change_view v c) = stay refl
 moved r (set_view_target v t) = stay refl
 moved r (set_view_order ids) = stay refl
-moved r (reset_view v) = stay refl
 
 uniform_frame : (r : Resources) (name : List ℕ) (k : UniformKind) (o : Option Thing) → (uniform_effect r name k o).after.frame ≡ r.frame
 uniform_frame r name k None = refl
@@ -74,14 +69,9 @@ frame_kept r (create_uniform name k) = uniform_frame r name k (named_uniform r n
 frame_kept r (update_buffer h offset bytes) = refl
 frame_kept r (update_texture h rect bytes) = refl
 frame_kept r (destroy h) = destroy_frame r h (nat_lt 1 (references_of (find (is_at h.kind h.index) r.things)))
-frame_kept r (set_view_rect v rect) = refl
-frame_kept r (set_view_scissor v rect) = refl
-frame_kept r (set_view_clear v c) = refl
-frame_kept r (set_view_mode v m) = refl
-frame_kept r (set_view_transform v t) = refl
+frame_kept r (change_view v c) = refl
 frame_kept r (set_view_target v t) = refl
 frame_kept r (set_view_order ids) = refl
-frame_kept r (reset_view v) = refl
 
 -- ---- what is found is found still
 

@@ -3,7 +3,7 @@ use Rattle.std.proofs.Common.{◌≡◌, ℕ, zero, suc, ◌+◌, ◌<◌, ◌�
 use Rattle.std.specs.List.{AllByRecursion}
 use Rattle.std.proofs.lemmas.List.{length-append}
 use Rattle.std.proofs.lemmas.Bool.{ltb-true}
-use Rattle.scene_model.specs.Scene.{ResourceLine, layout_line, vertex_buffer_line, index_buffer_line, texture_line, frame_buffer_line, program_line, uniform_line, update_line, texel_update_line, destroy_line, rect_line, view_scissor_line, clear_line, mode_line, target_line, view_transform_line, reset_line, order_line, SceneFrame, Scene, views_of}
+use Rattle.scene_model.specs.Scene.{ResourceLine, layout_line, vertex_buffer_line, index_buffer_line, texture_line, frame_buffer_line, program_line, uniform_line, update_line, texel_update_line, destroy_line, view_line, target_line, order_line, SceneFrame, Scene, views_of}
 use Rattle.spelling_model.specs.Readable.{IsOfUniform, IsResourceLine, AreResourceLines, bound_by, bound_by_lines, AreFrames, bound_by_frame, bound_by_frames, IsReadable}
 use Rattle.scene_lines.specs.Names.{LineHasPlace, FrameHasPlaces}
 
@@ -27,13 +27,8 @@ line_more bound (uniform_line n k) = uniform_more bound (nat_lt n (length bound)
 line_more bound (update_line n offset bytes) = omega arith
 line_more bound (texel_update_line n r bytes) = omega arith
 line_more bound (destroy_line n) = omega arith
-line_more bound (rect_line v r) = omega arith
-line_more bound (view_scissor_line v r) = omega arith
-line_more bound (clear_line v c) = omega arith
-line_more bound (mode_line v m) = omega arith
+line_more bound (view_line v c) = omega arith
 line_more bound (target_line v t) = omega arith
-line_more bound (view_transform_line v t) = omega arith
-line_more bound (reset_line v) = omega arith
 line_more bound (order_line ids) = omega arith
 
 lines_more : (bound : List Bool) (ls : List ResourceLine) → length bound ≤ length (bound_by_lines bound ls)
@@ -71,13 +66,8 @@ line_place many views bound (uniform_line n k) h le = uniform_place many n bound
 line_place many views bound (update_line n offset bytes) h le = tt
 line_place many views bound (texel_update_line n r bytes) h le = tt
 line_place many views bound (destroy_line n) h le = tt
-line_place many views bound (rect_line v r) h le = tt
-line_place many views bound (view_scissor_line v r) h le = tt
-line_place many views bound (clear_line v c) h le = tt
-line_place many views bound (mode_line v m) h le = tt
+line_place many views bound (view_line v c) h le = tt
 line_place many views bound (target_line v t) h le = tt
-line_place many views bound (view_transform_line v t) h le = tt
-line_place many views bound (reset_line v) h le = tt
 line_place many views bound (order_line ids) h le = tt
 
 lines_place : (many views : ℕ) (bound : List Bool) (ls : List ResourceLine) → AreResourceLines views bound ls → length (bound_by_lines bound ls) ≤ many → AllByRecursion (LineHasPlace many) ls

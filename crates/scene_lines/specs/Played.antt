@@ -5,7 +5,7 @@ use Rattle.gfx_model.specs.Resources.{ResourceCall, refusal_of, effect}
 use Rattle.gfx_words.specs.declared.refusals.Refusal as code
 use Rattle.gfx_words.specs.Seen.{refusal_seen}
 use Rattle.call_laws.specs.Calls.{Written, after_call}
-use Rattle.scene_model.specs.Scene.{Name, ResourceLine, destroy_line, rect_line, view_scissor_line, clear_line, mode_line, target_line, view_transform_line, reset_line, order_line}
+use Rattle.scene_model.specs.Scene.{Name, ResourceLine, destroy_line, view_line, target_line, order_line}
 use Rattle.scene_model.specs.Fold.{Bindings, resource_call, created_name, Progress, after_lines}
 use Rattle.resource_book.specs.Written.{BookView, after_in}
 use Rattle.resource_book.specs.Laws.{bared}
@@ -65,13 +65,8 @@ LineCalled dropped names line old new before after =
 -- the lines whose calls take memory: those that create and those that write contents
 abbrev pub takes_memory : ResourceLine → Bool
 takes_memory (destroy_line name) = false
-takes_memory (rect_line view rect) = false
-takes_memory (view_scissor_line view rect) = false
-takes_memory (clear_line view clear) = false
-takes_memory (mode_line view mode) = false
+takes_memory (view_line view c) = false
 takes_memory (target_line view target) = false
-takes_memory (view_transform_line view transform) = false
-takes_memory (reset_line view) = false
 takes_memory (order_line views) = false
 takes_memory _ = true
 

@@ -3,7 +3,7 @@ use Rattle.std.proofs.Common.{◌≡◌, ℕ, suc, ◌+◌, ◌-◌, ◌<◌, �
 use Rattle.std.specs.List.{AllByRecursion, find}
 use Rattle.std.proofs.lemmas.Option.{same_Some, none-some}
 use Rattle.gfx_model.specs.Words.{greatest, Handle, UniformKind}
-use Rattle.gfx_model.specs.Resources.{Refusal, or_refusal, Thing, Resources, is_at, is_live, has_name, named_uniform, references_of, with_references, on_thing, die, no_change, uniform_effect, ResourceCall, create_layout, create_vertex_buffer, create_index_buffer, create_texture, create_frame_buffer, create_program, create_uniform, update_buffer, update_texture, destroy, set_view_rect, set_view_scissor, set_view_clear, set_view_mode, set_view_transform, set_view_target, set_view_order, reset_view, refusal_of, effect}
+use Rattle.gfx_model.specs.Resources.{Refusal, or_refusal, Thing, Resources, is_at, is_live, has_name, named_uniform, references_of, with_references, on_thing, die, no_change, uniform_effect, ResourceCall, create_layout, create_vertex_buffer, create_index_buffer, create_texture, create_frame_buffer, create_program, create_uniform, update_buffer, update_texture, destroy, change_view, set_view_target, set_view_order, refusal_of, effect}
 use Rattle.resource_laws.specs.Lawful.{IsLawful}
 use Rattle.resource_laws.proofs.AttachLaws.{all_more}
 use Rattle.resource_laws.proofs.CallLaws.{lawful_call}
@@ -67,14 +67,9 @@ serial_grows r (create_uniform name k) = uniform_grows r name k (named_uniform r
 serial_grows r (update_buffer h offset bytes) = omega arith
 serial_grows r (update_texture h rect bytes) = omega arith
 serial_grows r (destroy h) = destroy_grows r h (nat_lt 1 (references_of (find (is_at h.kind h.index) r.things)))
-serial_grows r (set_view_rect v rect) = omega arith
-serial_grows r (set_view_scissor v rect) = omega arith
-serial_grows r (set_view_clear v c) = omega arith
-serial_grows r (set_view_mode v m) = omega arith
-serial_grows r (set_view_transform v t) = omega arith
+serial_grows r (change_view v c) = omega arith
 serial_grows r (set_view_target v t) = omega arith
 serial_grows r (set_view_order ids) = omega arith
-serial_grows r (reset_view v) = omega arith
 
 last_of : {A : Type 0} (P : A → Type 0) (xs : List A) (x : A) → AllByRecursion P (xs ++ x ∷ []) → P x
 last_of P [] x a = a.0
@@ -111,14 +106,9 @@ module _ (r : Resources) (h : Handle) (l : IsLawful r) where
   made_below (update_buffer b offset bytes) after e = absurd (none-some h e)
   made_below (update_texture t rect bytes) after e = absurd (none-some h e)
   made_below (destroy g) after e = absurd (destroy_makes _ _ _ e)
-  made_below (set_view_rect v rect) after e = absurd (none-some h e)
-  made_below (set_view_scissor v rect) after e = absurd (none-some h e)
-  made_below (set_view_clear v c) after e = absurd (none-some h e)
-  made_below (set_view_mode v m) after e = absurd (none-some h e)
-  made_below (set_view_transform v t) after e = absurd (none-some h e)
+  made_below (change_view v c) after e = absurd (none-some h e)
   made_below (set_view_target v t) after e = absurd (none-some h e)
   made_below (set_view_order ids) after e = absurd (none-some h e)
-  made_below (reset_view v) after e = absurd (none-some h e)
 
 -- ---- lines
 

@@ -7,7 +7,7 @@ use Rattle.std.specs.Fmt.{decimal}
 use Rattle.std.proofs.lemmas.Bool.Decides.{nat_tests}
 use Rattle.std.proofs.lemmas.List.{length-map}
 use Rattle.std.proofs.lemmas.List.Elements.{All-cons}
-use Rattle.scene_model.specs.Scene.{Name, ResourceLine, layout_line, vertex_buffer_line, index_buffer_line, texture_line, frame_buffer_line, program_line, uniform_line, update_line, texel_update_line, destroy_line, rect_line, view_scissor_line, clear_line, mode_line, target_line, view_transform_line, reset_line, order_line, EncoderLine, state_line, stencil_line, scissor_line, transform_line, vertices_line, indices_line, transient_vertices_line, transient_indices_line, bind_line, set_line, submit_line, touch_line, blit_line, Block, SceneFrame, Scene, views_of}
+use Rattle.scene_model.specs.Scene.{Name, ResourceLine, layout_line, vertex_buffer_line, index_buffer_line, texture_line, frame_buffer_line, program_line, uniform_line, update_line, texel_update_line, destroy_line, view_line, target_line, order_line, EncoderLine, state_line, stencil_line, scissor_line, transform_line, vertices_line, indices_line, transient_vertices_line, transient_indices_line, bind_line, set_line, submit_line, touch_line, blit_line, Block, SceneFrame, Scene, views_of}
 use Rattle.scene_model.specs.Field.{split_at, with_head}
 use Rattle.scene_model.specs.Grammar.{Field, whole_language, is_skipped, scene_of, front_of}
 use Rattle.spelling_model.specs.LineSpelling.{resource_fields, encoder_fields, block_lines, beside_lines, frame_lines, frames_lines, head_lines}
@@ -65,12 +65,7 @@ resource_below views count bound (update_line n offset bytes) le grown k = (used
 resource_below views count bound (texel_update_line n r bytes) le grown k = (used count bound n le k.0, tt)
 resource_below views count bound (destroy_line n) le grown k = (used count bound n le k, tt)
 resource_below views count bound (target_line view target) le grown k = optional count bound target le k.1
-resource_below views count bound (rect_line view r) le grown k = tt
-resource_below views count bound (view_scissor_line view r) le grown k = tt
-resource_below views count bound (clear_line view c) le grown k = tt
-resource_below views count bound (mode_line view mode) le grown k = tt
-resource_below views count bound (view_transform_line view m) le grown k = tt
-resource_below views count bound (reset_line view) le grown k = tt
+resource_below views count bound (view_line view c) le grown k = tt
 resource_below views count bound (order_line ids) le grown k = tt
 
 resources_below : (views count : ℕ) (lines : List ResourceLine) (bound : List Bool) → length (bound_by_lines bound lines) ≤ count → AreResourceLines views bound lines → AllByRecursion (λ l. AreBelow count (resource_names l)) lines

@@ -3,9 +3,9 @@ use Rattle.std.proofs.Common.{◌≡◌, ℕ, zero, suc, ◌+◌, ◌<◌, Bool,
 use Rattle.std.specs.List.{AllByRecursion, find, range_with_len}
 use Rattle.std.proofs.lemmas.List.{length-map, length-set, length-replicate}
 use Rattle.gfx_model.specs.Words.{program_kind, is_kind, UniformKind}
-use Rattle.gfx_model.specs.Views.{Views, View, plain_view, view_count, set_view}
+use Rattle.gfx_model.specs.Views.{Views, View, plain_view, view_count, set_view, view_after}
 use Rattle.gfx_model.specs.World.{Blit}
-use Rattle.gfx_model.specs.Resources.{Resources, ResourceCall, create_layout, create_vertex_buffer, create_index_buffer, create_texture, create_frame_buffer, create_program, create_uniform, update_buffer, update_texture, destroy, set_view_rect, set_view_scissor, set_view_clear, set_view_mode, set_view_transform, set_view_target, set_view_order, reset_view, Effect, Refusal, wrong_kind, not_blit_destination, Thing, refusal_of, effect, named_uniform, uniform_effect, no_change, on_thing, with_references, die, is_at, references_of, first_refusal, or_refusal, deaths_in, with_live_target}
+use Rattle.gfx_model.specs.Resources.{Resources, ResourceCall, create_layout, create_vertex_buffer, create_index_buffer, create_texture, create_frame_buffer, create_program, create_uniform, update_buffer, update_texture, destroy, change_view, set_view_target, set_view_order, Effect, Refusal, wrong_kind, not_blit_destination, Thing, refusal_of, effect, named_uniform, uniform_effect, no_change, on_thing, with_references, die, is_at, references_of, first_refusal, or_refusal, deaths_in, with_live_target}
 use Rattle.gfx_model.specs.Recorder.{Recorder, EncoderCall, set_state, set_stencil, set_scissor, set_transform, set_vertices, set_indices, set_transient_vertices, set_transient_indices, set_texture, set_uniform, submit, touch, blit, refusals, is_no_view, is_not_kind, is_not_usable, same_formats, format_of, is_blit_destination_in, loaded, lacks_room, after, asked, begun}
 use Rattle.scene_model.specs.Scene.{ResourceLine, EncoderLine, SceneFrame, Scene, views_of}
 use Rattle.scene_model.specs.Fold.{resource_call, Progress, after_answer, after_call, after_line, after_lines, at_start, encoder_call, Recording, recording_after, after_encoder_call, after_encoder_line, lines_of, recording_of, accepted_of, Accepted, FramePlan, plan_of, plans_from, plans, first_progress}
@@ -38,14 +38,9 @@ call-count r (update_buffer h offset bytes) = refl
 call-count r (update_texture h rect bytes) = refl
 call-count r (destroy h) =
     either-count (view_count r.views) (nat_lt 1 (references_of (find (is_at h.kind h.index) r.things))) (no_change (on_thing (with_references (λ n. n - 1)) h.serial r)) (no_change (die h r)) refl refl
-call-count r (set_view_rect v rect) = set-count r.views v (λ view. record view { rect = rect })
-call-count r (set_view_scissor v rect) = set-count r.views v (λ view. record view { scissor = rect })
-call-count r (set_view_clear v c) = set-count r.views v (λ view. record view { clear = c })
-call-count r (set_view_mode v m) = set-count r.views v (λ view. record view { mode = m })
-call-count r (set_view_transform v t) = set-count r.views v (λ view. record view { transform = t })
+call-count r (change_view v c) = set-count r.views v (view_after c)
 call-count r (set_view_target v t) = set-count r.views v (λ view. record view { target = t })
 call-count r (set_view_order ids) = refl
-call-count r (reset_view v) = set-count r.views v (λ view. plain_view)
 
 answered-count : (p : Progress) (line : ResourceLine) (e : Effect) (o : Option Refusal) → view_count e.after.views ≡ view_count p.resources.views → view_count (after_answer p line (or_refusal e o)).resources.views ≡ view_count p.resources.views
 answered-count p line e None h = h

@@ -1,6 +1,6 @@
 -- Lines and frames bind no fewer names.
 use Rattle.std.proofs.Common.{◌≡◌, ℕ, ◌≤◌, nat_lt, Bool, true, false, cond, List, [], ◌∷◌, ◌++◌, length, length-append, arith}
-use Rattle.scene_model.specs.Scene.{ResourceLine, layout_line, vertex_buffer_line, index_buffer_line, texture_line, frame_buffer_line, program_line, uniform_line, update_line, texel_update_line, destroy_line, rect_line, view_scissor_line, clear_line, mode_line, target_line, view_transform_line, reset_line, order_line, SceneFrame}
+use Rattle.scene_model.specs.Scene.{ResourceLine, layout_line, vertex_buffer_line, index_buffer_line, texture_line, frame_buffer_line, program_line, uniform_line, update_line, texel_update_line, destroy_line, view_line, target_line, order_line, SceneFrame}
 use Rattle.spelling_model.specs.Readable.{bound_by, bound_by_lines, bound_by_frame, bound_by_frames}
 
 pub grows : (bound : List Bool) (l : ResourceLine) → length bound ≤ length (bound_by bound l)
@@ -18,13 +18,8 @@ grows bound (uniform_line n kind) = by (nat_lt n (length bound))
 grows bound (update_line n offset bytes) = omega arith
 grows bound (texel_update_line n r bytes) = omega arith
 grows bound (destroy_line n) = omega arith
-grows bound (rect_line view r) = omega arith
-grows bound (view_scissor_line view r) = omega arith
-grows bound (clear_line view c) = omega arith
-grows bound (mode_line view mode) = omega arith
+grows bound (view_line view c) = omega arith
 grows bound (target_line view target) = omega arith
-grows bound (view_transform_line view m) = omega arith
-grows bound (reset_line view) = omega arith
 grows bound (order_line ids) = omega arith
 
 pub lines_grow : (bound : List Bool) (lines : List ResourceLine) → length bound ≤ length (bound_by_lines bound lines)

@@ -6,9 +6,9 @@ use Rattle.std.specs.Fmt.{decimal, signed_decimal}
 use Rattle.std.proofs.lemmas.Bool.{eq-eqb, le-leb}
 use Rattle.std.proofs.lemmas.List.{length-map}
 use Rattle.gfx_model.specs.Words.{UniformValue, vec4_value, int_value}
-use Rattle.gfx_model.specs.Views.{Clear}
+use Rattle.gfx_model.specs.Views.{Clear, rect_change, scissor_change, clear_change, mode_change, transform_change, plain_change}
 use Rattle.gfx_model.specs.Raster.{Affine, Rect}
-use Rattle.scene_model.specs.Scene.{ResourceLine, layout_line, vertex_buffer_line, index_buffer_line, texture_line, frame_buffer_line, program_line, uniform_line, update_line, texel_update_line, destroy_line, rect_line, view_scissor_line, clear_line, mode_line, target_line, view_transform_line, reset_line, order_line, EncoderLine, state_line, stencil_line, scissor_line, transform_line, vertices_line, indices_line, transient_vertices_line, transient_indices_line, bind_line, set_line, submit_line, touch_line, blit_line}
+use Rattle.scene_model.specs.Scene.{ResourceLine, layout_line, vertex_buffer_line, index_buffer_line, texture_line, frame_buffer_line, program_line, uniform_line, update_line, texel_update_line, destroy_line, rect_line, view_scissor_line, clear_line, mode_line, target_line, view_transform_line, reset_line, order_line, EncoderLine, state_line, stencil_line, scissor_line, transform_line, vertices_line, indices_line, transient_vertices_line, transient_indices_line, bind_line, set_line, submit_line, touch_line, blit_line, view_line}
 use Rattle.scene_model.specs.Field.{Read, ◌>>=◌, wrong_field_count, BoundName, number_to, u8_number, u16_number, u32_number, i32_number, read_all, word_in, formats, programs, uniform_kinds, modes, destinations, hex_bytes, color_field, source_field, part_field, used_name, optional_name, create_name}
 use Rattle.scene_model.specs.Grammar.{Field, field, Named, Word, layout_word, vertex_buffer_word, index_buffer_word, texture_word, frame_buffer_word, program_word, uniform_word, update_word, texel_update_word, destroy_word, view_word, order_word, state_word, stencil_word, scissor_word, transform_word, vertices_word, indices_word, transient_vertices_word, transient_indices_word, bind_word, set_word, submit_word, touch_word, blit_word, unless, has_count, has_count_from, has_field, is_empty_field, are_filled, rect_fields, clear_fields, settings, setting_form, uniform_value_of, resource_form, encoder_form, whole_language}
 use Rattle.spelling_model.specs.FieldSpelling as spell
@@ -66,13 +66,8 @@ resource_word (uniform_line n kind) = uniform_word
 resource_word (update_line n offset bytes) = update_word
 resource_word (texel_update_line n r bytes) = texel_update_word
 resource_word (destroy_line n) = destroy_word
-resource_word (rect_line view r) = view_word
-resource_word (view_scissor_line view r) = view_word
-resource_word (clear_line view c) = view_word
-resource_word (mode_line view mode) = view_word
+resource_word (view_line view c) = view_word
 resource_word (target_line view target) = view_word
-resource_word (view_transform_line view m) = view_word
-resource_word (reset_line view) = view_word
 resource_word (order_line ids) = order_word
 
 -- a name more has room
@@ -138,19 +133,19 @@ resource_again views all bound (texel_update_line n r bytes) h le grown s k =
     ∙ goes_on (rect_fields (resource_fields all (texel_update_line n r bytes)) 2) r _ (rect_again (resource_fields all (texel_update_line n r bytes)) 2 r refl refl refl refl k.1)
     ∙ goes_on (hex_bytes (hex_field bytes)) bytes _ (hex_again bytes k.2)
 resource_again views all bound (destroy_line n) h le grown s k = goes_on (used_name (named all bound) (name_at all n)) n _ (used_again all bound n h le k)
-resource_again views all bound (rect_line view r) h le grown s k =
+resource_again views all bound (view_line view (rect_change r)) h le grown s k =
     let fs = resource_fields all (rect_line view r) in
     let filled = filled_again fs s in
     view_again (named all bound) view (codes "rect") (drop 3 fs) (rect_line view r) k.0 filled (set_again (named all bound) view (codes "rect") (drop 3 fs) _ (rect_line view r) filled (goes_on (rect_fields fs 3) r _ (rect_again fs 3 r refl refl refl refl k.1))) refl
-resource_again views all bound (view_scissor_line view r) h le grown s k =
+resource_again views all bound (view_line view (scissor_change r)) h le grown s k =
     let fs = resource_fields all (view_scissor_line view r) in
     let filled = filled_again fs s in
     view_again (named all bound) view (codes "scissor") (drop 3 fs) (view_scissor_line view r) k.0 filled (set_again (named all bound) view (codes "scissor") (drop 3 fs) _ (view_scissor_line view r) filled (goes_on (rect_fields fs 3) r _ (rect_again fs 3 r refl refl refl refl k.1))) refl
-resource_again views all bound (clear_line view c) h le grown s k =
+resource_again views all bound (view_line view (clear_change c)) h le grown s k =
     let fs = resource_fields all (clear_line view c) in
     let filled = filled_again fs s in
     view_again (named all bound) view (codes "clear") (drop 3 fs) (clear_line view c) k.0 filled (set_again (named all bound) view (codes "clear") (drop 3 fs) _ (clear_line view c) filled (goes_on (clear_fields fs) c _ (clear_again c view k.1))) refl
-resource_again views all bound (mode_line view mode) h le grown s k =
+resource_again views all bound (view_line view (mode_change mode)) h le grown s k =
     let fs = resource_fields all (mode_line view mode) in
     let filled = filled_again fs s in
     view_again (named all bound) view (codes "mode") (drop 3 fs) (mode_line view mode) k filled (set_again (named all bound) view (codes "mode") (drop 3 fs) _ (mode_line view mode) filled (goes_on (word_in modes (mode_word mode)) mode _ (mode_again mode))) refl
@@ -159,13 +154,13 @@ resource_again views all bound (target_line view target) h le grown s k =
     let filled = filled_again fs s in
     view_again (named all bound) view (codes "target") (drop 3 fs) (target_line view target) k.0 filled
     (set_again (named all bound) view (codes "target") (drop 3 fs) _ (target_line view target) filled (goes_on (optional_name (named all bound) (optional_name_at all target)) target _ (optional_again all bound target h le k.1))) refl
-resource_again views all bound (view_transform_line view m) h le grown s k =
+resource_again views all bound (view_line view (transform_change m)) h le grown s k =
     let fs = resource_fields all (view_transform_line view m) in
     let filled = filled_again fs s in
     let count : length fs ≡ 15 = omega (arith, length-map m signed_decimal, k.1.0) in
     view_again (named all bound) view (codes "transform") (drop 3 fs) (view_transform_line view m) k.0 filled
     (set_again (named all bound) view (codes "transform") (drop 3 fs) _ (view_transform_line view m) filled (goes_on (has_count 15 fs) true _ (count_again 15 fs count) ∙ goes_on (read_all i32_number (map signed_decimal m)) m _ (transform_again m k.1))) refl
-resource_again views all bound (reset_line view) h le grown s k =
+resource_again views all bound (view_line view plain_change) h le grown s k =
     let fs = resource_fields all (reset_line view) in
     let filled = filled_again fs s in
     view_again (named all bound) view (codes "reset") (drop 3 fs) (reset_line view) k filled (set_again (named all bound) view (codes "reset") (drop 3 fs) _ (reset_line view) filled refl) refl

@@ -5,7 +5,7 @@ use Rattle.std.specs.List.{AllByRecursion}
 use Rattle.std.specs.Fmt.{decimal}
 use Rattle.std.proofs.lemmas.Bool.Decides.{nat_tests}
 use Rattle.std.proofs.lemmas.List.Folds.{list_all-append}
-use Rattle.scene_model.specs.Scene.{ResourceLine, layout_line, vertex_buffer_line, index_buffer_line, texture_line, frame_buffer_line, program_line, uniform_line, update_line, texel_update_line, destroy_line, rect_line, view_scissor_line, clear_line, mode_line, target_line, view_transform_line, reset_line, order_line, EncoderLine, state_line, stencil_line, scissor_line, transform_line, vertices_line, indices_line, transient_vertices_line, transient_indices_line, bind_line, set_line, submit_line, touch_line, blit_line, Block, SceneFrame, Scene, views_of}
+use Rattle.scene_model.specs.Scene.{ResourceLine, layout_line, vertex_buffer_line, index_buffer_line, texture_line, frame_buffer_line, program_line, uniform_line, update_line, texel_update_line, destroy_line, view_line, target_line, order_line, EncoderLine, state_line, stencil_line, scissor_line, transform_line, vertices_line, indices_line, transient_vertices_line, transient_indices_line, bind_line, set_line, submit_line, touch_line, blit_line, Block, SceneFrame, Scene, views_of}
 use Rattle.scene_model.specs.Field.{split_at}
 use Rattle.scene_model.specs.Grammar.{Field, is_skipped, says_latency}
 use Rattle.scene_model.proofs.SplitLaws.{is_free_of, split-found, split-none}
@@ -51,13 +51,8 @@ resource_is_line all (uniform_line n kind) h = is_line (codes "uniform") _ refl 
 resource_is_line all (update_line n offset bytes) h = is_line (codes "update") _ refl h
 resource_is_line all (texel_update_line n r bytes) h = is_line (codes "texupdate") _ refl h
 resource_is_line all (destroy_line n) h = is_line (codes "destroy") _ refl h
-resource_is_line all (rect_line view r) h = is_line (codes "view") _ refl h
-resource_is_line all (view_scissor_line view r) h = is_line (codes "view") _ refl h
-resource_is_line all (clear_line view c) h = is_line (codes "view") _ refl h
-resource_is_line all (mode_line view mode) h = is_line (codes "view") _ refl h
+resource_is_line all (view_line view c) h = is_line (codes "view") _ refl h
 resource_is_line all (target_line view target) h = is_line (codes "view") _ refl h
-resource_is_line all (view_transform_line view m) h = is_line (codes "view") _ refl h
-resource_is_line all (reset_line view) h = is_line (codes "view") _ refl h
 resource_is_line all (order_line ids) h = is_line (codes "order") _ refl h
 
 encoder_is_line : (all : List Field) (l : EncoderLine) → AllByRecursion IsSpelled (encoder_fields all l) → IsLine (encoder_fields all l)

@@ -8,10 +8,10 @@ use Rattle.std.proofs.lemmas.Fmt.{decimal_nonempty}
 use Rattle.std.proofs.lemmas.List.Folds.{list_all-append}
 use Rattle.gfx_model.specs.Words.{Format, rgba8, d24s8, ProgramKind, solid, vertex_color, textured, textured_color, UniformKind, vec4, int, UniformValue, vec4_value, int_value}
 use Rattle.gfx_model.specs.Vertex.{Color, Attribute, position_attribute, normal_attribute, tangent_attribute, color0_attribute, color1_attribute, texcoord0_attribute, texcoord1_attribute, ComponentType, u8_type, i16_type, fixed_type, LayoutPart, attribute_part, skip_part}
-use Rattle.gfx_model.specs.Views.{ViewMode, default_mode, sequential_mode, ascending_mode, descending_mode}
+use Rattle.gfx_model.specs.Views.{ViewMode, default_mode, sequential_mode, ascending_mode, descending_mode, rect_change, scissor_change, clear_change, mode_change, transform_change, plain_change}
 use Rattle.gfx_model.specs.Raster.{Affine, Rect}
 use Rattle.gfx_model.specs.Resources.{TexelSource, fill_source, bytes_source}
-use Rattle.scene_model.specs.Scene.{ResourceLine, layout_line, vertex_buffer_line, index_buffer_line, texture_line, frame_buffer_line, program_line, uniform_line, update_line, texel_update_line, destroy_line, rect_line, view_scissor_line, clear_line, mode_line, target_line, view_transform_line, reset_line, order_line, EncoderLine, state_line, stencil_line, scissor_line, transform_line, vertices_line, indices_line, transient_vertices_line, transient_indices_line, bind_line, set_line, submit_line, touch_line, blit_line}
+use Rattle.scene_model.specs.Scene.{ResourceLine, layout_line, vertex_buffer_line, index_buffer_line, texture_line, frame_buffer_line, program_line, uniform_line, update_line, texel_update_line, destroy_line, view_line, target_line, order_line, EncoderLine, state_line, stencil_line, scissor_line, transform_line, vertices_line, indices_line, transient_vertices_line, transient_indices_line, bind_line, set_line, submit_line, touch_line, blit_line}
 use Rattle.scene_model.specs.Field.{is_digit, is_lower, is_name_byte, is_name}
 use Rattle.scene_model.specs.Grammar.{Field, is_empty_field}
 use Rattle.scene_model.proofs.NumberTexts.{decimal-digits}
@@ -214,15 +214,15 @@ resource_spelled views all bound (uniform_line n kind) h le grown k = ((refl, re
 resource_spelled views all bound (update_line n offset bytes) h le grown k = ((refl, refl), (used_spelled all bound n h le k.0, (u32_spelled offset k.1, (hex_spelled bytes k.2, tt))))
 resource_spelled views all bound (texel_update_line n r bytes) h le grown k = ((refl, refl), (used_spelled all bound n h le k.0, rect_is_spelled r (hex_field bytes ∷ []) k.1 (hex_spelled bytes k.2, tt)))
 resource_spelled views all bound (destroy_line n) h le grown k = ((refl, refl), (used_spelled all bound n h le k, tt))
-resource_spelled views all bound (rect_line view r) h le grown k = view_is_spelled view (codes "rect") (rect_spelled r) k.0 (refl, refl) (rect_is_spelled r [] k.1 tt)
-resource_spelled views all bound (view_scissor_line view r) h le grown k = view_is_spelled view (codes "scissor") (rect_spelled r) k.0 (refl, refl) (rect_is_spelled r [] k.1 tt)
-resource_spelled views all bound (clear_line view c) h le grown k =
+resource_spelled views all bound (view_line view (rect_change r)) h le grown k = view_is_spelled view (codes "rect") (rect_spelled r) k.0 (refl, refl) (rect_is_spelled r [] k.1 tt)
+resource_spelled views all bound (view_line view (scissor_change r)) h le grown k = view_is_spelled view (codes "scissor") (rect_spelled r) k.0 (refl, refl) (rect_is_spelled r [] k.1 tt)
+resource_spelled views all bound (view_line view (clear_change c)) h le grown k =
     view_is_spelled view (codes "clear") (clear_spelled c) k.0 (refl, refl)
     (u8_spelled c.flags k.1.0, (color_is_spelled c.color k.1.1, ((let d = k.1.2 in decimal_spelled c.depth (omega (arith, d))), (u8_spelled c.stencil k.1.3, tt))))
-resource_spelled views all bound (mode_line view mode) h le grown k = view_is_spelled view (codes "mode") (mode_word mode ∷ []) k (refl, refl) (mode_spelled mode, tt)
+resource_spelled views all bound (view_line view (mode_change mode)) h le grown k = view_is_spelled view (codes "mode") (mode_word mode ∷ []) k (refl, refl) (mode_spelled mode, tt)
 resource_spelled views all bound (target_line view target) h le grown k = view_is_spelled view (codes "target") (optional_name_at all target ∷ []) k.0 (refl, refl) (optional_spelled all bound target h le k.1, tt)
-resource_spelled views all bound (view_transform_line view m) h le grown k = view_is_spelled view (codes "transform") (map signed_decimal m) k.0 (refl, refl) (transform_spelled m k.1)
-resource_spelled views all bound (reset_line view) h le grown k = view_is_spelled view (codes "reset") [] k (refl, refl) tt
+resource_spelled views all bound (view_line view (transform_change m)) h le grown k = view_is_spelled view (codes "transform") (map signed_decimal m) k.0 (refl, refl) (transform_spelled m k.1)
+resource_spelled views all bound (view_line view plain_change) h le grown k = view_is_spelled view (codes "reset") [] k (refl, refl) tt
 resource_spelled views all bound (order_line ids) h le grown k = ((refl, refl), all_spelled (λ v. v ≤ 65535) decimal u16_spelled ids k.1)
 
 pub encoder_spelled : (all : List Field) (bound : List Bool) (l : EncoderLine) → HasNames all → length bound ≤ length all → IsEncoderLine bound l → AllByRecursion IsSpelled (encoder_fields all l)

@@ -4,7 +4,7 @@ use Rattle.std.specs.Prelude.{codes, flat_map}
 use Rattle.std.specs.Fmt.{decimal}
 use Rattle.std.specs.List.{list_all}
 use Rattle.gfx_model.specs.Recorder.{Room}
-use Rattle.scene_model.specs.Scene.{ResourceLine, layout_line, vertex_buffer_line, index_buffer_line, texture_line, frame_buffer_line, program_line, uniform_line, update_line, texel_update_line, destroy_line, rect_line, view_scissor_line, clear_line, mode_line, target_line, view_transform_line, reset_line, order_line, EncoderLine, state_line, stencil_line, scissor_line, transform_line, vertices_line, indices_line, transient_vertices_line, transient_indices_line, bind_line, set_line, submit_line, touch_line, blit_line, Block, newest_version, views_in}
+use Rattle.scene_model.specs.Scene.{ResourceLine, layout_line, vertex_buffer_line, index_buffer_line, texture_line, frame_buffer_line, program_line, uniform_line, update_line, texel_update_line, destroy_line, view_line, target_line, order_line, EncoderLine, state_line, stencil_line, scissor_line, transform_line, vertices_line, indices_line, transient_vertices_line, transient_indices_line, bind_line, set_line, submit_line, touch_line, blit_line, Block, newest_version, views_in, view_line}
 use Rattle.scene_model.specs.Field.{Read, ◌>>=◌, bad_byte, misplaced_word, unknown_version, out_of_range, find_word, u8_number, number_in}
 use Rattle.scene_model.specs.Grammar.{Field, field, Word, scene_word, size_word, encoders_word, room_word, frame_word, encoder_word, layout_word, vertex_buffer_word, index_buffer_word, texture_word, frame_buffer_word, program_word, uniform_word, update_word, texel_update_word, destroy_word, view_word, order_word, state_word, stencil_word, scissor_word, transform_word, vertices_word, indices_word, transient_vertices_word, transient_indices_word, bind_word, set_word, submit_word, touch_word, blit_word, words, whole_language, Stage, in_before, in_block, at_room, at_latency, Reading, at_stage, with_version, with_size, with_encoders, with_room, with_new_frame, on_last_frame, with_block, with_names, with_resource_line, with_encoder_line, unless, has_count, is_text_byte, is_other_version, is_in_place, are_filled_before, room_form, resource_form, encoder_form, after_resource, after_encoder_line, after_word, after_fields}
 use Rattle.spelling_model.specs.LineSpelling.{resource_fields, encoder_fields, block_lines}
@@ -70,13 +70,8 @@ resource_line_stage names r q (uniform_line n kind) e = resource_stage r q (reso
 resource_line_stage names r q (update_line n offset bytes) e = resource_stage r q (resource_fields names (update_line n offset bytes)) update_word (kept_word r q (resource_fields names (update_line n offset bytes)) update_word refl e)
 resource_line_stage names r q (texel_update_line n rect bytes) e = resource_stage r q (resource_fields names (texel_update_line n rect bytes)) texel_update_word (kept_word r q (resource_fields names (texel_update_line n rect bytes)) texel_update_word refl e)
 resource_line_stage names r q (destroy_line n) e = resource_stage r q (resource_fields names (destroy_line n)) destroy_word (kept_word r q (resource_fields names (destroy_line n)) destroy_word refl e)
-resource_line_stage names r q (rect_line view rect) e = resource_stage r q (resource_fields names (rect_line view rect)) view_word (kept_word r q (resource_fields names (rect_line view rect)) view_word refl e)
-resource_line_stage names r q (view_scissor_line view rect) e = resource_stage r q (resource_fields names (view_scissor_line view rect)) view_word (kept_word r q (resource_fields names (view_scissor_line view rect)) view_word refl e)
-resource_line_stage names r q (clear_line view clear) e = resource_stage r q (resource_fields names (clear_line view clear)) view_word (kept_word r q (resource_fields names (clear_line view clear)) view_word refl e)
-resource_line_stage names r q (mode_line view mode) e = resource_stage r q (resource_fields names (mode_line view mode)) view_word (kept_word r q (resource_fields names (mode_line view mode)) view_word refl e)
+resource_line_stage names r q (view_line view x) e = resource_stage r q (resource_fields names (view_line view x)) view_word (kept_word r q (resource_fields names (view_line view x)) view_word refl e)
 resource_line_stage names r q (target_line view target) e = resource_stage r q (resource_fields names (target_line view target)) view_word (kept_word r q (resource_fields names (target_line view target)) view_word refl e)
-resource_line_stage names r q (view_transform_line view m) e = resource_stage r q (resource_fields names (view_transform_line view m)) view_word (kept_word r q (resource_fields names (view_transform_line view m)) view_word refl e)
-resource_line_stage names r q (reset_line view) e = resource_stage r q (resource_fields names (reset_line view)) view_word (kept_word r q (resource_fields names (reset_line view)) view_word refl e)
 resource_line_stage names r q (order_line views) e = resource_stage r q (resource_fields names (order_line views)) order_word (kept_word r q (resource_fields names (order_line views)) order_word refl e)
 
 encoder_line_stage : (names : List Field) (r q : Reading) (l : EncoderLine) → after_kept r (encoder_fields names l) ≡ Ok q → q.stage ≡ r.stage

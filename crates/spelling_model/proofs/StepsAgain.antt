@@ -4,7 +4,7 @@ use Rattle.std.specs.Prelude.{codes}
 use Rattle.std.specs.List.{list_all, AllByRecursion}
 use Rattle.std.proofs.lemmas.Bool.Decides.{nat_tests}
 use Rattle.std.proofs.lemmas.List.{append-nil}
-use Rattle.scene_model.specs.Scene.{ResourceLine, layout_line, vertex_buffer_line, index_buffer_line, texture_line, frame_buffer_line, program_line, uniform_line, update_line, texel_update_line, destroy_line, rect_line, view_scissor_line, clear_line, mode_line, target_line, view_transform_line, reset_line, order_line, EncoderLine, state_line, stencil_line, scissor_line, transform_line, vertices_line, indices_line, transient_vertices_line, transient_indices_line, bind_line, set_line, submit_line, touch_line, blit_line, Block, SceneFrame, newest_version, views_in}
+use Rattle.scene_model.specs.Scene.{ResourceLine, layout_line, vertex_buffer_line, index_buffer_line, texture_line, frame_buffer_line, program_line, uniform_line, update_line, texel_update_line, destroy_line, view_line, target_line, order_line, EncoderLine, state_line, stencil_line, scissor_line, transform_line, vertices_line, indices_line, transient_vertices_line, transient_indices_line, bind_line, set_line, submit_line, touch_line, blit_line, Block, SceneFrame, newest_version, views_in, view_line}
 use Rattle.scene_model.specs.Field.{bad_byte, misplaced_word, unknown_version, BoundName, find_word}
 use Rattle.scene_model.specs.Grammar.{Field, field, Word, words, whole_language, Stage, in_before, in_block, in_beside, is_resource_word, is_encoder_word, can_stand, Reading, with_names, with_resource_line, with_before_line, with_beside_line, with_encoder_line, on_last_frame, unless, is_text_byte, is_other_version, is_in_place, are_filled, are_filled_before, resource_form, encoder_form, after_resource, after_encoder_line, after_word, after_fields}
 use Rattle.spelling_model.specs.LineSpelling.{resource_fields, encoder_fields}
@@ -67,13 +67,8 @@ plain_resource all (uniform_line n kind) = record { plain = record { found = ref
 plain_resource all (update_line n offset bytes) = record { plain = record { found = refl; not_other = not_scene (resource_fields all (update_line n offset bytes)) refl; filled = λ e. e }; resource = refl; place = λ r. refl; after = λ r. refl }
 plain_resource all (texel_update_line n r bytes) = record { plain = record { found = refl; not_other = not_scene (resource_fields all (texel_update_line n r bytes)) refl; filled = λ e. e }; resource = refl; place = λ r. refl; after = λ r. refl }
 plain_resource all (destroy_line n) = record { plain = record { found = refl; not_other = not_scene (resource_fields all (destroy_line n)) refl; filled = λ e. e }; resource = refl; place = λ r. refl; after = λ r. refl }
-plain_resource all (rect_line view r) = record { plain = record { found = refl; not_other = not_scene (resource_fields all (rect_line view r)) refl; filled = λ e. refl }; resource = refl; place = λ r. refl; after = λ r. refl }
-plain_resource all (view_scissor_line view r) = record { plain = record { found = refl; not_other = not_scene (resource_fields all (view_scissor_line view r)) refl; filled = λ e. refl }; resource = refl; place = λ r. refl; after = λ r. refl }
-plain_resource all (clear_line view c) = record { plain = record { found = refl; not_other = not_scene (resource_fields all (clear_line view c)) refl; filled = λ e. refl }; resource = refl; place = λ r. refl; after = λ r. refl }
-plain_resource all (mode_line view mode) = record { plain = record { found = refl; not_other = not_scene (resource_fields all (mode_line view mode)) refl; filled = λ e. refl }; resource = refl; place = λ r. refl; after = λ r. refl }
+plain_resource all (view_line view c) = record { plain = record { found = refl; not_other = not_scene (resource_fields all (view_line view c)) refl; filled = λ e. refl }; resource = refl; place = λ r. refl; after = λ r. refl }
 plain_resource all (target_line view target) = record { plain = record { found = refl; not_other = not_scene (resource_fields all (target_line view target)) refl; filled = λ e. refl }; resource = refl; place = λ r. refl; after = λ r. refl }
-plain_resource all (view_transform_line view m) = record { plain = record { found = refl; not_other = not_scene (resource_fields all (view_transform_line view m)) refl; filled = λ e. refl }; resource = refl; place = λ r. refl; after = λ r. refl }
-plain_resource all (reset_line view) = record { plain = record { found = refl; not_other = not_scene (resource_fields all (reset_line view)) refl; filled = λ e. refl }; resource = refl; place = λ r. refl; after = λ r. refl }
 plain_resource all (order_line ids) = record { plain = record { found = refl; not_other = not_scene (resource_fields all (order_line ids)) refl; filled = λ e. e }; resource = refl; place = λ r. refl; after = λ r. refl }
 
 before_place : (w : Word) → is_resource_word w ≡ true → can_stand in_before w ≡ true

@@ -3,9 +3,9 @@ use Rattle.std.specs.Prelude.{ℕ, Bool, true, false, List, [], ◌∷◌, ◌++
 use Rattle.std.specs.Fmt.{decimal, signed_decimal}
 use Rattle.gfx_model.specs.Words.{UniformValue, vec4_value, int_value}
 use Rattle.gfx_model.specs.Raster.{Rect}
-use Rattle.gfx_model.specs.Views.{Clear}
+use Rattle.gfx_model.specs.Views.{Clear, ViewChange, rect_change, scissor_change, clear_change, mode_change, transform_change, plain_change}
 use Rattle.gfx_model.specs.Recorder.{Room}
-use Rattle.scene_model.specs.Scene.{ResourceLine, layout_line, vertex_buffer_line, index_buffer_line, texture_line, frame_buffer_line, program_line, uniform_line, update_line, texel_update_line, destroy_line, rect_line, view_scissor_line, clear_line, mode_line, target_line, view_transform_line, reset_line, order_line, EncoderLine, state_line, stencil_line, scissor_line, transform_line, vertices_line, indices_line, transient_vertices_line, transient_indices_line, bind_line, set_line, submit_line, touch_line, blit_line, Block, SceneFrame, Scene}
+use Rattle.scene_model.specs.Scene.{ResourceLine, layout_line, vertex_buffer_line, index_buffer_line, texture_line, frame_buffer_line, program_line, uniform_line, update_line, texel_update_line, destroy_line, view_line, target_line, order_line, EncoderLine, state_line, stencil_line, scissor_line, transform_line, vertices_line, indices_line, transient_vertices_line, transient_indices_line, bind_line, set_line, submit_line, touch_line, blit_line, Block, SceneFrame, Scene}
 use Rattle.scene_model.specs.Grammar.{Field}
 use Rattle.spelling_model.specs.FieldSpelling.{format_word, program_word, uniform_kind_word, mode_word, destination_word, hex_field, color_spelled, source_spelled, part_spelled, name_at, optional_name_at}
 
@@ -21,6 +21,24 @@ clear_spelled c = decimal c.flags ∷ color_spelled c.color ∷ decimal c.depth 
 abbrev pub view_spelled : ℕ → Field → List Field → List Field
 view_spelled view setting values = codes "view" ∷ decimal view ∷ setting ∷ values
 
+-- the word of what is set of a view
+abbrev pub change_word : ViewChange → Field
+change_word (rect_change r) = codes "rect"
+change_word (scissor_change r) = codes "scissor"
+change_word (clear_change clear) = codes "clear"
+change_word (mode_change mode) = codes "mode"
+change_word (transform_change m) = codes "transform"
+change_word plain_change = codes "reset"
+
+-- the values of what is set of a view
+abbrev pub change_spelled : ViewChange → List Field
+change_spelled (rect_change r) = rect_spelled r
+change_spelled (scissor_change r) = rect_spelled r
+change_spelled (clear_change clear) = clear_spelled clear
+change_spelled (mode_change mode) = mode_word mode ∷ []
+change_spelled (transform_change m) = map signed_decimal m
+change_spelled plain_change = []
+
 -- the fields of a resource line, where the names stand for places of the list
 abbrev pub resource_fields : List Field → ResourceLine → List Field
 resource_fields names (layout_line n parts) = codes "layout" ∷ name_at names n ∷ map part_spelled parts
@@ -34,13 +52,8 @@ resource_fields names (uniform_line n kind) = codes "uniform" ∷ name_at names 
 resource_fields names (update_line n offset bytes) = codes "update" ∷ name_at names n ∷ decimal offset ∷ hex_field bytes ∷ []
 resource_fields names (texel_update_line n r bytes) = codes "texupdate" ∷ name_at names n ∷ (rect_spelled r ++ hex_field bytes ∷ [])
 resource_fields names (destroy_line n) = codes "destroy" ∷ name_at names n ∷ []
-resource_fields names (rect_line view r) = view_spelled view (codes "rect") (rect_spelled r)
-resource_fields names (view_scissor_line view r) = view_spelled view (codes "scissor") (rect_spelled r)
-resource_fields names (clear_line view clear) = view_spelled view (codes "clear") (clear_spelled clear)
-resource_fields names (mode_line view mode) = view_spelled view (codes "mode") (mode_word mode ∷ [])
+resource_fields names (view_line view c) = view_spelled view (change_word c) (change_spelled c)
 resource_fields names (target_line view target) = view_spelled view (codes "target") (optional_name_at names target ∷ [])
-resource_fields names (view_transform_line view m) = view_spelled view (codes "transform") (map signed_decimal m)
-resource_fields names (reset_line view) = view_spelled view (codes "reset") []
 resource_fields names (order_line views) = codes "order" ∷ map decimal views
 
 -- one whole number, or four numbers of 1/65536

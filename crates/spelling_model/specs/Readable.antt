@@ -4,10 +4,10 @@ use Rattle.std.specs.List.{AllByRecursion, IsDistinct}
 use Rattle.gfx_model.specs.Words.{UniformValue, vec4_value, int_value}
 use Rattle.gfx_model.specs.Vertex.{Color, LayoutPart, attribute_part, skip_part}
 use Rattle.gfx_model.specs.Raster.{Affine, Rect}
-use Rattle.gfx_model.specs.Views.{Clear}
+use Rattle.gfx_model.specs.Views.{Clear, rect_change, scissor_change, clear_change, mode_change, transform_change, plain_change}
 use Rattle.gfx_model.specs.Resources.{TexelSource, fill_source, bytes_source}
 pub use Rattle.gfx_model.specs.FrameCalls.{IsRoom}
-use Rattle.scene_model.specs.Scene.{Name, ResourceLine, layout_line, vertex_buffer_line, index_buffer_line, texture_line, frame_buffer_line, program_line, uniform_line, update_line, texel_update_line, destroy_line, rect_line, view_scissor_line, clear_line, mode_line, target_line, view_transform_line, reset_line, order_line, EncoderLine, state_line, stencil_line, scissor_line, transform_line, vertices_line, indices_line, transient_vertices_line, transient_indices_line, bind_line, set_line, submit_line, touch_line, blit_line, Block, SceneFrame, Scene, HasSides, IsVersion, greatest_latency, views_of}
+use Rattle.scene_model.specs.Scene.{Name, ResourceLine, layout_line, vertex_buffer_line, index_buffer_line, texture_line, frame_buffer_line, program_line, uniform_line, update_line, texel_update_line, destroy_line, view_line, target_line, order_line, EncoderLine, state_line, stencil_line, scissor_line, transform_line, vertices_line, indices_line, transient_vertices_line, transient_indices_line, bind_line, set_line, submit_line, touch_line, blit_line, Block, SceneFrame, Scene, HasSides, IsVersion, greatest_latency, views_of}
 use Rattle.scene_model.specs.Field.{is_name}
 
 -- ---- the ranges of fields
@@ -100,13 +100,13 @@ IsResourceLine views bound (uniform_line n kind) = IsOfUniform bound n
 IsResourceLine views bound (update_line n offset bytes) = IsBound bound n × (offset < 2 ^ 32) × AreBytes bytes
 IsResourceLine views bound (texel_update_line n r bytes) = IsBound bound n × IsRect r × AreBytes bytes
 IsResourceLine views bound (destroy_line n) = IsBound bound n
-IsResourceLine views bound (rect_line view r) = (view ≤ 65535) × IsRect r
-IsResourceLine views bound (view_scissor_line view r) = (view ≤ 65535) × IsRect r
-IsResourceLine views bound (clear_line view clear) = (view ≤ 65535) × IsClear clear
-IsResourceLine views bound (mode_line view mode) = view ≤ 65535
+IsResourceLine views bound (view_line view (rect_change r)) = (view ≤ 65535) × IsRect r
+IsResourceLine views bound (view_line view (scissor_change r)) = (view ≤ 65535) × IsRect r
+IsResourceLine views bound (view_line view (clear_change clear)) = (view ≤ 65535) × IsClear clear
+IsResourceLine views bound (view_line view (mode_change mode)) = view ≤ 65535
 IsResourceLine views bound (target_line view target) = (view ≤ 65535) × IsBoundOrNone bound target
-IsResourceLine views bound (view_transform_line view m) = (view ≤ 65535) × IsTransform m
-IsResourceLine views bound (reset_line view) = view ≤ 65535
+IsResourceLine views bound (view_line view (transform_change m)) = (view ≤ 65535) × IsTransform m
+IsResourceLine views bound (view_line view plain_change) = view ≤ 65535
 IsResourceLine views bound (order_line ids) = (length ids ≤ views) × AllByRecursion (λ v. v ≤ 65535) ids
 
 -- lines one behind the other, each with the names that are bound before it
