@@ -1,5 +1,5 @@
 // A sink that only counts.
-ghost use Rattle.std.specs.Prelude.{◌≡◌, ◌<◌, ◌+◌, ◌%◌, ◌^◌, length, sum, take, None, Some, IfOk, OnErr, IsOk};
+ghost use Rattle.std.specs.Prelude.{◌≡◌, ◌≤◌, ◌<◌, ◌+◌, ◌%◌, ◌^◌, length, sum, take, None, Some, IfOk, OnErr, IsOk};
 ghost use Rattle.io_edge.specs.Edge.{counted};
 
 use crate::{Failed, Sink};
@@ -53,13 +53,31 @@ impl Sink for SureSink {
     }
 }
 
+// How many bytes are summed in 16 bits: their sum is at most 65,280.
+const BLOCK: usize = 256;
+
+// The sum of so many bytes, which vectors of 16 bits take.
+fn sum_of_block(block: &[u8]) -> u16
+    requires { length block.now ≤ 256 }
+    ensures { result ≡ sum block.now }
+{
+    let mut total: u16 = 0;
+    for byte in block {
+        total += u16::from(*byte);
+    }
+    total
+}
+
 // The sum of the bytes modulo 2^32.
 fn sum_of(piece: &[u8]) -> u32
     ensures { result ≡ sum piece.now % 2 ^ 32 }
 {
     let mut total: u32 = 0;
-    for byte in piece {
-        total = total.wrapping_add(u32::from(*byte));
+    let mut rest = piece;
+    while rest.len() > BLOCK {
+        let (block, after) = rest.split_at(BLOCK);
+        total = total.wrapping_add(u32::from(sum_of_block(block)));
+        rest = after;
     }
-    total
+    total.wrapping_add(u32::from(sum_of_block(rest)))
 }
