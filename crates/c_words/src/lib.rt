@@ -6,8 +6,6 @@ mod faults;
 mod given;
 mod layouts;
 mod numbers;
-#[cfg(test)]
-mod tests;
 
 pub use faults::{Fault, NO_OBJECT, status, told};
 pub use given::Things;

@@ -10,6 +10,3 @@ pub use geometry::{Affine, Point, Rect};
 pub use numbers::{clamp_i32, div_floor};
 pub use picture::{TexelList, Texels};
 pub use telling::tell_texels;
-
-#[cfg(test)]
-mod tests;

@@ -11,6 +11,3 @@ mod run;
 pub use decoding::decode;
 pub use encoding::encode;
 pub use fault::CaptureFault;
-
-#[cfg(test)]
-mod tests;

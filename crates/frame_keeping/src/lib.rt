@@ -4,6 +4,3 @@
 mod keeping;
 
 pub use keeping::KeepingLink;
-
-#[cfg(test)]
-mod tests;

@@ -6,6 +6,3 @@ pub mod laws;
 mod squares;
 
 pub use frames::make_scene;
-
-#[cfg(test)]
-mod tests;

@@ -107,6 +107,3 @@ impl HandleAlloc {
         self.given
     }
 }
-
-#[cfg(test)]
-mod tests;

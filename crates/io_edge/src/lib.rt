@@ -10,8 +10,6 @@ mod gate;
 mod memory;
 mod standard;
 mod sure;
-#[cfg(test)]
-mod tests;
 
 pub use edge::{Failed, Sink, Source};
 pub use gate::{Gate, NoGate};

@@ -7,8 +7,6 @@ mod letter;
 mod letter_rule;
 mod posting;
 mod shared;
-#[cfg(test)]
-mod tests;
 
 pub use boxes::LetterBox;
 pub use letter::Letter;

@@ -11,8 +11,6 @@ mod numbers;
 mod picture;
 mod reading;
 mod streams;
-#[cfg(test)]
-mod tests;
 
 pub use difference::{Difference, Place, Spread};
 pub use fault::PictureFault;

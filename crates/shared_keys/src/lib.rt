@@ -9,6 +9,3 @@ mod marks;
 pub use least::shared_views;
 pub use lines::push_lines;
 pub use marks::{Mark, SharedView};
-
-#[cfg(test)]
-mod tests;

@@ -4,6 +4,3 @@
 mod row;
 
 pub use row::Row;
-
-#[cfg(test)]
-mod tests;

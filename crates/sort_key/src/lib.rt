@@ -246,6 +246,3 @@ pub fn order_of_keys()
     ensures order { OrderOfKeys }
     ensures one { OneKeyOneFields }
 {}
-
-#[cfg(test)]
-mod tests;

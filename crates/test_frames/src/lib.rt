@@ -4,6 +4,8 @@
 #[cfg(test)]
 mod block_recording_tests;
 #[cfg(test)]
+mod frame_keeping_tests;
+#[cfg(test)]
 mod frame_record_tests;
 #[cfg(test)]
 mod frame_swap_field_tests;
@@ -12,4 +14,8 @@ mod frame_swap_tests;
 #[cfg(test)]
 mod hold_table_tests;
 #[cfg(test)]
+mod letter_boxes_tests;
+#[cfg(test)]
 mod recorded_keys_tests;
+#[cfg(test)]
+mod shared_keys_tests;

@@ -2,6 +2,14 @@
 #![tactic(auto)]
 
 #[cfg(test)]
+mod frame_capture_tests;
+#[cfg(test)]
+mod generated_scene_tests;
+#[cfg(test)]
+mod io_edge_tests;
+#[cfg(test)]
+mod picture_diff_tests;
+#[cfg(test)]
 mod scene_lines_tests;
 #[cfg(test)]
 mod scene_text_journal_tests;

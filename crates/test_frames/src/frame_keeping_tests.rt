@@ -1,8 +1,8 @@
 // Frames that are kept come back, the oldest first.
 ghost use Rattle.std.specs.Prelude.{◌≡◌, ◌+◌, [], IfOk, length};
 
-use crate::KeepingLink;
 use cmd_buffer::CmdBuffer;
+use frame_keeping::KeepingLink;
 use frame_record::{Frame, FrameLink, Outcome};
 use std::alloc::{AllocError, Global};
 use std::test::Fail;

@@ -1,8 +1,8 @@
 // Keys from outside, and the order that they give.
 ghost use Rattle.std.specs.Prelude.{◌≤◌, ◌<◌, ◌^◌};
 
-use crate::{KeyFields, SortKey};
 use gfx_words::ViewMode;
+use sort_key::{KeyFields, SortKey};
 
 #[test]
 fn worked_keys(rt: HostRuntime) {

@@ -1,7 +1,7 @@
 // Each source and sink once with ample memory, and the faults of those that fail.
 ghost use Rattle.std.specs.Prelude.{◌<◌, length};
 
-use crate::{Failed, MemSink, MemSource, Sink, Source, StdSink, StdSource, SureSink};
+use io_edge::{Failed, MemSink, MemSource, Sink, Source, StdSink, StdSource, SureSink};
 use std::alloc::{AllocError, Global};
 use std::io;
 use std::io::{ErrorKind, Write};

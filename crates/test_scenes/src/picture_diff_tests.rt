@@ -1,5 +1,5 @@
 // Both calls on two pictures of which one pixel differs. The line is worked by hand.
-use crate::{differences, lines_of};
+use picture_diff::{differences, lines_of};
 
 #[test]
 fn one_pixel_differs(rt: HostRuntime) {

@@ -1,6 +1,6 @@
 // The stack from outside: the order in which indices are given and come back.
-use crate::HandleAlloc;
 use gfx_words::Refusal;
+use handle_alloc::HandleAlloc;
 use std::alloc::AllocError;
 
 #[test]

@@ -1,5 +1,5 @@
 // Marks that share, and their lines. The expected values are worked by hand.
-use crate::{Mark, SharedView, push_lines, shared_views};
+use shared_keys::{Mark, SharedView, push_lines, shared_views};
 use std::test::Fail;
 
 fn draw(view: u16, key: u64, encoder: u8) -> Mark {

@@ -1,5 +1,5 @@
 // What the scene is as text, and that its text is read back.
-use crate::make_scene;
+use generated_scene::make_scene;
 use scene_text::{Scene, SceneFault, read, write};
 use std::alloc::Global;
 use std::test::Fail;

@@ -1,5 +1,5 @@
 // Values from outside: worked transforms, and samples of a small texture.
-use crate::{Affine, Point, Texels};
+use fix_math::{Affine, Point, Texels};
 use std::alloc::AllocError;
 
 fn one_row(a: i32, b: i32, c: i32, d: i32) -> Affine {

@@ -1,5 +1,5 @@
 // One example of each call.
-use crate::{
+use c_words::{
     Fault, Part, Things, format_of, layout_of, mode_of, program_of, status, told, uniform_kind_of,
 };
 use gfx_words::{Format, Handle, Info, Kind, ProgramKind, Refusal, UniformKind, ViewMode};

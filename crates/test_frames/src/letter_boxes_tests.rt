@@ -4,9 +4,9 @@ ghost use Rattle.std.specs.Prelude.{◌≡◌, ℕ, List, IfSome};
 ghost use Rattle.gfx_model.specs.World.{Item};
 ghost use Rattle.hold_table.specs.Seats.{table_of};
 
-use crate::{Posting, Shared, Unclaimed};
 use draw_encoder::{Recorder, Room};
 use hold_table::HoldTable;
+use letter_boxes::{Posting, Shared, Unclaimed};
 use std::alloc::Global;
 use std::marker::Brand;
 use std::test::Fail;

@@ -1,4 +1,4 @@
-use super::*;
+use frame_capture::{CaptureFault, decode, encode};
 use std::test::*;
 
 const CAPTURE: &[u8] = b"GFX1\x02\0\x02\0\x01\0\0\0\0\0\0\0\x04\xff\0\0";

@@ -1,5 +1,5 @@
 // A row of numbers.
-use crate::Row;
+use slot_row::Row;
 use std::test::Fail;
 
 #[test]
