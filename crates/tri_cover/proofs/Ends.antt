@@ -16,7 +16,8 @@ use Rattle.tri_cover.specs.Bounded.{bound_at, is_not_before, is_not_behind, IsMo
 use Rattle.tri_cover.specs.declared.edges.Edge.{Edge}
 use Rattle.tri_cover.specs.declared.bounds.Bound.{Bound}
 use Rattle.tri_cover.proofs.Half.{times_sum, right, left}
-use Rattle.tri_cover.proofs.Fixed.{floor_is, one_floor}
+use native.Mathlib.Nat.{mul_comm}
+use Rattle.tri_cover.proofs.Fixed.{floor_is, one_floor, sum_times}
 use Rattle.tri_cover.proofs.Settled.{one_step, no_step}
 use Rattle.tri_cover.proofs.Slopes.{times_nat, nearly_by_inverse, nearly_exact}
 use Rattle.tri_cover.proofs.Walks.{floor_near}
@@ -30,20 +31,49 @@ nearly_scaled z f n r pn low high e hz =
     let is : z *ℤ pos r ≡ f *ℤ pos (2 ^ 34) +ℤ pos h.rest = h.is ∙ ap (λ w. w *ℤ pos (2 ^ 34) +ℤ pos h.rest) (sym e) in
     nearly_by_inverse z f n r (2 ^ 62 - r * n) (2 ^ 34) (2 ^ 28) h.rest pn (omega arith) (omega (arith, low)) (omega (arith, low, high)) is h.below hz
 
--- the whole part of a bound is the side's floor in 32 rows
-pub floor_at : (z d f g : ℤ) (n r k : ℕ) → 0 < n → n ≤ 2 ^ 20 → r * n ≤ 2 ^ 62 → 2 ^ 62 < r * n + n →
-    f ≡ int_div_euclid (z *ℤ pos r) (pos (2 ^ 34)) → g ≡ int_div_euclid (d *ℤ pos r) (pos (2 ^ 34)) → unsigned_abs z ≤ 2 ^ 33 → unsigned_abs d < 2 ^ 29 → k ≤ 32 →
-    IsFloor (f +ℤ pos 66 +ℤ g *ℤ pos k) (int_div_euclid (z +ℤ d *ℤ pos k) (pos n)) (2 ^ 28)
-floor_at z d f g n r k pn small low high ef eg hz hd hk =
+-- two numbers by which another is multiplied
+pub turned : (z : ℤ) (a b : ℕ) → (z *ℤ pos a) *ℤ pos b ≡ (z *ℤ pos b) *ℤ pos a
+turned z a b = sym (times_nat z a b) ∙ ap (λ n. z *ℤ pos n) (mul_comm a b) ∙ times_nat z b a
+
+-- the same of its floor by 256
+nearly_coarse : (z q f : ℤ) (n : ℕ) → 0 < n → f ≡ int_div_euclid q (pos 256) → IsNearly z q n (2 ^ 28) → IsNearly z f n (2 ^ 20)
+nearly_coarse z q f n pn e h =
+    let g : IsFloor q (int_div_euclid q (pos 256)) 256 = floor_is q 256 (omega arith) in
+    let is : q ≡ f *ℤ pos 256 +ℤ pos g.rest = g.is ∙ ap (λ w. w *ℤ pos 256 +ℤ pos g.rest) (sym e) in
+    let few : g.rest ≤ 255 = omega (arith, g.below) in
+    let rest : g.rest * n ≤ 255 * n = mul-le-mul_right n few in
+    let all : q *ℤ pos n ≡ (f *ℤ pos n) *ℤ pos 256 +ℤ pos g.rest *ℤ pos n = ap (λ w. w *ℤ pos n) is ∙ sum_times (f *ℤ pos 256) (pos g.rest) (pos n) ∙ ap (λ w. w +ℤ pos g.rest *ℤ pos n) (turned f 256 n) in
+    let small : pos g.rest *ℤ pos n ≡ pos (g.rest * n) = omega (arith, ints, product_is) in
+    omega (arith, ints, h, all, small, rest, pn)
+
+-- the whole part of a bound in s parts of a column is the side's floor in 32 rows
+floor_by : (z d f g : ℤ) (n s k : ℕ) → 0 < n → 132 * n ≤ s → IsNearly z f n s → IsNearly d g n s → k ≤ 32 → IsFloor (f +ℤ pos 66 +ℤ g *ℤ pos k) (int_div_euclid (z +ℤ d *ℤ pos k) (pos n)) s
+floor_by z d f g n s k pn small hf hg hk =
     let v = int_div_euclid (z +ℤ d *ℤ pos k) (pos n) in
     let here : IsFloor (z +ℤ d *ℤ pos k) v n = floor_is (z +ℤ d *ℤ pos k) n pn in
     let none : pos 0 *ℤ pos 0 ≡ pos 0 = refl in
     let there : IsFloor (z +ℤ d *ℤ pos k +ℤ pos 0 *ℤ pos 0) v n = record { rest = here.rest; below = here.below; is = omega (arith, ints, here.is, none) } in
-    let nothing : IsNearly (pos 0) (pos 0) n (2 ^ 28) = omega (arith, ints, product_is, pn) in
-    let found = nearly_exact z d (pos 0) f g (pos 0) v (pos k) (pos 0) n (2 ^ 28) 33 pn
-    (nearly_scaled z f n r pn low high ef (omega (arith, hz))) (nearly_scaled d g n r pn low high eg (omega (arith, hd))) nothing
-    (omega (arith, ints, hk)) (omega (arith, small)) there in
+    let nothing : IsNearly (pos 0) (pos 0) n s = omega (arith, ints, product_is, pn) in
+    let found = nearly_exact z d (pos 0) f g (pos 0) v (pos k) (pos 0) n s 33 pn hf hg nothing (omega (arith, ints, hk)) (omega (arith, small)) there in
     record { rest = found.rest; below = found.below; is = omega (arith, ints, found.is, none) }
+
+-- in 1/2^28 of a column
+pub floor_at : (z d f g : ℤ) (n r k : ℕ) → 0 < n → n ≤ 2 ^ 20 → r * n ≤ 2 ^ 62 → 2 ^ 62 < r * n + n →
+    f ≡ int_div_euclid (z *ℤ pos r) (pos (2 ^ 34)) → g ≡ int_div_euclid (d *ℤ pos r) (pos (2 ^ 34)) → unsigned_abs z ≤ 2 ^ 33 → unsigned_abs d < 2 ^ 29 → k ≤ 32 →
+    IsFloor (f +ℤ pos 66 +ℤ g *ℤ pos k) (int_div_euclid (z +ℤ d *ℤ pos k) (pos n)) (2 ^ 28)
+floor_at z d f g n r k pn small low high ef eg hz hd hk =
+    floor_by z d f g n (2 ^ 28) k pn (omega (arith, small)) (nearly_scaled z f n r pn low high ef (omega (arith, hz))) (nearly_scaled d g n r pn low high eg (omega (arith, hd))) hk
+
+-- in 1/2^20 of a column, and that in 1/2^28
+pub coarse_floor_at : (z d f g : ℤ) (n r k : ℕ) → 0 < n → n ≤ 7936 → r * n ≤ 2 ^ 62 → 2 ^ 62 < r * n + n →
+    f ≡ int_div_euclid (int_div_euclid (z *ℤ pos r) (pos (2 ^ 34))) (pos 256) → g ≡ int_div_euclid (int_div_euclid (d *ℤ pos r) (pos (2 ^ 34))) (pos 256) → unsigned_abs z ≤ 2 ^ 33 → unsigned_abs d < 2 ^ 29 → k ≤ 32 →
+    IsFloor ((f +ℤ pos 66) *ℤ pos 256 +ℤ (g *ℤ pos 256) *ℤ pos k) (int_div_euclid (z +ℤ d *ℤ pos k) (pos n)) (2 ^ 28)
+coarse_floor_at z d f g n r k pn small low high ef eg hz hd hk =
+    let v = int_div_euclid (z +ℤ d *ℤ pos k) (pos n) in
+    let found : IsFloor (f +ℤ pos 66 +ℤ g *ℤ pos k) v (2 ^ 20) = floor_by z d f g n (2 ^ 20) k pn (omega (arith, small))
+    (nearly_coarse z (int_div_euclid (z *ℤ pos r) (pos (2 ^ 34))) f n pn ef (nearly_scaled z (int_div_euclid (z *ℤ pos r) (pos (2 ^ 34))) n r pn low high refl (omega (arith, hz))))
+    (nearly_coarse d (int_div_euclid (d *ℤ pos r) (pos (2 ^ 34))) g n pn eg (nearly_scaled d (int_div_euclid (d *ℤ pos r) (pos (2 ^ 34))) n r pn low high refl (omega (arith, hd)))) hk in
+    record { rest = 256 * found.rest; below = omega (arith, found.below); is = omega (arith, ints, found.is, turned g 256 k) }
 
 moved_near : (z d : ℤ) (k : ℕ) → unsigned_abs z ≤ 2 ^ 33 → unsigned_abs d < 2 ^ 29 → k ≤ 32 → unsigned_abs (z +ℤ d *ℤ pos k) ≤ 2 ^ 33 + 2 ^ 34
 moved_near z d k hz hd hk =

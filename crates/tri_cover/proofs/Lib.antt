@@ -16,3 +16,4 @@ pub mod Walks
 pub mod Ends
 pub mod Rowed
 pub mod Stills
+pub mod Shortened

@@ -7,3 +7,4 @@ pub mod Stepped
 pub mod Widened
 pub mod Walked
 pub mod Bounded
+pub mod Shortened

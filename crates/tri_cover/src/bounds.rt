@@ -8,6 +8,9 @@ ghost use Rattle.tri_cover.specs.Bounded.{bound_at, is_not_before, is_not_behind
 
 use crate::edges::{Edge, reach};
 use crate::inverses::small_power;
+use crate::numbers::floor_by_256;
+use crate::quads::short_spans;
+use crate::shorts::shorts_of;
 use crate::sides::ends;
 
 /// A side as a bound of the columns, in 1/2^28 of a column, and what it gains per row.
@@ -34,7 +37,7 @@ const FREE: Bound = Bound {
 
 /// Whether a bound is the one that lets all columns pass.
 #[inline(always)]
-fn is_free(bound: &Bound) -> bool
+pub(crate) fn is_free(bound: &Bound) -> bool
     ensures { IsTrue result → (k x : ℕ) → x < 65536 → (is_not_before (bound_at bound.now k) x ≡ true) × (is_not_behind (bound_at bound.now k) x ≡ true) }
 {
     bound.at == 1 << 62 && bound.step == 0
@@ -72,9 +75,37 @@ fn scaled(z: i64, inverse: u64) -> i64
     shifted(z, inverse) as i64
 }
 
-/// A bound at z by n that gains d by n per row, a little high: as much as 32 steps may lose.
+/// The floor of a product by 2^42.
 #[inline(always)]
-fn bound_by(z: i64, d: i64, n: u64) -> Bound
+fn coarse(z: i64, inverse: u64) -> i64
+    requires z { unsigned_abs z ≤ 2 ^ 34 }
+    requires inverse { inverse ≤ 2 ^ 62 }
+    ensures value { result ≡ int_div_euclid (int_div_euclid (z *ℤ pos inverse) (pos (2 ^ 34))) (pos 256) }
+    ensures near { unsigned_abs result ≤ 2 ^ 54 }
+{
+    floor_by_256(scaled(z, inverse))
+}
+
+/// A bound at z by n that gains d by n per row, in 1/2^20 of a column, a little high: as much as 32 steps may lose.
+#[inline(always)]
+fn coarse_bound(z: i64, d: i64, n: u64) -> Bound
+    requires z { unsigned_abs z ≤ 2 ^ 33 }
+    requires d { unsigned_abs d < 2 ^ 29 }
+    requires positive { 0 < n }
+    requires small { n ≤ 7936 }
+    ensures floors { (k : ℕ) → k ≤ 32 → IsFloor (bound_at result k) (int_div_euclid (z +ℤ d *ℤ pos k) (pos n)) (2 ^ 28) }
+    ensures tame { IsTame result }
+{
+    let inverse = inverse_of(n);
+    Bound {
+        at: (coarse(z, inverse) + 66) * 256,
+        step: coarse(d, inverse) * 256,
+    }
+}
+
+/// A bound at z by n that gains d by n per row, in 1/2^28 of a column, a little high.
+#[inline(always)]
+fn fine_bound(z: i64, d: i64, n: u64) -> Bound
     requires z { unsigned_abs z ≤ 2 ^ 33 }
     requires d { unsigned_abs d < 2 ^ 29 }
     requires positive { 0 < n }
@@ -86,6 +117,23 @@ fn bound_by(z: i64, d: i64, n: u64) -> Bound
     Bound {
         at: scaled(z, inverse) + 66,
         step: scaled(d, inverse),
+    }
+}
+
+/// A bound at z by n that gains d by n per row, a little high; in 1/2^20 of a column where that is enough.
+#[inline(always)]
+fn bound_by(z: i64, d: i64, n: u64) -> Bound
+    requires z { unsigned_abs z ≤ 2 ^ 33 }
+    requires d { unsigned_abs d < 2 ^ 29 }
+    requires positive { 0 < n }
+    requires small { n ≤ 2 ^ 20 }
+    ensures floors { (k : ℕ) → k ≤ 32 → IsFloor (bound_at result k) (int_div_euclid (z +ℤ d *ℤ pos k) (pos n)) (2 ^ 28) }
+    ensures tame { IsTame result }
+{
+    if n <= 7936 {
+        coarse_bound(z, d, n)
+    } else {
+        fine_bound(z, d, n)
     }
 }
 
@@ -260,9 +308,9 @@ fn next_bounds(bounds: &Bounds, start: &Bounds, k: u16) -> Bounds
     }
 }
 
-/// The columns of so many rows from first up to after that bounds let pass.
+/// The columns of so many rows from first up to after that bounds let pass, row by row.
 #[inline(always)]
-pub(crate) fn cuts(spans: &mut [(u16, u16)], bounds: &Bounds, count: u16, first: u16, after: u16)
+fn stepped_cuts(spans: &mut [(u16, u16)], bounds: &Bounds, count: u16, first: u16, after: u16)
     requires room { count ≤ length spans.old }
     requires few { count ≤ 32 }
     requires tame { AreTame bounds.now }
@@ -282,4 +330,22 @@ pub(crate) fn cuts(spans: &mut [(u16, u16)], bounds: &Bounds, count: u16, first:
         );
         here = next_bounds(&here, &start, k);
     }
+}
+
+/// The columns of so many rows from first up to after that bounds let pass.
+#[inline(always)]
+pub(crate) fn cuts(spans: &mut [(u16, u16)], bounds: &Bounds, count: u16, first: u16, after: u16)
+    requires room { count ≤ length spans.old }
+    requires few { count ≤ 32 }
+    requires tame { AreTame bounds.now }
+    ensures same { length spans.new ≡ length spans.old }
+    ensures cuts { HoldsCuts spans.new bounds.now first after count }
+{
+    if after <= 2048 && spans.len() >= 32 {
+        if let Some(shorts) = shorts_of(bounds) {
+            short_spans(spans, &shorts, count, first, after);
+            return;
+        }
+    }
+    stepped_cuts(spans, bounds, count, first, after);
 }

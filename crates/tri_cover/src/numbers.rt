@@ -30,6 +30,15 @@ pub(crate) fn less(a: i64, b: i64, c: i64) -> i64
     a - b - c
 }
 
+/// The floor of a number by 256.
+#[inline(always)]
+pub(crate) fn floor_by_256(z: i64) -> i64
+    ensures value { result ≡ int_div_euclid z (pos 256) }
+    ensures near { unsigned_abs result ≤ 2 ^ 55 }
+{
+    z >> 8
+}
+
 fn wide_product(a: i64, b: i64) -> i128
     requires a { unsigned_abs a < 2 ^ 60 }
     requires b { unsigned_abs b < 2 ^ 32 }

@@ -1,5 +1,5 @@
 use Rattle.tri_cover.specs.Bounded.{AreMoved, HoldsCuts}
-use Rattle.tri_cover.proofs.bounds.cuts.Given as goal
+use Rattle.tri_cover.proofs.bounds.stepped_cuts.Given as goal
 
 -- the rows before are there, and the bounds stand at the row
 abbrev pub invariant-loop-k : goal.invariant-loop-k

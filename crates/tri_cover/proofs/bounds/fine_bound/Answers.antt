@@ -2,7 +2,7 @@ use Rattle.std.proofs.Common.{rules, ◌≡◌, ◌^◌, pos, ◌+ℤ◌, ◌*�
 use Rattle.std.specs.Int.{int_div_euclid}
 use Rattle.std.proofs.lemmas.Int.{ints, to_z-of_z}
 use Rattle.tri_cover.proofs.Ends.{floor_at, tame_at}
-use Rattle.tri_cover.proofs.bounds.bound_by.Goals as goal
+use Rattle.tri_cover.proofs.bounds.fine_bound.Goals as goal
 
 pub returns-clause-floors : goal.returns-clause-floors
 returns-clause-floors c k h =
