@@ -1,5 +1,5 @@
 -- Bounds in 32 bits.
-use Rattle.std.specs.Prelude.{ℕ, ◌≡◌, ◌≤◌, ◌<◌, ◌+◌, ◌-◌, ◌*◌, ◌/◌, ◌%◌, ◌^◌, min, max, nat_le, List, slice_index}
+use Rattle.std.specs.Prelude.{ℕ, ◌≡◌, ◌<◌, ◌+◌, ◌-◌, ◌*◌, ◌/◌, ◌%◌, ◌^◌, min, max, nat_le, List, slice_index}
 use Rattle.tri_cover.specs.Bounded.{bound_at, is_not_before, is_not_behind}
 use Rattle.tri_cover.specs.declared.bounds.Bound.{Bound}
 use Rattle.tri_cover.specs.declared.bounds.Bounds.{Bounds}

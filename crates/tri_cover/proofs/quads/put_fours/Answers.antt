@@ -1,4 +1,4 @@
-use Rattle.std.proofs.Common.{◌≡◌, ◌<◌, ◌+◌, ◌∙◌, slice_index, subst, sym, arith}
+use Rattle.std.proofs.Common.{◌≡◌, ◌+◌, ◌∙◌, slice_index, arith}
 use Rattle.tri_cover.specs.Shortened.{short_at, left_end, right_end}
 use Rattle.tri_cover.proofs.quads.put_fours.Goals as goal
 

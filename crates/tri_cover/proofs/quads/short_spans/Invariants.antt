@@ -1,4 +1,4 @@
-use Rattle.std.proofs.Common.{ℕ, ◌≡◌, ◌≤◌, ◌<◌, ◌-◌, ◌%◌, length, slice_index_or}
+use Rattle.std.proofs.Common.{ℕ, ◌≡◌, ◌≤◌, ◌<◌, ◌-◌, ◌%◌, slice_index_or}
 use Rattle.tri_cover.specs.Shortened.{AreFours, short_span}
 use Rattle.tri_cover.proofs.quads.short_spans.Given as goal
 
