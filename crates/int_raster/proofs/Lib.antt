@@ -16,3 +16,5 @@ pub mod Windows
 pub mod Spread
 pub mod Rowed
 pub mod Covered
+pub mod Twice
+pub mod Two

@@ -1,12 +1,10 @@
 -- A window of a tile is more of its span.
-use Rattle.std.proofs.Common.{◌≡◌, ◌≤◌, ◌<◌, ◌+◌, ◌-◌, ◌^◌, ℕ, List, [], length, slice_index_or, true, false, ◌&&◌, nat_le, nat_lt, ap, ◌∙◌, arith}
+use Rattle.std.proofs.Common.{◌≡◌, ◌≤◌, ◌<◌, ◌+◌, ◌-◌, ◌^◌, ℕ, List, [], length, slice_index_or, false, ◌&&◌, nat_le, nat_lt, ap, ◌∙◌, arith}
 use Rattle.std.proofs.lemmas.Bool.{cases_lt}
 use Rattle.std.proofs.lemmas.Bool.Decides.{nat_tests}
 use Rattle.gfx_model.specs.Number.{map_from, u32_at}
 use Rattle.gfx_model.specs.Vertex.{Color}
 use Rattle.gfx_model.specs.Pixel.{Pixel}
-use Rattle.gfx_model.specs.Raster.{covers}
-use Rattle.tri_cover.specs.Shown.{setup_seen}
 use Rattle.tri_cover.specs.declared.triangles.Setup.{Setup}
 use Rattle.int_raster.specs.declared.lists.Prepared.{Prepared}
 use Rattle.int_raster.specs.declared.opaque.Level.{Level}
@@ -47,18 +45,18 @@ module _ (t : Tile) (l : Level) (d : Prepared) (s : Setup) (span : Span) (x : �
   z i = slice_index_or zs i []
 
   lane_is : IsLevel l d s → IsTile t l.color l.depth l.rule
-      → ((x : ℕ) → span.first ≤ x → x < span.after → covers (setup_seen s).triangle x span.y ≡ true) → span.first ≤ x
+      → span.first ≤ x
       → ((j : ℕ) → j < 4 → u32_at (depth (place j)) 0 < 2 ^ 32)
       → ((j : ℕ) → j < 4 → j < span.after - x → IsStored t (color (place j)) (depth (place j)) (new (place j)) (z (place j)))
       → ((j : ℕ) → j < 4 → span.after - x ≤ j → (new (place j) ≡ color (place j)) × (z (place j) ≡ depth (place j)))
       → (j : ℕ) → j < 4 → deep_pixel (new (place j)) (z (place j)) ≡ change (place j) (deep_pixel (color (place j)) (depth (place j)))
-  lane_is level tile covered low small stored rest j h =
+  lane_is level tile low small stored rest j h =
       let old = deep_pixel (color (place j)) (depth (place j)) in
       elim (cases_lt j (span.after - x)) [
         | inl less ↦
             let near : x + j < span.after = omega (arith, less) in
             let here : span.start + (x + j) ≡ place j = omega arith in
-            tiled_deep t l d s (x + j) span.y (color (place j)) (depth (place j)) (new (place j)) (z (place j)) level tile (covered (x + j) (omega (arith, low)) near) (small j h) (stored j h less)
+            tiled_deep t l d s (x + j) span.y (color (place j)) (depth (place j)) (new (place j)) (z (place j)) level tile (small j h) (stored j h less)
             ∙ at_place (step_seen d s) span.start span.y (x + j) old
             ∙ ap (λ i. in_row span.start span.y (step_seen d s) i old) here
             ∙ before_stop (in_row span.start span.y (step_seen d s)) (span.start + span.after) (place j) old (omega (arith, near))
@@ -68,7 +66,7 @@ module _ (t : Tile) (l : Level) (d : Prepared) (s : Setup) (span : Span) (x : �
       ]
 
   pub window_more : IsLevel l d s → IsTile t l.color l.depth l.rule
-      → ((x : ℕ) → span.first ≤ x → x < span.after → covers (setup_seen s).triangle x span.y ≡ true) → span.first ≤ x
+      → span.first ≤ x
       → length depths ≡ length colors
       → deep_pixels colors depths ≡ map_from (spanned change (span.start + span.first) (span.start + x)) 0 (deep_pixels olds deeps)
       → (length news ≡ length colors) × (length zs ≡ length depths)
@@ -77,8 +75,8 @@ module _ (t : Tile) (l : Level) (d : Prepared) (s : Setup) (span : Span) (x : �
       → ((j : ℕ) → j < 4 → span.after - x ≤ j → (new (place j) ≡ color (place j)) × (z (place j) ≡ depth (place j)))
       → ((i : ℕ) → (nat_le (span.start + x) i && nat_lt i (span.start + x + 4)) ≡ false → (new i ≡ color i) × (z i ≡ depth i))
       → deep_pixels news zs ≡ map_from (spanned change (span.start + span.first) (span.start + (x + 4))) 0 (deep_pixels olds deeps)
-  window_more level tile covered low same done many small stored rest others =
+  window_more level tile low same done many small stored rest others =
       let next : span.start + x + 4 ≡ span.start + (x + 4) = omega arith in
       spans_joined change (span.start + span.first) (span.start + x) (span.start + x + 4) (deep_pixels olds deeps) (deep_pixels colors depths) (deep_pixels news zs) (omega (arith, low)) (omega arith) done
-      (four_changed change (span.start + x) colors depths news zs same many.0 many.1 (lane_is level tile covered low small stored rest) others)
+      (four_changed change (span.start + x) colors depths news zs same many.0 many.1 (lane_is level tile low small stored rest) others)
       ∙ ap (λ n. map_from (spanned change (span.start + span.first) n) 0 (deep_pixels olds deeps)) next

@@ -4,8 +4,6 @@ use Rattle.std.specs.Prelude.{◌==◌}
 use Rattle.std.proofs.lemmas.Bool.Decides.{nat_tests}
 use Rattle.gfx_model.specs.Number.{u32_at}
 use Rattle.gfx_model.specs.Vertex.{Color}
-use Rattle.gfx_model.specs.Raster.{covers}
-use Rattle.tri_cover.specs.Shown.{setup_seen}
 use Rattle.tri_cover.specs.declared.triangles.Setup.{Setup}
 use Rattle.int_raster.specs.declared.lists.Prepared.{Prepared}
 use Rattle.int_raster.specs.declared.opaque.Level.{Level}
@@ -65,9 +63,9 @@ word_of_two true w new depth word e = e
 word_of_two false w new depth word e = omega arith
 
 -- what a tile leaves of a covered pixel is the pixel after its triangle
-pub tiled_deep : (t : Tile) (l : Level) (d : Prepared) (s : Setup) (x y : ℕ) (old deep color z : Color) → IsLevel l d s → IsTile t l.color l.depth l.rule → covers (setup_seen s).triangle x y ≡ true
+pub tiled_deep : (t : Tile) (l : Level) (d : Prepared) (s : Setup) (x y : ℕ) (old deep color z : Color) → IsLevel l d s → IsTile t l.color l.depth l.rule
     → u32_at deep 0 < 2 ^ 32 → IsStored t old deep color z → deep_pixel color z ≡ step_seen d s x y (deep_pixel old deep)
-tiled_deep t l d s x y old deep color z level tile cover few stored =
+tiled_deep t l d s x y old deep color z level tile few stored =
     let word = u32_at deep 0 in
     let among = is_among t.least t.more (word % 2 ^ 24) in
     let pass = by_order l.rule l.depth (word % 2 ^ 24) in
@@ -76,5 +74,5 @@ tiled_deep t l d s x y old deep color z level tile cover few stored =
     let hc : color ≡ (if pass then bytes_of l.color else old) = stored.0 ∙ (λ i. if test i then bytes i else old) in
     let hk : u32_at z 0 ≡ (if pass && l.rule.writes then l.depth else word % 2 ^ 24) + 2 ^ 24 * (word / 2 ^ 24) =
     stored.1 ∙ ap (λ b. if b then deep_word t.bits t.depth word else word) test ∙ word_of_two pass l.rule.writes (deep_word t.bits t.depth word) l.depth word (tile.stores word few) in
-    plain_deep l.rule d s x y word (u32_at z 0) l.depth l.color old color deep z level.plain refl refl (level.paints x y cover) (level.depths x y cover)
+    plain_deep l.rule d s x y word (u32_at z 0) l.depth l.color old color deep z level.plain refl refl (level.paints x y) (level.depths x y)
     (stored_is l.rule d.state word l.depth (u32_at z 0) old l.color color pass (pass && l.rule.writes) level.plain.opaque level.plain.rule refl refl hc hk)

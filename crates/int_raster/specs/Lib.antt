@@ -11,3 +11,4 @@ pub mod Cuts
 pub mod Sampled
 pub mod Filled
 pub mod Covered
+pub mod Joined

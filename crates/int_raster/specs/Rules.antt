@@ -5,7 +5,7 @@ use Rattle.gfx_model.specs.Words.{depth_test_of, writes_depth}
 use Rattle.gfx_model.specs.Pixel.{passes_depth}
 use Rattle.tri_cover.specs.declared.triangles.Setup.{Setup}
 use Rattle.int_raster.specs.declared.lists.Prepared.{Prepared}
-use Rattle.gfx_model.specs.Raster.{covers, fragment_at}
+use Rattle.gfx_model.specs.Raster.{fragment_at}
 use Rattle.gfx_model.specs.World.{painted}
 use Rattle.tri_cover.specs.Shown.{setup_seen}
 use Rattle.int_raster.specs.Seen.{paint_seen, facing_seen, step_seen, color_seen}
@@ -65,10 +65,10 @@ IsStored t old deep color z =
     (color ≡ (if is_among t.least t.more (u32_at deep 0 % 2 ^ 24) then word_bytes t.color else old))
     × (u32_at z 0 ≡ (if is_among t.least t.more (u32_at deep 0 % 2 ^ 24) then deep_word t.bits t.depth (u32_at deep 0) else u32_at deep 0))
 
--- all covered pixels of a triangle without a stencil word have this colour and this depth, and are stored as painted
+-- all pixels of a triangle without a stencil word have this colour and this depth, and are stored as painted
 pub record IsLevel (l : Level) (d : Prepared) (s : Setup) : Type 0 where
   pub plain : IsPlain l.rule d s
   pub few : l.depth ≤ 16777215
-  pub paints : (x y : ℕ) → covers (setup_seen s).triangle x y ≡ true → l.color ≡ painted (paint_seen d.paint) (fragment_at (setup_seen s).triangle x y)
-  pub depths : (x y : ℕ) → covers (setup_seen s).triangle x y ≡ true → l.depth ≡ (fragment_at (setup_seen s).triangle x y).depth
+  pub paints : (x y : ℕ) → l.color ≡ painted (paint_seen d.paint) (fragment_at (setup_seen s).triangle x y)
+  pub depths : (x y : ℕ) → l.depth ≡ (fragment_at (setup_seen s).triangle x y).depth
   pub tile : IfSome l.tile (λ t. IsTile t l.color l.depth l.rule)

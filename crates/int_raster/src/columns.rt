@@ -5,6 +5,7 @@ ghost use Rattle.fix_math.specs.Seen.{rect_seen};
 ghost use Rattle.tri_cover.specs.Shown.{setup_seen};
 ghost use Rattle.tri_cover.specs.Bounded.{IsSpan};
 ghost use Rattle.int_raster.specs.Filled.{AreLimits};
+ghost use Rattle.int_raster.specs.Joined.{IsInside};
 ghost use Rattle.int_raster.specs.Covered.{CoverRows};
 
 use crate::rows::Rows;
@@ -83,6 +84,18 @@ pub(crate) fn drawn_columns(
     requires upper { cut.now.y ≤ y }
     requires lower { y < cut.now.y + cut.now.h }
     ensures columns { (x : ℕ) → x < width → (contains (rect_seen cut.now) x y && covers (setup_seen setup.now).triangle x y) ≡ (nat_le result.0 x && nat_lt x result.1) }
+    ensures order { result.0 ≤ result.1 }
+    ensures within { result.1 ≤ width }
+{
+    spans[place as usize]
+}
+
+/// The columns of a row, from a list of rows' columns.
+#[inline(always)]
+pub(crate) fn columns_at(spans: &[(u16, u16)], place: u16, width: u16) -> (u16, u16)
+    requires room { place < length spans.now }
+    requires inside { IsInside (slice_index_or spans.now place (0, 0)) width }
+    ensures is { result ≡ slice_index_or spans.now place (0, 0) }
     ensures order { result.0 ≤ result.1 }
     ensures within { result.1 ≤ width }
 {

@@ -1,5 +1,5 @@
 // Draws on a surface with depth.
-ghost use Rattle.std.specs.Prelude.{◌≡◌, ◌≤◌, ◌<◌, ◌+◌, ◌*◌, ℕ, true, List, length, map, IfSome, IsTrue};
+ghost use Rattle.std.specs.Prelude.{◌≡◌, ◌≤◌, ◌<◌, ◌+◌, ◌*◌, ℕ, Bool, true, false, List, length, map, take, slice_index_or, IfSome, IsTrue};
 ghost use Rattle.gfx_model.specs.Number.{map_from};
 ghost use Rattle.gfx_model.specs.Raster.{covers, fragment_at};
 ghost use Rattle.gfx_model.specs.Pixel.{Pixel};
@@ -7,19 +7,21 @@ ghost use Rattle.gfx_model.specs.World.{painted};
 ghost use Rattle.tri_cover.specs.Shown.{setup_seen};
 ghost use Rattle.tri_cover.specs.Bounded.{HoldsSpans};
 ghost use Rattle.int_raster.specs.Drawing.{prepared_step};
-ghost use Rattle.int_raster.specs.Places.{above, deep_pixels, spanned, by_place, below, in_row};
+ghost use Rattle.int_raster.specs.Places.{above, deep_pixels, spanned, by_place, below, in_row, where_test};
 ghost use Rattle.int_raster.specs.Filled.{AreLimits, AreInCut};
+ghost use Rattle.int_raster.specs.Joined.{HoldsTest, HoldRows, AreInside, in_turn};
 ghost use Rattle.int_raster.specs.Painted.{PaintsSpan, Paints, HoldsPiece, HoldsDepths, AreDepths, HasDepths, HasWideDepths, HasSpanDepths, HasWideSpanDepths};
 ghost use Rattle.int_raster.specs.Rules.{IsPlain, IsMix, IsLevel, IsTile, IsOver, IsFree};
 ghost use Rattle.int_raster.specs.Seen.{paint_seen, prepared_seen, step_seen, change_seen};
 
 use crate::colors::triangle_colors;
-use crate::columns::{drawn_columns, drawn_limits, drawn_rows, meets};
+use crate::columns::{columns_at, drawn_columns, drawn_limits, drawn_rows, meets};
 use crate::deep_spans::{fill, step, step_exactly, store, store_level, store_shade};
 use crate::lists::Prepared;
 use crate::opaque::{Level, Mix, Rule, Tile, rule_of};
 use crate::painters::{Brush, Painter, brush_of, is_opaque, one_color, one_depth, painter_of};
 use crate::painting::stencil_of;
+use crate::pairs::with_next;
 use crate::pieces::{depth_piece, paint_piece};
 use crate::rows::Rows;
 use crate::spans::Span;
@@ -331,7 +333,7 @@ fn rows_tested(
     }
 }
 
-/// Stores a tile in so many rows of its triangle, whose columns a list has.
+/// Stores a tile in so many rows, whose columns a list has.
 #[inline(never)]
 fn rows_tiled(
     colors: &mut [[u8; 4]],
@@ -340,7 +342,6 @@ fn rows_tiled(
     from: u16,
     count: u16,
     spans: &[(u16, u16)],
-    limits: (u16, u16),
     tile: &Tile,
     level: &Level,
     setup: &Setup,
@@ -351,21 +352,18 @@ fn rows_tiled(
     requires level { IsLevel level.now draw.now setup.now }
     requires tile { IsTile tile.now level.now.color level.now.depth level.now.rule }
     requires inside { from + count ≤ rows.now.count }
-    requires cut { AreInCut rows.now draw.now.cut from (from + count) }
-    requires limits { AreLimits limits draw.now.cut rows.now.width }
     requires room { count ≤ length spans.now }
-    requires held { HoldsSpans spans.now (setup_seen setup.now).triangle limits.0 limits.1 (rows.now.top + from) count }
-    ensures { (start : List Pixel) → deep_pixels colors.old depths.old ≡ map_from (above rows.now.width from (below rows.now.top (change_seen draw.now setup.now))) 0 start → deep_pixels colors.new depths.new ≡ map_from (above rows.now.width (from + count) (below rows.now.top (change_seen draw.now setup.now))) 0 start }
+    requires spans { AreInside spans.now rows.now.width count }
+    ensures { (test : ℕ → ℕ → Bool) (start : List Pixel) → HoldsTest spans.now test (rows.now.top + from) rows.now.width count → deep_pixels colors.old depths.old ≡ map_from (above rows.now.width from (below rows.now.top (where_test test (step_seen draw.now setup.now)))) 0 start → deep_pixels colors.new depths.new ≡ map_from (above rows.now.width (from + count) (below rows.now.top (where_test test (step_seen draw.now setup.now)))) 0 start }
 {
     let tile = *tile;
     let width = rows.width as usize;
     let mut start = from as usize * width;
     for k in 0..count {
-        let y = rows.top + (from + k);
-        let (first, after) = drawn_columns(spans, k, limits, setup, &draw.cut, y, rows.width);
+        let (first, after) = columns_at(spans, k, rows.width);
         let span = Span {
             start,
-            y,
+            y: rows.top + (from + k),
             first,
             after,
         };
@@ -374,8 +372,8 @@ fn rows_tiled(
     }
 }
 
-/// Stores a triangle's tile in all its rows.
-fn triangle_tiled(
+/// Stores the tile of a triangle in all its rows, 32 at a time.
+fn triangle_tall(
     colors: &mut [[u8; 4]],
     depths: &mut [[u8; 4]],
     rows: &Rows,
@@ -398,10 +396,77 @@ fn triangle_tiled(
         let count = (bottom - row).min(32);
         setup.spans(&mut spans, rows.top + row, count, limits.0, limits.1);
         rows_tiled(
-            colors, depths, rows, row, count, &spans, limits, tile, level, setup, draw,
+            colors, depths, rows, row, count, &spans, tile, level, setup, draw,
         );
         row += count;
     }
+}
+
+/// Stores the tile of a triangle in its rows, which are at most 32, and with it the next triangle of its draw, if there is one and it
+/// is of one tile with it: whether that is so.
+fn triangle_short(
+    colors: &mut [[u8; 4]],
+    depths: &mut [[u8; 4]],
+    rows: &Rows,
+    shared: (u16, u16),
+    tile: &Tile,
+    level: &Level,
+    setup: &Setup,
+    next: &Setup,
+    more: bool,
+    draw: &Prepared,
+) -> bool
+    requires whole { length colors.old ≡ rows.now.width * rows.now.count }
+    requires same { length depths.old ≡ length colors.old }
+    requires rows { HoldRows shared rows.now draw.now setup.now }
+    requires few { shared.1 ≤ shared.0 + 32 }
+    requires level { IsLevel level.now draw.now setup.now }
+    requires tile { IsTile tile.now level.now.color level.now.depth level.now.rule }
+    ensures more { IsTrue result → IsTrue more }
+    ensures one { result ≡ false → deep_pixels colors.new depths.new ≡ map_from (by_place rows.now.width (below rows.now.top (change_seen draw.now setup.now))) 0 (deep_pixels colors.old depths.old) }
+    ensures two { IsTrue result → deep_pixels colors.new depths.new ≡ map_from (by_place rows.now.width (below rows.now.top (change_seen draw.now next.now))) 0 (map_from (by_place rows.now.width (below rows.now.top (change_seen draw.now setup.now))) 0 (deep_pixels colors.old depths.old)) }
+{
+    let limits = drawn_limits(&draw.cut, rows.width);
+    let mut spans = [(0, 0); 32];
+    let count = shared.1 - shared.0;
+    setup.spans(&mut spans, rows.top + shared.0, count, limits.0, limits.1);
+    let two = with_next(
+        &mut spans, shared, limits, level, setup, next, more, draw, rows,
+    );
+    rows_tiled(
+        colors, depths, rows, shared.0, count, &spans, tile, level, setup, draw,
+    );
+    two
+}
+
+/// Stores the tile of a triangle, perhaps with the next one: whether with it.
+fn triangle_tiled(
+    colors: &mut [[u8; 4]],
+    depths: &mut [[u8; 4]],
+    rows: &Rows,
+    tile: &Tile,
+    level: &Level,
+    setup: &Setup,
+    next: &Setup,
+    more: bool,
+    draw: &Prepared,
+) -> bool
+    requires whole { length colors.old ≡ rows.now.width * rows.now.count }
+    requires same { length depths.old ≡ length colors.old }
+    requires level { IsLevel level.now draw.now setup.now }
+    requires tile { IsTile tile.now level.now.color level.now.depth level.now.rule }
+    ensures more { IsTrue result → IsTrue more }
+    ensures one { result ≡ false → deep_pixels colors.new depths.new ≡ map_from (by_place rows.now.width (below rows.now.top (change_seen draw.now setup.now))) 0 (deep_pixels colors.old depths.old) }
+    ensures two { IsTrue result → deep_pixels colors.new depths.new ≡ map_from (by_place rows.now.width (below rows.now.top (change_seen draw.now next.now))) 0 (map_from (by_place rows.now.width (below rows.now.top (change_seen draw.now setup.now))) 0 (deep_pixels colors.old depths.old)) }
+{
+    let shared = drawn_rows(setup, &draw.cut, rows);
+    if shared.1 - shared.0 > 32 {
+        triangle_tall(colors, depths, rows, tile, level, setup, draw);
+        return false;
+    }
+    triangle_short(
+        colors, depths, rows, shared, tile, level, setup, next, more, draw,
+    )
 }
 
 /// Draws a triangle that is no tile, with its depth. What it needs on the stack is not made for the others.
@@ -438,27 +503,31 @@ fn triangle_painted(
     }
 }
 
-/// Draws a triangle pixel by pixel with its depth: as a tile where it is one.
+/// Draws a triangle pixel by pixel with its depth: as a tile where it is one, and then perhaps with the next one: whether with it.
 fn triangle_tested(
     colors: &mut [[u8; 4]],
     depths: &mut [[u8; 4]],
     rows: &Rows,
     setup: &Setup,
+    next: &Setup,
+    more: bool,
     draw: &Prepared,
-)
+) -> bool
     requires whole { length colors.old ≡ rows.now.width * rows.now.count }
     requires same { length depths.old ≡ length colors.old }
-    ensures { deep_pixels colors.new depths.new ≡ map_from (by_place rows.now.width (below rows.now.top (change_seen draw.now setup.now))) 0 (deep_pixels colors.old depths.old) }
+    ensures more { IsTrue result → IsTrue more }
+    ensures one { result ≡ false → deep_pixels colors.new depths.new ≡ map_from (by_place rows.now.width (below rows.now.top (change_seen draw.now setup.now))) 0 (deep_pixels colors.old depths.old) }
+    ensures two { IsTrue result → deep_pixels colors.new depths.new ≡ map_from (by_place rows.now.width (below rows.now.top (change_seen draw.now next.now))) 0 (map_from (by_place rows.now.width (below rows.now.top (change_seen draw.now setup.now))) 0 (deep_pixels colors.old depths.old)) }
 {
     let rule = plain_rule(setup, draw);
     let level = level_of(setup, draw, &rule);
     if let Some(level) = &level {
         if let Some(tile) = &level.tile {
-            triangle_tiled(colors, depths, rows, tile, level, setup, draw);
-            return;
+            return triangle_tiled(colors, depths, rows, tile, level, setup, next, more, draw);
         }
     }
     triangle_painted(colors, depths, rows, level, rule, setup, draw);
+    false
 }
 
 /// Whether every depth passes and none is stored.
@@ -480,40 +549,94 @@ fn is_free(setup: &Setup, draw: &Prepared) -> bool
     is_over(&rule)
 }
 
-/// Draws a triangle: by its colours alone where it is free.
+/// Draws a triangle: by its colours alone where it is free, and else perhaps with the next one: whether with it.
 fn triangle_deep(
     colors: &mut [[u8; 4]],
     depths: &mut [[u8; 4]],
     rows: &Rows,
     setup: &Setup,
+    next: &Setup,
+    more: bool,
     draw: &Prepared,
-)
+) -> bool
     requires whole { length colors.old ≡ rows.now.width * rows.now.count }
     requires same { length depths.old ≡ length colors.old }
-    ensures { deep_pixels colors.new depths.new ≡ map_from (by_place rows.now.width (below rows.now.top (change_seen draw.now setup.now))) 0 (deep_pixels colors.old depths.old) }
+    ensures more { IsTrue result → IsTrue more }
+    ensures one { result ≡ false → deep_pixels colors.new depths.new ≡ map_from (by_place rows.now.width (below rows.now.top (change_seen draw.now setup.now))) 0 (deep_pixels colors.old depths.old) }
+    ensures two { IsTrue result → deep_pixels colors.new depths.new ≡ map_from (by_place rows.now.width (below rows.now.top (change_seen draw.now next.now))) 0 (map_from (by_place rows.now.width (below rows.now.top (change_seen draw.now setup.now))) 0 (deep_pixels colors.old depths.old)) }
 {
     if is_free(setup, draw) {
         let painter = painter_of(setup, draw, rows.width, rows.bottom());
         triangle_colors(colors, rows, &painter, setup, draw);
-    } else {
-        triangle_tested(colors, depths, rows, setup, draw);
+        return false;
     }
+    triangle_tested(colors, depths, rows, setup, next, more, draw)
 }
 
-/// Draws a triangle where it meets the rows of the band.
+/// Draws a triangle where it meets the rows of the band, perhaps with the next one: whether with it.
 fn triangle_in_rows(
     colors: &mut [[u8; 4]],
     depths: &mut [[u8; 4]],
     rows: &Rows,
     setup: &Setup,
+    next: &Setup,
+    more: bool,
     draw: &Prepared,
-)
+) -> bool
     requires whole { length colors.old ≡ rows.now.width * rows.now.count }
     requires same { length depths.old ≡ length colors.old }
-    ensures { deep_pixels colors.new depths.new ≡ map_from (by_place rows.now.width (below rows.now.top (change_seen draw.now setup.now))) 0 (deep_pixels colors.old depths.old) }
+    ensures more { IsTrue result → IsTrue more }
+    ensures one { result ≡ false → deep_pixels colors.new depths.new ≡ map_from (by_place rows.now.width (below rows.now.top (change_seen draw.now setup.now))) 0 (deep_pixels colors.old depths.old) }
+    ensures two { IsTrue result → deep_pixels colors.new depths.new ≡ map_from (by_place rows.now.width (below rows.now.top (change_seen draw.now next.now))) 0 (map_from (by_place rows.now.width (below rows.now.top (change_seen draw.now setup.now))) 0 (deep_pixels colors.old depths.old)) }
 {
     if meets(setup, &draw.cut, rows) {
-        triangle_deep(colors, depths, rows, setup, draw);
+        return triangle_deep(colors, depths, rows, setup, next, more, draw);
+    }
+    false
+}
+
+/// A triangle of a draw.
+#[inline(always)]
+fn triangle_at(triangles: &[Setup], at: usize) -> &Setup
+    requires { at < length triangles.now }
+    ensures { result.now ≡ slice_index_or triangles.now at result.now }
+{
+    &triangles[at]
+}
+
+/// The place behind one, or this one where it is the last.
+#[inline(always)]
+fn next_place(at: usize, count: usize) -> usize
+    requires { at < count }
+    ensures inside { result < count }
+    ensures next { at + 1 < count → result ≡ at + 1 }
+{
+    if at + 1 < count { at + 1 } else { at }
+}
+
+/// Draws the next triangle of a draw, or the next two where they are one tile: the place of the one behind.
+fn draw_next(
+    colors: &mut [[u8; 4]],
+    depths: &mut [[u8; 4]],
+    rows: &Rows,
+    draw: &Prepared,
+    triangles: &[Setup],
+    at: usize,
+) -> usize
+    requires whole { length colors.old ≡ rows.now.width * rows.now.count }
+    requires same { length depths.old ≡ length colors.old }
+    requires some { at < length triangles.now }
+    ensures order { at < result }
+    ensures within { result ≤ length triangles.now }
+    ensures drawn { (start : List Pixel) → deep_pixels colors.old depths.old ≡ in_turn rows.now draw.now start (take at triangles.now) → deep_pixels colors.new depths.new ≡ in_turn rows.now draw.now start (take result triangles.now) }
+{
+    let more = at + 1 < triangles.len();
+    let setup = triangle_at(triangles, at);
+    let next = triangle_at(triangles, next_place(at, triangles.len()));
+    if triangle_in_rows(colors, depths, rows, setup, next, more, draw) {
+        at + 2
+    } else {
+        at + 1
     }
 }
 
@@ -529,7 +652,8 @@ pub(crate) fn draw_deep(
     requires same { length depths.old ≡ length colors.old }
     ensures { deep_pixels colors.new depths.new ≡ map_from (by_place rows.now.width (below rows.now.top (prepared_step (prepared_seen draw.now (map setup_seen triangles.now))))) 0 (deep_pixels colors.old depths.old) }
 {
-    for setup in triangles {
-        triangle_in_rows(colors, depths, rows, setup, draw);
+    let mut at = 0;
+    while at < triangles.len() {
+        at = draw_next(colors, depths, rows, draw, triangles, at);
     }
 }

@@ -123,7 +123,6 @@ pub(crate) fn store_level(
 )
     requires inside { span.now.start + span.now.after ≤ length colors.old }
     requires same { length depths.old ≡ length colors.old }
-    requires covered { (x : ℕ) → span.now.first ≤ x → x < span.now.after → covers (setup_seen setup.now).triangle x span.now.y ≡ true }
     requires level { IsLevel level.now draw.now setup.now }
     ensures { deep_pixels colors.new depths.new ≡ map_from (spanned (in_row span.now.start span.now.y (step_seen draw.now setup.now)) (span.now.start + span.now.first) (span.now.start + span.now.after)) 0 (deep_pixels colors.old depths.old) }
 {

@@ -16,6 +16,7 @@ mod lists;
 mod opaque;
 mod painters;
 mod painting;
+mod pairs;
 mod pieces;
 mod rasterizer;
 mod rows;

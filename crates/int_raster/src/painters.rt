@@ -156,7 +156,7 @@ fn has_one_color(setup: &Setup) -> bool
 
 /// The colour of a triangle that is painted in one.
 pub(crate) fn one_color(setup: &Setup, paint: &Paint) -> Option<[u8; 4]>
-    ensures { IfSome result (λ color. (x y : ℕ) → covers (setup_seen setup.now).triangle x y ≡ true → color ≡ world.painted (paint_seen paint.now) (fragment_at (setup_seen setup.now).triangle x y)) }
+    ensures { IfSome result (λ color. (x y : ℕ) → color ≡ world.painted (paint_seen paint.now) (fragment_at (setup_seen setup.now).triangle x y)) }
 {
     match *paint {
         Paint::Solid(color) => Some(color),
@@ -174,7 +174,7 @@ pub(crate) fn one_color(setup: &Setup, paint: &Paint) -> Option<[u8; 4]>
 /// The depth of a triangle whose corners have the same.
 pub(crate) fn one_depth(setup: &Setup) -> Option<u32>
     ensures few { IfSome result (λ depth. depth ≤ 16777215) }
-    ensures same { IfSome result (λ depth. (x y : ℕ) → covers (setup_seen setup.now).triangle x y ≡ true → depth ≡ (fragment_at (setup_seen setup.now).triangle x y).depth) }
+    ensures same { IfSome result (λ depth. (x y : ℕ) → depth ≡ (fragment_at (setup_seen setup.now).triangle x y).depth) }
 {
     let depth = setup.a.depth;
     if setup.b.depth == depth && setup.c.depth == depth {

@@ -1,8 +1,6 @@
 // Tiles: one colour and one depth, stored in windows of four pixels.
 ghost use Rattle.std.specs.Prelude.{◌≡◌, ◌≤◌, ◌<◌, ◌+◌, ◌*◌, ◌/◌, ◌%◌, ◌^◌, ℕ, [], true, false, length, slice_index, slice_index_or, not, ◌&&◌, nat_le, nat_lt, if◌then◌else◌, IfSome};
 ghost use Rattle.gfx_model.specs.Number.{map_from, u32_at};
-ghost use Rattle.gfx_model.specs.Raster.{covers};
-ghost use Rattle.tri_cover.specs.Shown.{setup_seen};
 ghost use Rattle.int_raster.specs.Places.{deep_pixels, spanned, in_row};
 ghost use Rattle.int_raster.specs.Tiled.{word_bytes, deep_word, is_among};
 ghost use Rattle.int_raster.specs.Rules.{by_order, IsLevel, IsStored, IsTile};
@@ -175,7 +173,6 @@ fn store_tile(
 )
     requires inside { span.now.start + span.now.after + 3 ≤ length colors.old }
     requires same { length depths.old ≡ length colors.old }
-    requires covered { (x : ℕ) → span.now.first ≤ x → x < span.now.after → covers (setup_seen setup.now).triangle x span.now.y ≡ true }
     requires level { IsLevel level.now draw.now setup.now }
     requires tile { IsTile tile.now level.now.color level.now.depth level.now.rule }
     ensures { deep_pixels colors.new depths.new ≡ map_from (spanned (in_row span.now.start span.now.y (step_seen draw.now setup.now)) (span.now.start + span.now.first) (span.now.start + span.now.after)) 0 (deep_pixels colors.old depths.old) }
@@ -201,7 +198,6 @@ pub(crate) fn draw_tile(
 )
     requires inside { span.now.start + span.now.after ≤ length colors.old }
     requires same { length depths.old ≡ length colors.old }
-    requires covered { (x : ℕ) → span.now.first ≤ x → x < span.now.after → covers (setup_seen setup.now).triangle x span.now.y ≡ true }
     requires level { IsLevel level.now draw.now setup.now }
     requires tile { IsTile tile.now level.now.color level.now.depth level.now.rule }
     ensures { deep_pixels colors.new depths.new ≡ map_from (spanned (in_row span.now.start span.now.y (step_seen draw.now setup.now)) (span.now.start + span.now.first) (span.now.start + span.now.after)) 0 (deep_pixels colors.old depths.old) }

@@ -8,8 +8,8 @@ use Rattle.int_raster.specs.Seen.{facing_seen, step_seen}
 use Rattle.int_raster.proofs.Raster.{rows_none}
 use Rattle.int_raster.proofs.deep.triangle_in_rows.Goals as goal
 
-pub returns-else-meets : goal.returns-else-meets
-returns-else-meets c =
+pub returns-clause-one : goal.returns-clause-one
+returns-clause-one c alone =
     let d = c.args.draw.now in
     let f = facing_seen c.args.draw.now c.args.setup.now in
     let top = c.args.rows.now.top in

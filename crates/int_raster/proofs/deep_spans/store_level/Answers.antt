@@ -22,8 +22,8 @@ loop-x-preserved c =
     c.loop-x.invariant c.loop-x.auto.x (omega (arith, here, c.requires.inside)) c.requires.same c.loop-x.auto.colors c.loop-x.auto.depths
     (plain_deep level.rule c.args.draw.now c.args.setup.now c.loop-x.x s.y c.depth_word-word.result c.stored_after-after.result.word level.depth level.color old c.stored_after-after.result.color before c.word_texel.result c.requires.level.plain
     c.depth_word-word.ensures c.word_texel.ensures
-    (c.requires.level.paints c.loop-x.x s.y (c.requires.covered c.loop-x.x c.loop-x.auto.x here))
-    (c.requires.level.depths c.loop-x.x s.y (c.requires.covered c.loop-x.x c.loop-x.auto.x here))
+    (c.requires.level.paints c.loop-x.x s.y)
+    (c.requires.level.depths c.loop-x.x s.y)
     (c.stored_after-after.ensures c.args.draw.now.state c.requires.level.plain.opaque c.requires.level.plain.rule))
 
 pub returns : goal.returns

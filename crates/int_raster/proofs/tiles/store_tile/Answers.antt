@@ -24,7 +24,7 @@ loop-x-preserved c =
       many = c.store_four.ensures.many.0 ∙ i.many;
       deep = c.store_four.ensures.many.1 ∙ i.deep;
       done = window_more c.args.tile.now c.args.level.now c.args.draw.now c.args.setup.now c.args.span.now c.loop-x.x c.args.colors.now c.args.depths.now c.loop-x.colors c.loop-x.depths c.store_four.new.colors c.store_four.new.depths
-          c.requires.level c.requires.tile c.requires.covered i.low (i.deep ∙ c.requires.same ∙ sym i.many) i.done
+          c.requires.level c.requires.tile i.low (i.deep ∙ c.requires.same ∙ sym i.many) i.done
           c.store_four.ensures.many c.store_four.ensures.small c.store_four.ensures.stored c.store_four.ensures.rest c.store_four.ensures.others;
     }
 

@@ -2,7 +2,7 @@ use Rattle.std.proofs.Common.{◌-◌, ◌≤◌, ◌≡◌}
 use Rattle.gfx_model.specs.Number.{map_from}
 use Rattle.int_raster.specs.Places.{below, above, deep_pixels}
 use Rattle.int_raster.specs.Seen.{change_seen}
-use Rattle.int_raster.proofs.deep.triangle_tiled.Given as goal
+use Rattle.int_raster.proofs.deep.triangle_tall.Given as goal
 
 -- the rows above are changed
 abbrev pub invariant-loop-row : goal.invariant-loop-row
