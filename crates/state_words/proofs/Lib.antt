@@ -1,0 +1,6 @@
+pub mod Fields
+pub mod Named
+pub mod Again
+pub mod StencilLaws
+mod Rows
+mod Meanings
