@@ -19,4 +19,8 @@ pub use gfx_words::{
 pub use hold_table::{ApiSeat, HoldTable};
 pub use render_core::{BandRasterizer, InPlaceLink, Rasterizer, Renderer, SerialRasterizer};
 pub use resource_book::ResourceCalls;
+pub use state_words::{
+    Blend, BlendEquation, BlendFactor, BlendPart, Channels, Comparison, Primitive, RenderState,
+    StencilOperation, StencilState, Winding,
+};
 pub use vertex_layout::{Attr, AttrType, LayoutBuilder, VertexLayout};
