@@ -95,6 +95,15 @@ pub(crate) enum Way {
     Again,
     /// As a script of queries, which has notes alone.
     Queries,
+    /// By its bytes alone: a scene, of which a frame is looked into.
+    Look { frame: u32, look: Look },
+}
+
+/// What is wanted of a frame: the pictures of its steps and their lines, or the picture of the deeds to which its pixels are due.
+#[derive(Clone, Copy, PartialEq, Eq, Drop)]
+pub(crate) enum Look {
+    Steps,
+    Blame,
 }
 
 /// A case: what is run, and what it has to leave, or what it may leave as well.

@@ -1,5 +1,5 @@
 // The lines of a case.
-use crate::case::{Case, Takes, Trouble, Wanted, Way};
+use crate::case::{Case, Look, Takes, Trouble, Wanted, Way};
 use crate::gate::Hold;
 use crate::judging::Ending;
 use std::alloc::{AllocError, Global};
@@ -155,6 +155,8 @@ fn put_counts(
         "hold" => put_hold(&mut case.trouble.holds, numbers),
         "seed" => Ok(put_seed(&mut case.trouble, numbers)),
         "items" => Ok(put_items(&mut case.trouble, numbers)),
+        "steps" => Ok(put_look(case, Look::Steps, numbers)),
+        "blame" => Ok(put_look(case, Look::Blame, numbers)),
         _ => Ok(false),
     }
 }
@@ -270,6 +272,20 @@ fn put_items(trouble: &mut Trouble, numbers: &[u32]) -> bool {
             trouble.items = Some(*items);
             true
         }
+        _ => false,
+    }
+}
+
+// `steps F` or `blame F`: the frame that is looked into.
+fn put_look(case: &mut Case, look: Look, numbers: &[u32]) -> bool {
+    match numbers {
+        [frame] => put_way(
+            case,
+            Way::Look {
+                frame: *frame,
+                look,
+            },
+        ),
         _ => false,
     }
 }

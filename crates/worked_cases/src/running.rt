@@ -2,6 +2,7 @@
 use crate::case::{Case, Takes, Trouble, Way};
 use crate::gate::CaseGate;
 use crate::judging::{Ending, Outcome, is_same};
+use crate::looking::look_into;
 use gfx_query::{QueryStatus, run_queries};
 use io_edge::{MemSink, MemSource};
 use scene_player::{Played, Status, play, play_bytes_here};
@@ -10,7 +11,7 @@ use std::sync::Wait;
 use std::thread::Threads;
 
 // As many bytes as a run by its bytes alone takes.
-const MOST_BYTES: usize = 16_777_216;
+pub(crate) const MOST_BYTES: usize = 16_777_216;
 
 /// What a run left, and whether its threads were held as the case says.
 #[derive(Drop)]
@@ -58,7 +59,7 @@ fn ending_of_queries(status: QueryStatus) -> Ending {
     }
 }
 
-fn sink(alloc: Global, takes: &Takes) -> Result<MemSink, AllocError> {
+pub(crate) fn sink(alloc: Global, takes: &Takes) -> Result<MemSink, AllocError> {
     let fails = takes.fails.to_vec(alloc)?;
     MemSink::new(alloc, takes.capacity, takes.most.max(1), fails)
 }
@@ -149,6 +150,7 @@ fn run<R: Threads + Wait + Sync>(rt: &R, alloc: Global, case: &Case) -> Result<L
     match case.way {
         Way::Here { with_journal } => run_here(alloc, case, with_journal),
         Way::Queries => run_script(alloc, case),
+        Way::Look { frame, look } => look_into(alloc, case, frame, look),
         Way::Words | Way::Again => run_at_gate(rt, alloc, case),
     }
 }
