@@ -1,16 +1,21 @@
 -- Draws take their triangles from the same things of the stores and of the world.
-use Rattle.std.proofs.Common.{◌≡◌, ◌∙◌, ℕ, zero, suc, List, [], ◌∷◌, Option, Some, None, option_map, slice_get, refl, sym, ap, subst}
+use Rattle.std.proofs.Common.{◌≡◌, ◌∙◌, ℕ, zero, suc, ◌+◌, ◌<◌, ◌≤◌, List, [], ◌∷◌, Option, Some, None, option_map, slice_get, refl, sym, ap, subst, arith}
+use Rattle.std.proofs.lemmas.Option.{none-some}
+use Rattle.std.specs.Option.{option_and_then}
 use Rattle.std.specs.Prelude.{fold, take}
 use Rattle.std.specs.List.{cons_option}
-use Rattle.gfx_model.specs.World.{World, Content, Item, Draw, draw_item, FrameContent, Surface, begin_frame, frame_step, first_world, vertex_range, index_range}
-use Rattle.store_laws.specs.Standing.{Holding, held_in}
+use Rattle.gfx_model.specs.World.{World, Content, layout_content, vertex_content, index_content, texture_content, frame_buffer_content, program_content, uniform_content, Item, Draw, draw_item, FrameContent, Surface, begin_frame, frame_step, first_world, vertex_range, index_range}
+use Rattle.store_model.specs.Slots.{at}
+use Rattle.store_laws.specs.Standing.{Holding, held_in, StandsIn, serial_at, serials, thing_at}
 use Rattle.store_laws.specs.ByIndex.{Stores, FrameData, first_stores, frame_by_index, vertices_at, indices_at}
-use Rattle.store_laws.specs.Says.{StandsFor, Says, left, there_in, begun_things, ItemNames, ItemsName}
+use Rattle.store_laws.specs.Says.{StandsFor, program_in, Says, left, there_in, begun_things, ItemNames, ItemsName}
 use Rattle.store_laws.specs.Run.{Frames, no_frames, next_frame}
 use Rattle.store_laws.proofs.MadeLaws.{made_all}
 use Rattle.store_laws.proofs.FrameLaws.{frame_stands}
 use Rattle.store_laws.proofs.DeathLaws.{left_same}
-use Rattle.store_laws.proofs.LookLaws.{Keeps, vertices_same, indices_same}
+use Rattle.store_laws.proofs.Things.{found_place, serial_found}
+use Rattle.store_laws.proofs.HeldLaws.{stand_found}
+use Rattle.store_laws.proofs.LookLaws.{Keeps, here_of, vertices_same, indices_same}
 use Rattle.store_laws.proofs.Start.{start_stands}
 use Rattle.scene_model.specs.Scene.{Scene}
 use Rattle.scene_model.specs.Fold.{FramePlan, plans, first_progress}
@@ -49,6 +54,26 @@ run-says place h w gone fs cs s (next_frame {later = later} {f = g} {fs = more} 
 
 -- ---- its draws
 
+-- what stands at a place of programs is one
+program-at : (n : ℕ) (c : Content) (p : ℕ) → StandsIn c p → 3264 ≤ p → p < 3520 → program_in (n, c) ≡ None → ⊥
+program-at n (layout_content l) p s low high e = (let b = s.1 in omega (arith, b, low))
+program-at n (vertex_content l bytes) p s low high e = (let b = s.1 in omega (arith, b, low))
+program-at n (index_content bytes) p s low high e = (let b = s.1 in omega (arith, b, low))
+program-at n (texture_content f t) p s low high e = (let b = s.1 in omega (arith, b, low))
+program-at n (frame_buffer_content color depth) p s low high e = (let b = s.1 in omega (arith, b, low))
+program-at n (program_content k) p s low high e = none-some k (sym e)
+program-at n (uniform_content name v) p s low high e = (let a = s.0 in omega (arith, a, high))
+
+-- a program that is named is in the stores
+program-there : (place : ℕ → ℕ) (h : Stores) (w : World) (index serial : ℕ) → StandsFor place h w → index < 256 → serial_at place (serials w.things) (3264 + index) ≡ Some serial → at h.programs index ≡ None → ⊥
+program-there place h w index serial stands lt is none = go (thing_at place w.things (3264 + index)) refl
+  where
+    go : (o : Option (ℕ × Content)) → thing_at place w.things (3264 + index) ≡ o → ⊥
+    go None e = none-some serial (sym (ap (option_map (λ (t : ℕ × Content). t.0)) e) ∙ serial_found place w.things (3264 + index) ∙ is)
+    go (Some t) e =
+        program-at t.0 t.1 (3264 + index) (subst (λ (p : ℕ). StandsIn t.1 p) (found_place place w.things (3264 + index) t e) (stand_found place w.things (3264 + index) t stands.stand e)) (omega arith) (omega (arith, lt))
+        (sym (ap (option_and_then program_in) e) ∙ sym (stands.programs.each index lt) ∙ none)
+
 shaped : (place : ℕ → ℕ) (h : Stores) (w : World) (f : FrameData) (content : FrameContent) (d : Draw) → content.items ≡ draw_item d ∷ [] → Begins place h w f content
     → IsShapedIn (begun_by h f) (begin_frame content.gone content.changes w) d
 shaped place h w f content d is b =
@@ -64,6 +89,8 @@ shaped place h w f content d is b =
       height = ap (λ (b : Surface). b.color.height) keeps.stands.back;
       vertices = vertices_same place there held (begun_by h f) (begin_frame content.gone content.changes w) d.vertices keeps names.2;
       indices = indices_same place there held (begun_by h f) (begin_frame content.gone content.changes w) d.indices keeps names.3;
+      program = program-there place (begun_by h f) (begin_frame content.gone content.changes w) d.program.index d.program.serial keeps.stands names.0.0
+          (here_of place there held (begun_by h f) (begin_frame content.gone content.changes w) (3264 + d.program.index) d.program.serial keeps names.0.1);
     }
 
 -- ---- the scene

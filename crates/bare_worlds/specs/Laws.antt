@@ -1,6 +1,7 @@
 -- Laws of frames of which no item is done.
-use Rattle.std.specs.Prelude.{◌≡◌, ℕ, Some, take, slice_get}
+use Rattle.std.specs.Prelude.{◌≡◌, ℕ, None, Some, take, slice_get}
 use Rattle.gfx_model.specs.World.{World, Draw, draw_item, vertex_range, index_range}
+use Rattle.store_model.specs.Slots.{at}
 use Rattle.store_laws.specs.ByIndex.{Stores, FrameData, vertices_at, indices_at}
 use Rattle.scene_model.specs.Scene.{Scene}
 use Rattle.scene_model.specs.Fold.{FramePlan, plans}
@@ -11,12 +12,13 @@ use Rattle.shared_keys.specs.Lines.{shared_views}
 use Rattle.bare_worlds.specs.Bare.{bare_worlds, bare_stores, begun_by}
 use Rattle.bare_worlds.specs.Views.{IsHarmlessView}
 
--- what a draw takes its triangles from is in the stores what it is in the world, and the back buffers have the same sides
+-- what a draw takes its triangles from is in the stores what it is in the world, the back buffers have the same sides, and the stores have the draw's program
 pub record IsShapedIn (h : Stores) (w : World) (d : Draw) : Type 0 where
   pub width : h.back.color.width ≡ w.back.color.width
   pub height : h.back.color.height ≡ w.back.color.height
   pub vertices : vertices_at h.buffers d.vertices ≡ vertex_range w d.vertices
   pub indices : indices_at h.buffers d.indices ≡ index_range w d.indices
+  pub program : at h.programs d.program.index ≡ None → ⊥
 
 -- the stores in which nothing is drawn of a scene's frames by index, when a frame's first commands are executed, stand for the world in which its
 -- items begin where no item is done: each draw of the frame takes its triangles from the same
