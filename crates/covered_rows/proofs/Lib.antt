@@ -1,0 +1,4 @@
+pub mod Order
+pub mod Swept
+mod Meeting
+pub mod Covered
