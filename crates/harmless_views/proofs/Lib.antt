@@ -1,0 +1,6 @@
+mod Covers
+pub mod Leaving
+mod Checking
+mod Mattering
+mod Seeing
+mod Harmless
