@@ -5,11 +5,11 @@ use Rattle.std.proofs.lemmas.Option.{none-some, same_Some}
 use Rattle.io_edge.specs.Edge.{with_front, IsSpent}
 use Rattle.scene_model.specs.Scene.{Scene}
 use Rattle.scene_model.specs.Grammar.{Fault, whole_language, scene_of}
-use Rattle.gfx_shares.specs.Lines.{text_of}
+use Rattle.gfx_shares.specs.Lines.{IsText}
 use Rattle.gfx_shares.specs.declared.words.Job.{Job}
 use Rattle.io_whole.specs.Whole.{longest, IsRead, HasMoreThan}
 use Rattle.gfx_shares.specs.Ended.{IsScene, Ended, EndsAs}
-use Rattle.gfx_shares.specs.Putting.{IsNoted}
+use Rattle.gfx_shares.specs.Putting.{IsNoted, IsPut}
 use Rattle.gfx_shares.specs.declared.status.SharesStatus.{SharesStatus}
 use Rattle.gfx_shares.specs.declared.status.SharesStatus.TheVariants as status
 
@@ -32,12 +32,22 @@ abbrev fault_in : Fault → Result Scene Fault → Fault
 fault_in d (Ok s) = d
 fault_in d (Err fault) = fault
 
+-- a text of a kind that was put
+pub put_noted : (Is : List ℕ → Type 0) (st : SharesStatus) (text : List ℕ) (old new : Option (List ℕ)) (pf : Type 0) → IsPut st text old new pf → Is text → IsNoted st Is old new pf
+put_noted Is status.Done text old new pf h is = (text, is, h)
+put_noted Is status.NoteFault text old new pf h is = (text, is, h.0, h.1)
+put_noted Is status.Usage text old new pf h is = absurd h
+put_noted Is (status.Scene line cause) text old new pf h is = absurd h
+put_noted Is status.ReadFault text old new pf h is = absurd h
+put_noted Is status.TooLong text old new pf h is = absurd h
+put_noted Is status.OutOfMemory text old new pf h is = absurd h
+
 -- the lines of a scene that was read
-pub noted_ended : (job : Job) (st : SharesStatus) (bytes : List ℕ) (s : Scene) (before after old new : Option (List ℕ)) (rf pf : Type 0) → IsScene bytes s before after → IsNoted st (text_of job bytes s) old new pf → Ended job st before after old new rf pf
-noted_ended job status.Done bytes s before after old new rf pf r h = (bytes, s, r, h)
+pub noted_ended : (job : Job) (st : SharesStatus) (bytes : List ℕ) (s : Scene) (before after old new : Option (List ℕ)) (rf pf : Type 0) → IsScene bytes s before after → IsNoted st (IsText job bytes s) old new pf → Ended job st before after old new rf pf
+noted_ended job status.Done bytes s before after old new rf pf r h = (bytes, s, h.0, r, h.1, h.2)
 noted_ended job (status.Scene line cause) bytes s before after old new rf pf r h = absurd h
 noted_ended job status.ReadFault bytes s before after old new rf pf r h = absurd h
-noted_ended job status.NoteFault bytes s before after old new rf pf r h = (bytes, s, r, h.0, h.1)
+noted_ended job status.NoteFault bytes s before after old new rf pf r h = (bytes, s, h.0, r, h.1, h.2, h.3)
 noted_ended job status.TooLong bytes s before after old new rf pf r h = absurd h
 noted_ended job status.OutOfMemory bytes s before after old new rf pf r h = h
 noted_ended job status.Usage bytes s before after old new rf pf r h = absurd h
@@ -46,10 +56,10 @@ few_told : (bytes b : List ℕ) (before after : Option (List ℕ)) → before �
 few_told bytes b before after told r many = let same : length b ≡ length bytes = ap length (read_told bytes b before after told r) in omega (arith, same, r.few, many)
 
 pub too_long : (job : Job) (st : SharesStatus) (before after old new : Option (List ℕ)) (rf pf : Type 0) (bytes : List ℕ) → Ended job st before after old new rf pf → before ≡ Some bytes → longest < length bytes → (rf → ⊥) → EndsAs status.TooLong st
-too_long job status.Done before after old new rf pf bytes (b, s, r, p) told many nf = absurd (few_told bytes b before after told r.read many)
+too_long job status.Done before after old new rf pf bytes (b, s, x, r, i, p) told many nf = absurd (few_told bytes b before after told r.read many)
 too_long job (status.Scene line cause) before after old new rf pf bytes (b, r, e, u) told many nf = absurd (few_told bytes b before after told r many)
 too_long job status.ReadFault before after old new rf pf bytes (f, u) told many nf = absurd (nf f)
-too_long job status.NoteFault before after old new rf pf bytes (b, s, r, p, f) told many nf = absurd (few_told bytes b before after told r.read many)
+too_long job status.NoteFault before after old new rf pf bytes (b, s, x, r, i, p, f) told many nf = absurd (few_told bytes b before after told r.read many)
 too_long job status.TooLong before after old new rf pf bytes h told many nf = inl refl
 too_long job status.OutOfMemory before after old new rf pf bytes h told many nf = inr refl
 too_long job status.Usage before after old new rf pf bytes h told many nf = absurd h
@@ -59,12 +69,12 @@ read_scene bytes = scene_of whole_language bytes
 
 pub refused : (job : Job) (st : SharesStatus) (before after old new : Option (List ℕ)) (rf pf : Type 0) (bytes : List ℕ) (fault : Fault) → Ended job st before after old new rf pf → before ≡ Some bytes → length bytes ≤ longest → read_scene bytes ≡ Err fault → (rf → ⊥)
     → EndsAs (status.Scene fault.line fault.cause) st
-refused job status.Done before after old new rf pf bytes fault (b, s, r, p) told few is nf = absurd (cc (sym r.is ∙ ap read_scene (read_told bytes b before after told r.read) ∙ is))
+refused job status.Done before after old new rf pf bytes fault (b, s, x, r, i, p) told few is nf = absurd (cc (sym r.is ∙ ap read_scene (read_told bytes b before after told r.read) ∙ is))
 refused job (status.Scene line cause) before after old new rf pf bytes fault (b, r, e, u) told few is nf =
     let found : Fault = record { line = line; cause = cause } in
     inl (ap (λ (x : Fault). status.Scene x.line x.cause) (ap (fault_in found) (sym e ∙ ap read_scene (read_told bytes b before after told r) ∙ is)))
 refused job status.ReadFault before after old new rf pf bytes fault (f, u) told few is nf = absurd (nf f)
-refused job status.NoteFault before after old new rf pf bytes fault (b, s, r, p, f) told few is nf = absurd (cc (sym r.is ∙ ap read_scene (read_told bytes b before after told r.read) ∙ is))
+refused job status.NoteFault before after old new rf pf bytes fault (b, s, x, r, i, p, f) told few is nf = absurd (cc (sym r.is ∙ ap read_scene (read_told bytes b before after told r.read) ∙ is))
 refused job status.TooLong before after old new rf pf bytes fault (h, u) told few is nf = let many = many_told longest bytes before told h in absurd (omega (arith, many, few))
 refused job status.OutOfMemory before after old new rf pf bytes fault h told few is nf = inr refl
 refused job status.Usage before after old new rf pf bytes fault h told few is nf = absurd h
@@ -73,7 +83,7 @@ pub complete : (job : Job) (st : SharesStatus) (before after old new : Option (L
 complete job status.Done before after old new rf pf bytes s h told few is nf np = inl refl
 complete job (status.Scene line cause) before after old new rf pf bytes s (b, r, e, u) told few is nf np = absurd (cc (sym e ∙ ap read_scene (read_told bytes b before after told r) ∙ is))
 complete job status.ReadFault before after old new rf pf bytes s (f, u) told few is nf np = absurd (nf f)
-complete job status.NoteFault before after old new rf pf bytes s (b, t, r, p, f) told few is nf np = absurd (np f)
+complete job status.NoteFault before after old new rf pf bytes s (b, t, x, r, i, p, f) told few is nf np = absurd (np f)
 complete job status.TooLong before after old new rf pf bytes s (h, u) told few is nf np = let many = many_told longest bytes before told h in absurd (omega (arith, many, few))
 complete job status.OutOfMemory before after old new rf pf bytes s h told few is nf np = inr refl
 complete job status.Usage before after old new rf pf bytes s h told few is nf np = absurd h

@@ -1,3 +1,4 @@
 mod Ends
 mod Lists
+mod Judged
 mod Free

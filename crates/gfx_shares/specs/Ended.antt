@@ -3,7 +3,7 @@ use Rattle.std.specs.Prelude.{◌≡◌, ◌⊎◌, ℕ, List, Option, Some, Non
 use Rattle.io_edge.specs.Edge.{with_back}
 use Rattle.scene_model.specs.Scene.{Scene}
 use Rattle.scene_model.specs.Grammar.{whole_language, scene_of}
-use Rattle.gfx_shares.specs.Lines.{text_of}
+use Rattle.gfx_shares.specs.Lines.{IsText}
 use Rattle.gfx_shares.specs.declared.words.Job.{Job}
 use Rattle.io_whole.specs.Whole.{longest, IsRead, HasMoreThan, HasFront}
 use Rattle.gfx_shares.specs.declared.status.SharesStatus.{SharesStatus}
@@ -17,12 +17,12 @@ pub record IsScene (bytes : List ℕ) (s : Scene) (before after : Option (List �
 -- of a job; before and after: what the source has left; old and new: what the notes hold; the last two: a read failed, a put failed
 abbrev pub Ended : Job → SharesStatus → (before after old new : Option (List ℕ)) → Type 0 → Type 0 → Type 0
 Ended job status.Done before after old new read_failed put_failed =
-    (bytes : List ℕ) × (s : Scene) × IsScene bytes s before after × (new ≡ with_back old (text_of job bytes s))
+    (bytes : List ℕ) × (s : Scene) × (text : List ℕ) × IsScene bytes s before after × IsText job bytes s text × (new ≡ with_back old text)
 Ended job (status.Scene line cause) before after old new read_failed put_failed =
     (bytes : List ℕ) × IsRead bytes before after × (scene_of whole_language bytes ≡ Err (record { line = line; cause = cause })) × (new ≡ old)
 Ended job status.ReadFault before after old new read_failed put_failed = read_failed × (new ≡ old)
 Ended job status.NoteFault before after old new read_failed put_failed =
-    (bytes : List ℕ) × (s : Scene) × IsScene bytes s before after × HasFront old (text_of job bytes s) new × put_failed
+    (bytes : List ℕ) × (s : Scene) × (text : List ℕ) × IsScene bytes s before after × IsText job bytes s text × HasFront old text new × put_failed
 Ended job status.TooLong before after old new read_failed put_failed = HasMoreThan longest before × (new ≡ old)
 Ended job status.OutOfMemory before after old new read_failed put_failed = new ≡ old
 Ended job status.Usage before after old new read_failed put_failed = ⊥

@@ -1,5 +1,5 @@
 -- The lines that a run puts.
-use Rattle.std.specs.Prelude.{ℕ, ◌+◌, List, [], ◌∷◌, ◌++◌, map}
+use Rattle.std.specs.Prelude.{◌≡◌, ℕ, ◌+◌, List, [], ◌∷◌, ◌++◌, map}
 use Rattle.gfx_model.specs.Frames.{Entry}
 use Rattle.scene_model.specs.Scene.{Scene}
 use Rattle.scene_model.specs.Fold.{plans}
@@ -7,6 +7,7 @@ use Rattle.shared_keys.specs.Lines.{shared_lines}
 use Rattle.shared_items.specs.Items.{frame_pairs}
 use Rattle.shared_items.specs.Lines.{paired_lines}
 use Rattle.item_lines.specs.Items.{item_lines}
+use Rattle.gfx_shares.specs.Left.{HasLeftLines}
 use Rattle.gfx_shares.specs.declared.words.Job.{Job}
 use Rattle.gfx_shares.specs.declared.words.Job.TheVariants as jobs
 
@@ -19,7 +20,8 @@ pairs_from bytes s k (pairs ∷ rest) = paired_lines k (item_lines bytes s k) pa
 abbrev pub pair_lines : (bytes : List ℕ) → Scene → List ℕ
 pair_lines bytes s = pairs_from bytes s 0 (map frame_pairs (plans s))
 
--- the lines of a scene that was read of bytes
-abbrev pub text_of : Job → (bytes : List ℕ) → Scene → List ℕ
-text_of jobs.Views bytes s = shared_lines s
-text_of jobs.Pairs bytes s = pair_lines bytes s
+-- a text is the lines that a job asks for of a scene that was read of bytes
+abbrev pub IsText : Job → (bytes : List ℕ) → Scene → List ℕ → Type 0
+IsText jobs.Views bytes s text = text ≡ shared_lines s
+IsText jobs.Pairs bytes s text = text ≡ pair_lines bytes s
+IsText jobs.Harmless bytes s text = ∥ HasLeftLines s text ∥₁

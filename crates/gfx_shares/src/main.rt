@@ -1,11 +1,13 @@
 //! `gfx_shares`: reads the scene on standard input, and writes to standard output in which views of which frames two encoders share a key,
 //! so that the pictures can depend on the threads' schedule. `gfx_shares pairs` writes with each the least pair of items that share one, with
-//! their lines.
+//! their lines. `gfx_shares harmless` leaves out the views of which no pixel cares.
 //!
 //! The exit status is the number of the run's status: 0 done, 1 refused words, 2 no scene, 3 a read failed, 5 a write failed, 6 an input that
 //! is too long, 8 memory ran out.
 #![tactic(auto)]
 
+mod harmless;
+mod leaving;
 mod lines;
 mod listing;
 mod pairing;

@@ -1,5 +1,5 @@
 // The call.
-ghost use Rattle.std.specs.Prelude.{◌≡◌, ◌↔◌, ◌≤◌, ◌<◌, false, ℕ, List, Some, Ok, Err, length, map, string_bytes, IfOk};
+ghost use Rattle.std.specs.Prelude.{◌≡◌, ◌≢◌, ◌↔◌, ◌≤◌, ◌<◌, false, ℕ, List, Some, Ok, Err, length, map, string_bytes, IfOk};
 ghost use Rattle.io_edge.specs.Edge.{Rose};
 ghost use Rattle.scene_model.specs.Scene as model;
 ghost use Rattle.scene_model.specs.Grammar.{Fault, whole_language, scene_of};
@@ -10,15 +10,17 @@ ghost use Rattle.scene_text.specs.Seen.{scene_seen};
 ghost use Rattle.shared_keys.specs.Lines.{shared_lines};
 ghost use Rattle.io_whole.specs.Whole.{longest};
 ghost use Rattle.gfx_shares.specs.Ended.{Ended, Ends, EndsAs};
-ghost use Rattle.gfx_shares.specs.Lines.{pair_lines, text_of};
-ghost use Rattle.gfx_shares.specs.Putting.{IsNoted};
+ghost use Rattle.gfx_shares.specs.Lines.{IsText, pair_lines};
+ghost use Rattle.gfx_shares.specs.Putting.{IsNoted, IsPut};
 ghost use Rattle.gfx_shares.specs.Words.{job_of};
 
+use crate::harmless::left_lines;
 use crate::lines::lines_of;
 use crate::pairs::{pair_lines_of, scene_pairs};
 use crate::status::SharesStatus;
 use crate::views::scene_views;
 use crate::words::{Job, job_of};
+use bare_worlds::laws::harmless_law;
 use io_edge::{Sink, Source};
 use io_whole::{InputError, LONGEST_INPUT, put_all, read_all};
 use scene_text::{Scene, SceneFault, read};
@@ -71,11 +73,24 @@ fn job_lines<R: Threads + Wait + Sync>(
     requires few { length bytes.now ≤ 16777216 }
     requires readable { IsReadable (scene_seen scene.now) }
     requires bounded { IsBounded (scene_seen scene.now) }
-    ensures { IfOk result (λ lines. lines.items ≡ text_of job bytes.now (scene_seen scene.now)) }
+    ensures { IfOk result (λ lines. IsText job bytes.now (scene_seen scene.now) lines.items) }
 {
     match job {
         Job::Views => view_lines(rt, alloc, scene),
         Job::Pairs => pair_lines(rt, alloc, bytes, scene),
+        Job::Harmless => left_lines(rt, alloc, scene),
+    }
+}
+
+/// Puts lines.
+fn put_lines<N: Sink>(lines: &[u8], notes: &mut N) -> SharesStatus
+    ensures put { IsPut result lines.now (N.held notes.old) (N.held notes.new) (Rose (N.faults notes.old) (N.faults notes.new)) }
+    ensures sure { N.sure notes.new ≡ N.sure notes.old }
+    ensures no_fewer { N.faults notes.old ≤ N.faults notes.new }
+{
+    match put_all(notes, lines) {
+        Ok(()) => SharesStatus::Done,
+        Err(_) => SharesStatus::NoteFault,
     }
 }
 
@@ -91,15 +106,12 @@ fn note_scene<R: Threads + Wait + Sync, N: Sink>(
     requires few { length bytes.now ≤ 16777216 }
     requires readable { IsReadable (scene_seen scene.now) }
     requires bounded { IsBounded (scene_seen scene.now) }
-    ensures noted { IsNoted result (text_of job bytes.now (scene_seen scene.now)) (N.held notes.old) (N.held notes.new) (Rose (N.faults notes.old) (N.faults notes.new)) }
+    ensures noted { IsNoted result (IsText job bytes.now (scene_seen scene.now)) (N.held notes.old) (N.held notes.new) (Rose (N.faults notes.old) (N.faults notes.new)) }
     ensures sure { N.sure notes.new ≡ N.sure notes.old }
     ensures no_fewer { N.faults notes.old ≤ N.faults notes.new }
 {
     match job_lines(rt, alloc, job, bytes, scene) {
-        Ok(lines) => match put_all(notes, lines.as_slice()) {
-            Ok(()) => SharesStatus::Done,
-            Err(_) => SharesStatus::NoteFault,
-        },
+        Ok(lines) => put_lines(lines.as_slice(), notes),
         Err(_) => SharesStatus::OutOfMemory,
     }
 }
@@ -152,8 +164,10 @@ fn run<R: Threads + Wait + Sync, S: Source, N: Sink>(
 /// pair of such encoders. With the word `pairs` there is a second line behind it,
 /// `pair frame K view V encoder A item I line L encoder B item J line M`: item I of encoder A and item J of encoder B share a key, I is the
 /// first item of A that shares one with an item of B in the view, and J the first item of B that shares one with it; L and M are the
-/// numbers of the lines of the text that record them, from 1. Other words are refused, and nothing is read. Where it is done and no line
-/// was put, the pictures do not depend on the threads' schedule.
+/// numbers of the lines of the text that record them, from 1. With the word `harmless` the first line stands alone, and it is left out
+/// exactly where no pixel of the back buffer cares: where the view draws onto it, each of its items that shares a key with one of another
+/// encoder is a draw without values, and no pixel is covered by both. Other words are refused, and nothing is read. Where it is done and
+/// no line was put, the pictures do not depend on the threads' schedule.
 ///
 /// All frames are recorded, by recorder threads where they can be started, before a line is put; none is rendered. Resource calls of
 /// the scene's lines that are refused are dropped, as in a play.
@@ -173,10 +187,11 @@ pub fn shares<R: Threads + Wait + Sync, S: Source, N: Sink>(
     // The sink keeps its sure length, and no count of faults falls.
     ensures sure { N.sure notes.new ≡ N.sure notes.old }
     ensures no_fewer { (S.faults source.old ≤ S.faults source.new) × (N.faults notes.old ≤ N.faults notes.new) }
-    // Where it was done, nothing was put exactly where no two encoders of a frame share a key.
-    ensures silent { (bytes text : List ℕ) (s : model.Scene) → S.left source.old ≡ Some bytes → scene_of whole_language bytes ≡ Ok s → N.held notes.old ≡ Some text
+    // Where it was done, nothing was put exactly where no two encoders of a frame share a key, but where harmless views are left out.
+    ensures silent { (job : Job) (bytes text : List ℕ) (s : model.Scene) → job_of (map string_bytes words.now) ≡ Some job → job ≢ Job.Harmless
+        → S.left source.old ≡ Some bytes → scene_of whole_language bytes ≡ Ok s → N.held notes.old ≡ Some text
         → result ≡ SharesStatus.Done → (N.held notes.new ≡ Some text) ↔ (shares_key s ≡ false) }
-    // Then every two lawful journals give the same pictures.
+    // Where it was done and nothing was put, by whatever words, every two lawful journals give the same pictures.
     ensures free { (bytes text : List ℕ) (s : model.Scene) → S.left source.old ≡ Some bytes → scene_of whole_language bytes ≡ Ok s → N.held notes.old ≡ Some text
         → result ≡ SharesStatus.Done → N.held notes.new ≡ Some text → (j k : Journal) → IsLawful s j → IsLawful s k → pictures s j ≡ pictures s k }
     // Where the words ask for something, and the source told too many bytes and did not fail.
@@ -192,5 +207,6 @@ pub fn shares<R: Threads + Wait + Sync, S: Source, N: Sink>(
     no_line_law();
     free_law();
     pairs_law();
+    harmless_law();
     run(rt, alloc, words, source, notes)
 }

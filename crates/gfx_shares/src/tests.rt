@@ -29,6 +29,8 @@ static NO_WORD: [&str; 0] = [];
 
 static PAIRS: [&str; 1] = ["pairs"];
 
+static HARMLESS: [&str; 1] = ["harmless"];
+
 static NO_CALL: [u32; 0] = [];
 
 static FIRST_CALL: [u32; 1] = [0];
@@ -103,6 +105,43 @@ fn two_encoders_share_or_not(rt: HostRuntime) -> Result<(), Fail> {
     Ok(())
 }
 
+// Triangles in the halves of the picture; some over all of it, parted by scissors; halves of which one has a value, or that go into a frame
+// buffer; halves of which the one is moved over the other in the second frame, and scissors part them in the third.
+#[test]
+fn views_of_which_a_pixel_cares(rt: HostRuntime) -> Result<(), Fail> {
+    let scenes: [(&[u8], &[u8]); 5] = [
+        (
+            b"scene 1\nsize 4 4\nencoders 2\nframe\nlayout l position:fixed:2\nprogram s solid\nencoder 0\ntvertices l 0000ffff0000ffff000000000000ffff0000ffff00000100\nsubmit 0 s 0 255\nencoder 1\ntvertices l 000000000000ffff000001000000ffff0000000000000100\nsubmit 0 s 0 255\ndone\n",
+            b"",
+        ),
+        (
+            b"scene 1\nsize 4 4\nencoders 2\nframe\nlayout l position:fixed:2\nprogram s solid\nencoder 0\ntvertices l 0000ffff0000ffff000003000000ffff0000ffff00000300\nscissor 0 0 2 4\nsubmit 0 s 0 255\nencoder 1\ntvertices l 0000ffff0000ffff000003000000ffff0000ffff00000300\nscissor 2 0 2 4\nsubmit 0 s 0 255\ndone\n",
+            b"",
+        ),
+        (
+            b"scene 1\nsize 4 4\nencoders 2\nframe\nlayout l position:fixed:2\nprogram s solid\nuniform i int\nencoder 0\ntvertices l 0000ffff0000ffff000000000000ffff0000ffff00000100\nset i 1\nsubmit 0 s 0 255\nencoder 1\ntvertices l 000000000000ffff000001000000ffff0000000000000100\nsubmit 0 s 0 255\ndone\n",
+            b"frame 0 view 0 encoders 0 1\n",
+        ),
+        (
+            b"scene 1\nsize 4 4\nencoders 2\nframe\nlayout l position:fixed:2\nprogram s solid\ntexture t 4 4 rgba8 - fill:00000000\nfb f t -\nview 0 target f\nencoder 0\ntvertices l 0000ffff0000ffff000000000000ffff0000ffff00000100\nsubmit 0 s 0 255\nencoder 1\ntvertices l 000000000000ffff000001000000ffff0000000000000100\nsubmit 0 s 0 255\ndone\n",
+            b"frame 0 view 0 encoders 0 1\n",
+        ),
+        (
+            b"scene 1\nsize 4 4\nencoders 2\nframe\nlayout l position:fixed:2\nprogram s solid\nvb a l 0000ffff0000ffff000000000000ffff0000ffff00000100\nvb b l 000000000000ffff000001000000ffff0000000000000100\nencoder 0\nvertices a 0 3\nsubmit 0 s 0 255\nencoder 1\nvertices b 0 3\nsubmit 0 s 0 255\nframe\nupdate b 0 0000ffff0000ffff000000000000ffff0000ffff00000100\nencoder 0\nvertices a 0 3\nsubmit 0 s 0 255\nencoder 1\nvertices b 0 3\nsubmit 0 s 0 255\nframe\nencoder 0\nvertices a 0 3\nscissor 0 0 1 4\nsubmit 0 s 0 255\nencoder 1\nvertices b 0 3\nscissor 1 0 1 4\nsubmit 0 s 0 255\ndone\n",
+            b"frame 1 view 0 encoders 0 1\n",
+        ),
+    ];
+    for (text, lines) in scenes {
+        let asked = Run {
+            words: &HARMLESS,
+            ..plain_run(text)
+        };
+        let (status, _, same) = left_by(&rt, rt.alloc(), asked, lines)?;
+        assert_eq!(rt; (status, same), (SharesStatus::Done, true));
+    }
+    Ok(())
+}
+
 #[test]
 fn the_first_line_that_fails(rt: HostRuntime) -> Result<(), Fail> {
     let texts: [(&[u8], u32, u8); 4] = [
@@ -124,7 +163,14 @@ fn the_first_line_that_fails(rt: HostRuntime) -> Result<(), Fail> {
 
 #[test]
 fn words_that_ask_for_nothing(rt: HostRuntime) -> Result<(), Fail> {
-    let refused: [&[&str]; 4] = [&["pair"], &["pairss"], &[""], &["pairs", "pairs"]];
+    let refused: [&[&str]; 6] = [
+        &["pair"],
+        &["pairss"],
+        &["harmles"],
+        &[""],
+        &["pairs", "pairs"],
+        &["pairs", "harmless"],
+    ];
     for words in refused {
         let asked = Run {
             words,

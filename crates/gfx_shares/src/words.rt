@@ -1,6 +1,6 @@
 // The words of the command line.
 ghost use Rattle.std.specs.Prelude.{◌≡◌, map, string_bytes};
-ghost use Rattle.gfx_shares.specs.Words.{job_of};
+ghost use Rattle.gfx_shares.specs.Words.{job_named, job_of};
 
 /// What the words ask for.
 #[derive(Clone, Copy, Debug, PartialEq, Eq, Drop)]
@@ -9,20 +9,28 @@ pub enum Job {
     Views,
     /// These, each with the least pair of items that share one.
     Pairs,
+    /// These without the harmless ones, of which no pixel cares.
+    Harmless,
 }
 
-/// What the words ask for: none, or `pairs`.
+/// What a word asks for.
+fn job_named(word: &str) -> Option<Job>
+    ensures { result ≡ job_named word.now }
+{
+    match word {
+        "pairs" => Some(Job::Pairs),
+        "harmless" => Some(Job::Harmless),
+        _ => None,
+    }
+}
+
+/// What the words ask for: none for the views, or one word alone.
 pub(crate) fn job_of(words: &[String]) -> Option<Job>
     ensures { result ≡ job_of (map string_bytes words.now) }
 {
     match words {
         [] => Some(Job::Views),
-        [word] => {
-            if word.as_str() != "pairs" {
-                return None;
-            }
-            Some(Job::Pairs)
-        }
+        [word] => job_named(word.as_str()),
         _ => None,
     }
 }

@@ -15,7 +15,9 @@ pub returns-clause-complete : goal.returns-clause-complete
 returns-clause-complete g c job bytes s asked told few is nf np = complete job c.run.result _ _ _ _ _ _ bytes s (job_ended _ job _ _ _ _ _ _ _ asked c.run.ensures.ends) told few is nf np
 
 pub returns-clause-silent : goal.returns-clause-silent
-returns-clause-silent g c bytes text s told is was done = silent c.run.result _ _ _ _ _ _ bytes text s told is was done c.pairs_law.ensures (job_of (map string_bytes c.args.words.now)) c.run.ensures.ends c.no_line_law.ensures
+returns-clause-silent g c job bytes text s asked other told is was done =
+    silent c.run.result _ _ _ _ _ _ bytes text s told is was done c.pairs_law.ensures job other (job_ended _ job _ _ _ _ _ _ _ asked c.run.ensures.ends) c.no_line_law.ensures
 
 pub returns-clause-free : goal.returns-clause-free
-returns-clause-free g c bytes text s told is was done same j k lj lk = free c.run.result _ _ _ _ _ _ bytes text s told is was done c.pairs_law.ensures (job_of (map string_bytes c.args.words.now)) c.run.ensures.ends c.free_law.ensures same j k lj lk
+returns-clause-free g c bytes text s told is was done same =
+    free c.run.result _ _ _ _ _ _ bytes text s told is was done c.pairs_law.ensures (job_of (map string_bytes c.args.words.now)) c.run.ensures.ends c.free_law.ensures c.harmless_law.ensures same
