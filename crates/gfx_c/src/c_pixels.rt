@@ -1,11 +1,9 @@
 // Pixels for C.
 ghost use Rattle.std.specs.Prelude.{◌≡◌};
-ghost use Rattle.gfx_c.specs.Exports.{OnContext};
-ghost use Rattle.gfx_c.specs.Pixels.{ReadsHere};
+ghost use Rattle.c_calls.specs.Exports.{OnContext};
+ghost use Rattle.c_calls.specs.Pixels.{ReadsHere};
 
-use crate::objects::Object;
-use crate::slot::{Slot, put, take};
-use c_words::{NO_OBJECT, status};
+use c_calls::{Slot, read_pixels};
 use std::alloc::Global;
 
 /// Reads a texture, or the back buffer by 0, as the frames so far left it, into a buffer with a stride.
@@ -20,18 +18,5 @@ pub extern "C" fn vgfx_read_pixels(
 ) -> u32
     ensures { OnContext context.old.value context.new.value result (λ r c d. (d ≡ c) × ReadsHere r texture format stride pixels.old pixels.new c) (pixels.new ≡ pixels.old) }
 {
-    let Some(mut object) = take(context, alloc) else {
-        return NO_OBJECT;
-    };
-    match &mut *object {
-        Object::Api(api) => {
-            let answer = api.read(texture, format, stride, pixels);
-            put(context, object);
-            status(answer)
-        }
-        _ => {
-            put(context, object);
-            NO_OBJECT
-        }
-    }
+    read_pixels(alloc, context, texture, format, pixels, stride)
 }

@@ -1,9 +1,9 @@
 // Scenes as text for C.
 ghost use Rattle.std.specs.Prelude.{◌≡◌};
-ghost use Rattle.gfx_c.specs.Plays.{Plays, end_number, told_of};
-ghost use Rattle.gfx_c.specs.declared.playing.PlayEnd.{PlayEnd as End};
+ghost use Rattle.c_playing.specs.Plays.{Plays, end_number, told_of};
+ghost use Rattle.c_playing.specs.declared.playing.PlayEnd.{PlayEnd as End};
 
-use crate::playing::{PlayEnd, Played, play_text};
+use c_playing::{PlayEnd, Played, play_text};
 use std::alloc::Global;
 
 const OUT_OF_MEMORY: u32 = 17;

@@ -2,16 +2,15 @@
 ghost use Rattle.std.specs.Prelude.{◌≡◌, ◌∷◌, []};
 ghost use Rattle.gfx_model.specs.Recorder as calls;
 ghost use Rattle.gfx_model.specs.Words.{vec4_value, int_value};
-ghost use Rattle.gfx_c.specs.Calls.{Records, DiscardsHere, OnThing, OnMaybe};
-ghost use Rattle.gfx_c.specs.Exports.{OnEncoder};
+ghost use Rattle.c_calls.specs.Calls.{Records, DiscardsHere, OnThing, OnMaybe};
+ghost use Rattle.c_calls.specs.Exports.{OnEncoder};
 
-use crate::objects::Object;
-use crate::recording::Copied;
-use crate::slot::{Slot, put, take};
-use crate::transform::Transform;
-use c_words::{NO_OBJECT, status};
-use fix_math::{Affine, Rect};
-use gfx_words::UniformValue;
+use c_calls::{
+    Slot, Transform, encoder_blit, encoder_discard, encoder_set_indices, encoder_set_int,
+    encoder_set_scissor, encoder_set_state, encoder_set_stencil, encoder_set_texture,
+    encoder_set_transform, encoder_set_transient_indices, encoder_set_transient_vertices,
+    encoder_set_vec4, encoder_set_vertices, encoder_submit, encoder_touch,
+};
 use std::alloc::Global;
 
 /// Sets the state word of the next draws.
@@ -19,20 +18,7 @@ use std::alloc::Global;
 pub extern "C" fn vgfx_encoder_set_state(alloc: Global, encoder: &mut Slot, word: u64) -> u32
     ensures { OnEncoder encoder.old.value encoder.new.value result (λ r c d. Records r (calls.set_state word) c d) }
 {
-    let Some(mut object) = take(encoder, alloc) else {
-        return NO_OBJECT;
-    };
-    match &mut *object {
-        Object::Recording(recording) => {
-            let answer = recording.set_state(word);
-            put(encoder, object);
-            status(answer)
-        }
-        _ => {
-            put(encoder, object);
-            NO_OBJECT
-        }
-    }
+    encoder_set_state(alloc, encoder, word)
 }
 
 /// Sets the stencil words for triangles that face to the front and to the back; 0 is no stencil.
@@ -45,20 +31,7 @@ pub extern "C" fn vgfx_encoder_set_stencil(
 ) -> u32
     ensures { OnEncoder encoder.old.value encoder.new.value result (λ r c d. Records r (calls.set_stencil front back) c d) }
 {
-    let Some(mut object) = take(encoder, alloc) else {
-        return NO_OBJECT;
-    };
-    match &mut *object {
-        Object::Recording(recording) => {
-            let answer = recording.set_stencil(front, back);
-            put(encoder, object);
-            status(answer)
-        }
-        _ => {
-            put(encoder, object);
-            NO_OBJECT
-        }
-    }
+    encoder_set_stencil(alloc, encoder, front, back)
 }
 
 /// Sets the scissor in pixels; with both sides 0 there is none.
@@ -73,20 +46,7 @@ pub extern "C" fn vgfx_encoder_set_scissor(
 ) -> u32
     ensures { OnEncoder encoder.old.value encoder.new.value result (λ r c d. Records r (calls.set_scissor (record { x = x; y = y; w = w; h = h })) c d) }
 {
-    let Some(mut object) = take(encoder, alloc) else {
-        return NO_OBJECT;
-    };
-    match &mut *object {
-        Object::Recording(recording) => {
-            let answer = recording.set_scissor(Rect { x, y, w, h });
-            put(encoder, object);
-            status(answer)
-        }
-        _ => {
-            put(encoder, object);
-            NO_OBJECT
-        }
-    }
+    encoder_set_scissor(alloc, encoder, x, y, w, h)
 }
 
 /// Sets the transform from the vertices to the view.
@@ -98,20 +58,7 @@ pub extern "C" fn vgfx_encoder_set_transform(
 ) -> u32
     ensures { OnEncoder encoder.old.value encoder.new.value result (λ r c d. Records r (calls.set_transform transform.now.m) c d) }
 {
-    let Some(mut object) = take(encoder, alloc) else {
-        return NO_OBJECT;
-    };
-    match &mut *object {
-        Object::Recording(recording) => {
-            let answer = recording.set_transform(Affine { m: transform.m });
-            put(encoder, object);
-            status(answer)
-        }
-        _ => {
-            put(encoder, object);
-            NO_OBJECT
-        }
-    }
+    encoder_set_transform(alloc, encoder, transform)
 }
 
 /// Takes vertices of a buffer.
@@ -125,20 +72,7 @@ pub extern "C" fn vgfx_encoder_set_vertices(
 ) -> u32
     ensures { OnEncoder encoder.old.value encoder.new.value result (λ r c d. OnThing c.rows buffer r c d (λ h. Records r (calls.set_vertices h first count) c d)) }
 {
-    let Some(mut object) = take(encoder, alloc) else {
-        return NO_OBJECT;
-    };
-    match &mut *object {
-        Object::Recording(recording) => {
-            let answer = recording.set_vertices(buffer, first, count);
-            put(encoder, object);
-            status(answer)
-        }
-        _ => {
-            put(encoder, object);
-            NO_OBJECT
-        }
-    }
+    encoder_set_vertices(alloc, encoder, buffer, first, count)
 }
 
 /// Takes indices of a buffer.
@@ -152,20 +86,7 @@ pub extern "C" fn vgfx_encoder_set_indices(
 ) -> u32
     ensures { OnEncoder encoder.old.value encoder.new.value result (λ r c d. OnThing c.rows buffer r c d (λ h. Records r (calls.set_indices h first count) c d)) }
 {
-    let Some(mut object) = take(encoder, alloc) else {
-        return NO_OBJECT;
-    };
-    match &mut *object {
-        Object::Recording(recording) => {
-            let answer = recording.set_indices(buffer, first, count);
-            put(encoder, object);
-            status(answer)
-        }
-        _ => {
-            put(encoder, object);
-            NO_OBJECT
-        }
-    }
+    encoder_set_indices(alloc, encoder, buffer, first, count)
 }
 
 /// Takes a copy of bytes as vertices of a layout.
@@ -178,20 +99,7 @@ pub extern "C" fn vgfx_encoder_set_transient_vertices(
 ) -> u32
     ensures { OnEncoder encoder.old.value encoder.new.value result (λ r c d. OnThing c.rows layout r c d (λ h. Records r (calls.set_transient_vertices h bytes.now) c d)) }
 {
-    let Some(mut object) = take(encoder, alloc) else {
-        return NO_OBJECT;
-    };
-    match &mut *object {
-        Object::Recording(recording) => {
-            let answer = recording.set_transient_vertices(layout, bytes);
-            put(encoder, object);
-            status(answer)
-        }
-        _ => {
-            put(encoder, object);
-            NO_OBJECT
-        }
-    }
+    encoder_set_transient_vertices(alloc, encoder, layout, bytes)
 }
 
 /// Takes a copy of bytes as indices of two bytes each.
@@ -203,20 +111,7 @@ pub extern "C" fn vgfx_encoder_set_transient_indices(
 ) -> u32
     ensures { OnEncoder encoder.old.value encoder.new.value result (λ r c d. Records r (calls.set_transient_indices bytes.now) c d) }
 {
-    let Some(mut object) = take(encoder, alloc) else {
-        return NO_OBJECT;
-    };
-    match &mut *object {
-        Object::Recording(recording) => {
-            let answer = recording.set_transient_indices(bytes);
-            put(encoder, object);
-            status(answer)
-        }
-        _ => {
-            put(encoder, object);
-            NO_OBJECT
-        }
-    }
+    encoder_set_transient_indices(alloc, encoder, bytes)
 }
 
 /// Puts a texture on stage 0 or 1, or takes it off by 0.
@@ -229,20 +124,7 @@ pub extern "C" fn vgfx_encoder_set_texture(
 ) -> u32
     ensures { OnEncoder encoder.old.value encoder.new.value result (λ r c d. OnMaybe c.rows texture r c d (λ o. Records r (calls.set_texture stage o) c d)) }
 {
-    let Some(mut object) = take(encoder, alloc) else {
-        return NO_OBJECT;
-    };
-    match &mut *object {
-        Object::Recording(recording) => {
-            let answer = recording.set_texture(stage, texture);
-            put(encoder, object);
-            status(answer)
-        }
-        _ => {
-            put(encoder, object);
-            NO_OBJECT
-        }
-    }
+    encoder_set_texture(alloc, encoder, stage, texture)
 }
 
 /// Sets a value of a uniform of four numbers, in units of 1/65536.
@@ -258,20 +140,7 @@ pub extern "C" fn vgfx_encoder_set_vec4(
 ) -> u32
     ensures { OnEncoder encoder.old.value encoder.new.value result (λ r c d. OnThing c.rows uniform r c d (λ h. Records r (calls.set_uniform h (vec4_value (x ∷ y ∷ z ∷ w ∷ []))) c d)) }
 {
-    let Some(mut object) = take(encoder, alloc) else {
-        return NO_OBJECT;
-    };
-    match &mut *object {
-        Object::Recording(recording) => {
-            let answer = recording.set_uniform(uniform, UniformValue::Vec4([x, y, z, w]));
-            put(encoder, object);
-            status(answer)
-        }
-        _ => {
-            put(encoder, object);
-            NO_OBJECT
-        }
-    }
+    encoder_set_vec4(alloc, encoder, uniform, x, y, z, w)
 }
 
 /// Sets a value of a uniform of one whole number.
@@ -284,20 +153,7 @@ pub extern "C" fn vgfx_encoder_set_int(
 ) -> u32
     ensures { OnEncoder encoder.old.value encoder.new.value result (λ r c d. OnThing c.rows uniform r c d (λ h. Records r (calls.set_uniform h (int_value value)) c d)) }
 {
-    let Some(mut object) = take(encoder, alloc) else {
-        return NO_OBJECT;
-    };
-    match &mut *object {
-        Object::Recording(recording) => {
-            let answer = recording.set_uniform(uniform, UniformValue::Int(value));
-            put(encoder, object);
-            status(answer)
-        }
-        _ => {
-            put(encoder, object);
-            NO_OBJECT
-        }
-    }
+    encoder_set_int(alloc, encoder, uniform, value)
 }
 
 /// Puts down a draw by a program with the current state.
@@ -312,20 +168,7 @@ pub extern "C" fn vgfx_encoder_submit(
 ) -> u32
     ensures { OnEncoder encoder.old.value encoder.new.value result (λ r c d. OnThing c.rows program r c d (λ h. Records r (calls.submit view h depth discard) c d)) }
 {
-    let Some(mut object) = take(encoder, alloc) else {
-        return NO_OBJECT;
-    };
-    match &mut *object {
-        Object::Recording(recording) => {
-            let answer = recording.submit(view, program, depth, discard);
-            put(encoder, object);
-            status(answer)
-        }
-        _ => {
-            put(encoder, object);
-            NO_OBJECT
-        }
-    }
+    encoder_submit(alloc, encoder, view, program, depth, discard)
 }
 
 /// Resets the parts of the state for the next draw that the flags name, as they are where an encoder begins.
@@ -333,20 +176,7 @@ pub extern "C" fn vgfx_encoder_submit(
 pub extern "C" fn vgfx_encoder_discard(alloc: Global, encoder: &mut Slot, discard: u8) -> u32
     ensures { OnEncoder encoder.old.value encoder.new.value result (λ r c d. DiscardsHere r discard c d) }
 {
-    let Some(mut object) = take(encoder, alloc) else {
-        return NO_OBJECT;
-    };
-    match &mut *object {
-        Object::Recording(recording) => {
-            let answer = recording.discard(discard);
-            put(encoder, object);
-            status(answer)
-        }
-        _ => {
-            put(encoder, object);
-            NO_OBJECT
-        }
-    }
+    encoder_discard(alloc, encoder, discard)
 }
 
 /// Puts down an empty primitive.
@@ -354,20 +184,7 @@ pub extern "C" fn vgfx_encoder_discard(alloc: Global, encoder: &mut Slot, discar
 pub extern "C" fn vgfx_encoder_touch(alloc: Global, encoder: &mut Slot, view: u16) -> u32
     ensures { OnEncoder encoder.old.value encoder.new.value result (λ r c d. Records r (calls.touch view) c d) }
 {
-    let Some(mut object) = take(encoder, alloc) else {
-        return NO_OBJECT;
-    };
-    match &mut *object {
-        Object::Recording(recording) => {
-            let answer = recording.touch(view);
-            put(encoder, object);
-            status(answer)
-        }
-        _ => {
-            put(encoder, object);
-            NO_OBJECT
-        }
-    }
+    encoder_touch(alloc, encoder, view)
 }
 
 /// Puts down a copy of a region between textures.
@@ -387,30 +204,5 @@ pub extern "C" fn vgfx_encoder_blit(
 ) -> u32
     ensures { OnEncoder encoder.old.value encoder.new.value result (λ r c d. OnThing c.rows dst r c d (λ to. OnThing c.rows src r c d (λ from. Records r (calls.blit (record { view = view; destination = to; dx = dx; dy = dy; source = from; sx = sx; sy = sy; w = w; h = h })) c d))) }
 {
-    let Some(mut object) = take(encoder, alloc) else {
-        return NO_OBJECT;
-    };
-    match &mut *object {
-        Object::Recording(recording) => {
-            let answer = recording.blit(
-                view,
-                dst,
-                src,
-                Copied {
-                    dx,
-                    dy,
-                    sx,
-                    sy,
-                    w,
-                    h,
-                },
-            );
-            put(encoder, object);
-            status(answer)
-        }
-        _ => {
-            put(encoder, object);
-            NO_OBJECT
-        }
-    }
+    encoder_blit(alloc, encoder, view, dst, dx, dy, src, sx, sy, w, h)
 }

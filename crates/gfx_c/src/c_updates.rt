@@ -1,13 +1,10 @@
 // Changes of things for C.
 ghost use Rattle.std.specs.Prelude.{◌≡◌, ⊤};
 ghost use Rattle.gfx_model.specs.Resources as model;
-ghost use Rattle.gfx_c.specs.Calls.{DestroysHere, UpdatesHere, OnThing};
-ghost use Rattle.gfx_c.specs.Exports.{OnContext};
+ghost use Rattle.c_calls.specs.Calls.{DestroysHere, UpdatesHere, OnThing};
+ghost use Rattle.c_calls.specs.Exports.{OnContext};
 
-use crate::objects::Object;
-use crate::slot::{Slot, put, take};
-use c_words::{NO_OBJECT, status};
-use fix_math::Rect;
+use c_calls::{Slot, destroy, update_buffer, update_texture};
 use std::alloc::Global;
 
 /// Changes bytes of a vertex or index buffer.
@@ -21,20 +18,7 @@ pub extern "C" fn vgfx_update_buffer(
 ) -> u32
     ensures { OnContext context.old.value context.new.value result (λ r c d. OnThing c.rows buffer r c d (λ h. UpdatesHere r (model.update_buffer h offset bytes.now) c d)) ⊤ }
 {
-    let Some(mut object) = take(context, alloc) else {
-        return NO_OBJECT;
-    };
-    match &mut *object {
-        Object::Api(api) => {
-            let answer = api.update_buffer(buffer, offset, bytes);
-            put(context, object);
-            status(answer)
-        }
-        _ => {
-            put(context, object);
-            NO_OBJECT
-        }
-    }
+    update_buffer(alloc, context, buffer, offset, bytes)
 }
 
 /// Changes texels of a texture.
@@ -51,20 +35,7 @@ pub extern "C" fn vgfx_update_texture(
 ) -> u32
     ensures { OnContext context.old.value context.new.value result (λ r c d. OnThing c.rows texture r c d (λ thing. UpdatesHere r (model.update_texture thing (record { x = x; y = y; w = w; h = h }) bytes.now) c d)) ⊤ }
 {
-    let Some(mut object) = take(context, alloc) else {
-        return NO_OBJECT;
-    };
-    match &mut *object {
-        Object::Api(api) => {
-            let answer = api.update_texture(texture, Rect { x, y, w, h }, bytes);
-            put(context, object);
-            status(answer)
-        }
-        _ => {
-            put(context, object);
-            NO_OBJECT
-        }
-    }
+    update_texture(alloc, context, texture, x, y, w, h, bytes)
 }
 
 /// Destroys a thing, or takes one reference of a uniform.
@@ -72,18 +43,5 @@ pub extern "C" fn vgfx_update_texture(
 pub extern "C" fn vgfx_destroy(alloc: Global, context: &mut Slot, thing: u64) -> u32
     ensures { OnContext context.old.value context.new.value result (λ r c d. OnThing c.rows thing r c d (λ h. DestroysHere r h c d)) ⊤ }
 {
-    let Some(mut object) = take(context, alloc) else {
-        return NO_OBJECT;
-    };
-    match &mut *object {
-        Object::Api(api) => {
-            let answer = api.destroy(thing);
-            put(context, object);
-            status(answer)
-        }
-        _ => {
-            put(context, object);
-            NO_OBJECT
-        }
-    }
+    destroy(alloc, context, thing)
 }

@@ -2,15 +2,14 @@
 ghost use Rattle.std.specs.Prelude.{◌≡◌, ◌∷◌, [], ⊤, Err, MatchOption};
 ghost use Rattle.gfx_model.specs.Resources as model;
 ghost use Rattle.c_words.specs.declared.faults.Fault.TheVariants as faults;
-ghost use Rattle.gfx_c.specs.Calls.{ChangesHere, OnMaybe};
-ghost use Rattle.gfx_c.specs.Exports.{OnContext};
+ghost use Rattle.c_calls.specs.Calls.{ChangesHere, OnMaybe};
+ghost use Rattle.c_calls.specs.Exports.{OnContext};
 ghost use Rattle.c_words.specs.Modes.{mode_of_number};
 
-use crate::objects::Object;
-use crate::slot::{Slot, put, take};
-use crate::transform::Transform;
-use c_words::{NO_OBJECT, status};
-use fix_math::{Affine, Rect};
+use c_calls::{
+    Slot, Transform, reset_view, set_view_clear, set_view_mode, set_view_order, set_view_rect,
+    set_view_scissor, set_view_target, set_view_transform,
+};
 use std::alloc::Global;
 
 /// Sets the part of its target that a view draws on.
@@ -26,20 +25,7 @@ pub extern "C" fn vgfx_set_view_rect(
 ) -> u32
     ensures { OnContext context.old.value context.new.value result (λ r c d. ChangesHere r (model.set_view_rect view (record { x = x; y = y; w = w; h = h })) c d) ⊤ }
 {
-    let Some(mut object) = take(context, alloc) else {
-        return NO_OBJECT;
-    };
-    match &mut *object {
-        Object::Api(api) => {
-            let answer = api.set_view_rect(view, Rect { x, y, w, h });
-            put(context, object);
-            status(answer)
-        }
-        _ => {
-            put(context, object);
-            NO_OBJECT
-        }
-    }
+    set_view_rect(alloc, context, view, x, y, w, h)
 }
 
 /// Sets the scissor of a view; with both sides 0 there is none.
@@ -55,20 +41,7 @@ pub extern "C" fn vgfx_set_view_scissor(
 ) -> u32
     ensures { OnContext context.old.value context.new.value result (λ r c d. ChangesHere r (model.set_view_scissor view (record { x = x; y = y; w = w; h = h })) c d) ⊤ }
 {
-    let Some(mut object) = take(context, alloc) else {
-        return NO_OBJECT;
-    };
-    match &mut *object {
-        Object::Api(api) => {
-            let answer = api.set_view_scissor(view, Rect { x, y, w, h });
-            put(context, object);
-            status(answer)
-        }
-        _ => {
-            put(context, object);
-            NO_OBJECT
-        }
-    }
+    set_view_scissor(alloc, context, view, x, y, w, h)
 }
 
 /// Sets what entering a view clears: 1 the colour, 2 the depth, 4 the stencil.
@@ -87,20 +60,9 @@ pub extern "C" fn vgfx_set_view_clear(
 ) -> u32
     ensures { OnContext context.old.value context.new.value result (λ r c d. ChangesHere r (model.set_view_clear view (record { flags = flags; color = red ∷ green ∷ blue ∷ alpha ∷ []; depth = depth; stencil = stencil })) c d) ⊤ }
 {
-    let Some(mut object) = take(context, alloc) else {
-        return NO_OBJECT;
-    };
-    match &mut *object {
-        Object::Api(api) => {
-            let answer = api.set_view_clear(view, flags, [red, green, blue, alpha], depth, stencil);
-            put(context, object);
-            status(answer)
-        }
-        _ => {
-            put(context, object);
-            NO_OBJECT
-        }
-    }
+    set_view_clear(
+        alloc, context, view, flags, red, green, blue, alpha, depth, stencil,
+    )
 }
 
 /// Sets how a view orders its draws and touches: 0 by program, 1 as they come, 2 by ascending depth, 3 by descending depth.
@@ -108,20 +70,7 @@ pub extern "C" fn vgfx_set_view_clear(
 pub extern "C" fn vgfx_set_view_mode(alloc: Global, context: &mut Slot, view: u16, mode: u32) -> u32
     ensures { OnContext context.old.value context.new.value result (λ r c d. MatchOption (mode_of_number mode) ((r ≡ Err faults.BadValue) × (d ≡ c)) (λ m. ChangesHere r (model.set_view_mode view m) c d)) ⊤ }
 {
-    let Some(mut object) = take(context, alloc) else {
-        return NO_OBJECT;
-    };
-    match &mut *object {
-        Object::Api(api) => {
-            let answer = api.set_view_mode(view, mode);
-            put(context, object);
-            status(answer)
-        }
-        _ => {
-            put(context, object);
-            NO_OBJECT
-        }
-    }
+    set_view_mode(alloc, context, view, mode)
 }
 
 /// Sets the transform of a view.
@@ -134,20 +83,7 @@ pub extern "C" fn vgfx_set_view_transform(
 ) -> u32
     ensures { OnContext context.old.value context.new.value result (λ r c d. ChangesHere r (model.set_view_transform view transform.now.m) c d) ⊤ }
 {
-    let Some(mut object) = take(context, alloc) else {
-        return NO_OBJECT;
-    };
-    match &mut *object {
-        Object::Api(api) => {
-            let answer = api.set_view_transform(view, Affine { m: transform.m });
-            put(context, object);
-            status(answer)
-        }
-        _ => {
-            put(context, object);
-            NO_OBJECT
-        }
-    }
+    set_view_transform(alloc, context, view, transform)
 }
 
 /// Sets the target of a view, a frame buffer, or the back buffer by 0.
@@ -160,20 +96,7 @@ pub extern "C" fn vgfx_set_view_target(
 ) -> u32
     ensures { OnContext context.old.value context.new.value result (λ r c d. OnMaybe c.rows target r c d (λ o. ChangesHere r (model.set_view_target view o) c d)) ⊤ }
 {
-    let Some(mut object) = take(context, alloc) else {
-        return NO_OBJECT;
-    };
-    match &mut *object {
-        Object::Api(api) => {
-            let answer = api.set_view_target(view, target);
-            put(context, object);
-            status(answer)
-        }
-        _ => {
-            put(context, object);
-            NO_OBJECT
-        }
-    }
+    set_view_target(alloc, context, view, target)
 }
 
 /// Sets the views that come first.
@@ -181,20 +104,7 @@ pub extern "C" fn vgfx_set_view_target(
 pub extern "C" fn vgfx_set_view_order(alloc: Global, context: &mut Slot, views: &[u16]) -> u32
     ensures { OnContext context.old.value context.new.value result (λ r c d. ChangesHere r (model.set_view_order views.now) c d) ⊤ }
 {
-    let Some(mut object) = take(context, alloc) else {
-        return NO_OBJECT;
-    };
-    match &mut *object {
-        Object::Api(api) => {
-            let answer = api.set_view_order(views);
-            put(context, object);
-            status(answer)
-        }
-        _ => {
-            put(context, object);
-            NO_OBJECT
-        }
-    }
+    set_view_order(alloc, context, views)
 }
 
 /// Sets a view as it is at first.
@@ -202,18 +112,5 @@ pub extern "C" fn vgfx_set_view_order(alloc: Global, context: &mut Slot, views: 
 pub extern "C" fn vgfx_reset_view(alloc: Global, context: &mut Slot, view: u16) -> u32
     ensures { OnContext context.old.value context.new.value result (λ r c d. ChangesHere r (model.reset_view view) c d) ⊤ }
 {
-    let Some(mut object) = take(context, alloc) else {
-        return NO_OBJECT;
-    };
-    match &mut *object {
-        Object::Api(api) => {
-            let answer = api.reset_view(view);
-            put(context, object);
-            status(answer)
-        }
-        _ => {
-            put(context, object);
-            NO_OBJECT
-        }
-    }
+    reset_view(alloc, context, view)
 }

@@ -14,8 +14,8 @@ use crate::c_recording::{
     vgfx_encoder_set_vertices, vgfx_encoder_submit,
 };
 use crate::c_updates::{vgfx_update_buffer, vgfx_update_texture};
-use crate::slot::Slot;
-use crate::tests::{CORNER, COVER, NOTHING, first_wrong};
+use crate::tests::{CORNER, COVER, NOTHING, Told, told};
+use c_calls::Slot;
 use std::alloc::Global;
 use std::test::Fail;
 
@@ -55,56 +55,126 @@ fn draw_row(alloc: Global, context: &mut Slot, of: Solid) -> u32 {
     statuses
 }
 
+// A context is made, and a first frame of eight encoders: the statuses, how many encoders are off before its end, and what is told of it.
+fn first_frame(
+    alloc: Global,
+    context: &mut Slot,
+    of: &mut Solid,
+    picture: &mut [u8],
+) -> ([u32; 5], u32, Told) {
+    let mut off = 9;
+    let mut framed = NOTHING;
+    let statuses = [
+        vgfx_init(alloc, context, 8, 1),
+        make_solid(alloc, context, of),
+        draw_row(alloc, context, *of),
+        vgfx_collect(alloc, context, &mut off),
+        vgfx_frame(alloc, context, picture, &mut framed),
+    ];
+    (statuses, off, told(framed))
+}
+
+// The next frame of eight encoders, and the end of the context: the statuses, and what is told of the frame.
+fn second_frame(
+    alloc: Global,
+    context: &mut Slot,
+    of: Solid,
+    picture: &mut [u8],
+) -> ([u32; 3], Told) {
+    let mut framed = NOTHING;
+    let statuses = [
+        draw_row(alloc, context, of),
+        vgfx_frame(alloc, context, picture, &mut framed),
+        vgfx_shutdown(alloc, context),
+    ];
+    (statuses, told(framed))
+}
+
+// A row of eight reds, and six bytes behind it.
+const ROW: &[u8] =
+    b"P6\n8 1\n255\n\x00\x00\x00\x20\x00\x00\x40\x00\x00\x60\x00\x00\x80\x00\x00\xa0\x00\x00\xc0\x00\x00\xe0\x00\x00\x07\x07\x07\x07\x07\x07";
+
 // Eight encoders of a frame, each of which draws one pixel, and then eight of the next frame.
 #[test]
 fn eight_encoders_of_two_frames(rt: HostRuntime) -> Result<(), Fail> {
     let alloc = rt.alloc();
-    let mut context = Slot::none(alloc);
     let mut of = Solid {
         layout: 0,
         color: 0,
         program: 0,
     };
-    let mut off = 9;
-    let mut framed = NOTHING;
     let mut picture = vec![in alloc; 7u8; 41]?;
-    assert_eq!(rt;
-        first_wrong(&[
-            (vgfx_init(alloc, &mut context, 8, 1), 0),
-            (make_solid(alloc, &mut context, &mut of), 0),
-            (draw_row(alloc, &mut context, of), 0),
-            (vgfx_collect(alloc, &mut context, &mut off), 0),
-            (
-                vgfx_frame(alloc, &mut context, &mut picture, &mut framed),
-                0
-            ),
-        ]),
-        None
-    );
-    assert_eq!(rt;
-        (off, framed.number, framed.picture, framed.dropped),
-        (0, 0, 35, 40)
-    );
-    assert_eq!(rt;
-        picture[..],
-        b"P6\n8 1\n255\n\x00\x00\x00\x20\x00\x00\x40\x00\x00\x60\x00\x00\x80\x00\x00\xa0\x00\x00\xc0\x00\x00\xe0\x00\x00\x07\x07\x07\x07\x07\x07"[..]
-    );
-    assert_eq!(rt;
-        first_wrong(&[
-            (draw_row(alloc, &mut context, of), 0),
-            (
-                vgfx_frame(alloc, &mut context, &mut picture, &mut framed),
-                0
-            ),
-            (vgfx_shutdown(alloc, &mut context), 0),
-        ]),
-        None
-    );
-    assert_eq!(rt;
-        (framed.number, framed.picture, framed.dropped),
-        (1, 35, 40)
-    );
+    let mut again = vec![in alloc; 7u8; 41]?;
+    let mut context = Slot::none(alloc);
+    let (statuses, off, first) = first_frame(alloc, &mut context, &mut of, &mut picture);
+    let (later, second) = second_frame(alloc, &mut context, of, &mut again);
+    drop(context);
+    assert_eq!(rt; (statuses, off, later), ([0; 5], 0, [0; 3]));
+    assert_eq!(rt; (first, second), ((0, 35, 40), (1, 35, 40)));
+    assert!(rt; picture.as_slice() == ROW && again.as_slice() == ROW);
     Ok(())
+}
+
+// What a draw needs that samples a texture: the numbers of its vertices, indices, uniform and program, of the textures of a blit, and of a
+// frame buffer.
+#[derive(Clone, Copy, Drop)]
+struct Sampled {
+    layout: u64,
+    corners: u64,
+    indices: u64,
+    stage: u64,
+    program: u64,
+    to: u64,
+    from: u64,
+    target: u64,
+}
+
+const UNMADE: Sampled = Sampled {
+    layout: 0,
+    corners: 0,
+    indices: 0,
+    stage: 0,
+    program: 0,
+    to: 0,
+    from: 0,
+    target: 0,
+};
+
+// A context is made, and what the draw reads.
+fn make_read(alloc: Global, context: &mut Slot, of: &mut Sampled) -> [u32; 7] {
+    [
+        vgfx_init(alloc, context, 1, 1),
+        vgfx_create_layout(alloc, context, &CORNER, &mut of.layout),
+        vgfx_create_vertex_buffer(alloc, context, of.layout, &[0u8; 24], &mut of.corners),
+        vgfx_update_buffer(alloc, context, of.corners, 0, &COVER),
+        vgfx_create_index_buffer(alloc, context, &[0u8, 0, 1, 0, 2, 0], &mut of.indices),
+        vgfx_create_uniform(alloc, context, b"s_tex", 1, &mut of.stage),
+        vgfx_create_program(alloc, context, 2, &mut of.program),
+    ]
+}
+
+// The textures of the blit are made, and a frame buffer, and the source is updated.
+fn make_textures(alloc: Global, context: &mut Slot, of: &mut Sampled) -> [u32; 4] {
+    [
+        vgfx_create_texture(alloc, context, 1, 1, 0, 1, &[1u8, 2, 3, 4], &mut of.to),
+        vgfx_create_filled_texture(alloc, context, 1, 1, 0, 0, 5, 6, 7, 8, &mut of.from),
+        vgfx_create_frame_buffer(alloc, context, of.from, 0, &mut of.target),
+        vgfx_update_texture(alloc, context, of.from, 0, 0, 1, 1, b"abcd"),
+    ]
+}
+
+// An encoder of the context blits, draws and ends.
+fn draw_sampled(alloc: Global, context: &mut Slot, encoder: &mut Slot, of: Sampled) -> [u32; 8] {
+    [
+        vgfx_encoder_begin(alloc, context, encoder, 2, 0, 1),
+        vgfx_encoder_blit(alloc, encoder, 0, of.to, 0, 0, of.from, 0, 0, 1, 1),
+        vgfx_encoder_set_vertices(alloc, encoder, of.corners, 0, 3),
+        vgfx_encoder_set_indices(alloc, encoder, of.indices, 0, 3),
+        vgfx_encoder_set_texture(alloc, encoder, 1, of.to),
+        vgfx_encoder_set_int(alloc, encoder, of.stage, 1),
+        vgfx_encoder_submit(alloc, encoder, 0, of.program, 0, 255),
+        vgfx_encoder_end(alloc, encoder, 0),
+    ]
 }
 
 // A draw whose vertices come from an updated buffer and its indices from another, which samples a texture; of it a blit copied the one texel
@@ -112,88 +182,19 @@ fn eight_encoders_of_two_frames(rt: HostRuntime) -> Result<(), Fail> {
 #[test]
 fn a_sampled_picture(rt: HostRuntime) -> Result<(), Fail> {
     let alloc = rt.alloc();
+    let mut picture = vec![in alloc; 0u8; 20]?;
+    let mut of = UNMADE;
+    let mut framed = NOTHING;
     let mut context = Slot::none(alloc);
     let mut encoder = Slot::none(alloc);
-    let (mut layout, mut corners, mut indices, mut stage, mut program) = (0, 0, 0, 0, 0);
-    let (mut to, mut from, mut target) = (0, 0, 0);
-    let mut framed = NOTHING;
-    let mut picture = vec![in alloc; 0u8; 20]?;
-    assert_eq!(rt;
-        first_wrong(&[
-            (vgfx_init(alloc, &mut context, 1, 1), 0),
-            (
-                vgfx_create_layout(alloc, &mut context, &CORNER, &mut layout),
-                0
-            ),
-            (
-                vgfx_create_vertex_buffer(alloc, &mut context, layout, &[0u8; 24], &mut corners),
-                0
-            ),
-            (
-                vgfx_update_buffer(alloc, &mut context, corners, 0, &COVER),
-                0
-            ),
-            (
-                vgfx_create_index_buffer(alloc, &mut context, &[0u8, 0, 1, 0, 2, 0], &mut indices),
-                0
-            ),
-            (
-                vgfx_create_uniform(alloc, &mut context, b"s_tex", 1, &mut stage),
-                0
-            ),
-            (vgfx_create_program(alloc, &mut context, 2, &mut program), 0),
-            (
-                vgfx_create_texture(alloc, &mut context, 1, 1, 0, 1, &[1u8, 2, 3, 4], &mut to),
-                0
-            ),
-            (
-                vgfx_create_filled_texture(alloc, &mut context, 1, 1, 0, 0, 5, 6, 7, 8, &mut from),
-                0
-            ),
-            (
-                vgfx_create_frame_buffer(alloc, &mut context, from, 0, &mut target),
-                0
-            ),
-            (
-                vgfx_update_texture(alloc, &mut context, from, 0, 0, 1, 1, b"abcd"),
-                0
-            ),
-        ]),
-        None
-    );
-    assert_eq!(rt;
-        first_wrong(&[
-            (
-                vgfx_encoder_begin(alloc, &mut context, &mut encoder, 2, 0, 1),
-                0
-            ),
-            (
-                vgfx_encoder_blit(alloc, &mut encoder, 0, to, 0, 0, from, 0, 0, 1, 1),
-                0
-            ),
-            (
-                vgfx_encoder_set_vertices(alloc, &mut encoder, corners, 0, 3),
-                0
-            ),
-            (
-                vgfx_encoder_set_indices(alloc, &mut encoder, indices, 0, 3),
-                0
-            ),
-            (vgfx_encoder_set_texture(alloc, &mut encoder, 1, to), 0),
-            (vgfx_encoder_set_int(alloc, &mut encoder, stage, 1), 0),
-            (
-                vgfx_encoder_submit(alloc, &mut encoder, 0, program, 0, 255),
-                0
-            ),
-            (vgfx_encoder_end(alloc, &mut encoder, 0), 0),
-            (
-                vgfx_frame(alloc, &mut context, &mut picture, &mut framed),
-                0
-            ),
-        ]),
-        None
-    );
-    assert_eq!(rt; framed.picture, 14);
+    let read = make_read(alloc, &mut context, &mut of);
+    let textures = make_textures(alloc, &mut context, &mut of);
+    let drawn = draw_sampled(alloc, &mut context, &mut encoder, of);
+    let status = vgfx_frame(alloc, &mut context, &mut picture, &mut framed);
+    drop(encoder);
+    drop(context);
+    assert_eq!(rt; (read, textures, drawn), ([0; 7], [0; 4], [0; 8]));
+    assert_eq!(rt; (status, framed.picture), (0, 14));
     assert_eq!(rt; picture[..14], b"P6\n1 1\n255\nabc"[..]);
     Ok(())
 }

@@ -5,7 +5,6 @@
 //! its handles, and each answers 0 or the number of a `Fault`. What C owes is written in docs/use/from-c.md.
 #![tactic(auto)]
 
-mod begin;
 mod c_context;
 mod c_creates;
 mod c_encoder;
@@ -16,27 +15,11 @@ mod c_recording;
 mod c_updates;
 mod c_version;
 mod c_views;
-mod context;
-mod creates;
 #[cfg(test)]
 mod drawn_tests;
-mod encoder;
-mod frame;
-mod held;
-mod objects;
-mod parts;
-mod picture;
 #[cfg(test)]
 mod pixel_tests;
-mod pixels;
 #[cfg(test)]
 mod play_tests;
-mod playing;
-mod recording;
-mod slot;
-mod standing;
 #[cfg(test)]
 mod tests;
-mod transform;
-mod updates;
-mod views;

@@ -1,6 +1,6 @@
 // A scene as text, as C plays it.
 use crate::c_play::vgfx_play;
-use crate::playing::Played;
+use c_playing::Played;
 use std::test::Fail;
 
 const BEFORE: Played = Played {

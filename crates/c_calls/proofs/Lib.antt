@@ -1,0 +1,9 @@
+mod AsBox
+mod On
+mod Told
+mod MadeLayouts
+mod Slots
+mod Recorded
+mod Frames
+mod Begins
+mod Openings

@@ -1,0 +1,10 @@
+pub mod Kept
+pub mod Blits
+pub mod Standings
+pub mod Views
+pub mod Rendered
+pub mod Calls
+pub mod Frames
+pub mod Pixels
+pub mod Exports
+pub mod Opening

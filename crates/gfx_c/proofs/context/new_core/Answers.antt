@@ -1,9 +1,0 @@
-use Rattle.std.proofs.Common.{sym, ap, ◌∙◌}
-use Rattle.hold_table.specs.Seats.{table_of}
-use Rattle.context_core.specs.States.{opened_core}
-use Rattle.gfx_c.proofs.context.new_core.Goals as goal
-
-pub returns : goal.returns
-returns c =
-    let tied = c.in_ok-table.ensures.0 ∙ sym (ap table_of c.in_ok-new.ensures) in
-    c.in-Ok.ensures.begins ∙ (λ j. record { table = tied j; state = opened_core (record { frame = 0; serial = 1; views = 512; latency = 1 }) })
