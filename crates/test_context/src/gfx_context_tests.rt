@@ -1,6 +1,6 @@
 // What no clause says at once: when an index comes again, and what encoders answer to the program that had it; the limits; who
 // holds a texture; a thread that records while a frame ends, or while the context does; and an encoder that is begun again.
-ghost use Rattle.std.specs.Prelude.{◌≡◌, ◌≤◌, ◌+◌, ◌++◌, ℕ, List, [], map};
+ghost use Rattle.std.specs.Prelude.{◌≡◌, ◌≤◌, ◌+◌, ◌++◌, ℕ, List, [], map, IfSome};
 ghost use Rattle.gfx_model.specs.Views.{fewest_views};
 ghost use Rattle.gfx_model.specs.World.{Item as SeenItem};
 ghost use Rattle.hold_table.specs.Seats.{table_of, api_table, api_view};
@@ -12,7 +12,7 @@ use gfx_context::*;
 use gfx_words::{Format, Handle, ProgramKind, Refusal};
 use hold_table::{ApiSeat, HoldTable};
 use resource_book::ResourceCalls;
-use std::alloc::{AllocError, Global};
+use std::alloc::Global;
 use std::marker::Brand;
 use std::snapshot::Snapshot;
 use std::sync::Wait;
@@ -20,7 +20,13 @@ use std::test::Fail;
 use std::thread;
 use std::thread::Threads;
 
-const VIEWS: u16 = 256;
+// Where most contexts begin.
+const START: Start = Start {
+    frame: 0,
+    serial: 1,
+    views: 256,
+    latency: 1,
+};
 
 const ROOM: Room = Room {
     items: 2,
@@ -90,41 +96,38 @@ impl<'r, R: Wait> FrameLink for ListLink<'r, R> {
     }
 }
 
-fn begun<'t, 'r, C: Naming, R: Wait>(
-    rt: &'r R,
-    alloc: Global,
-    shared: &'t Shared<C>,
-    seat: ApiSeat,
-    frame: u32,
-    serial: u32,
-    latency: u8,
-) -> Option<Context<'t, C, ListLink<'r, R>>>
-    requires table { api_table seat ≡ C.table }
-    requires seat { api_view seat ≡ first_view frame }
-    requires frame { frame ≤ 1073741823 }
-    requires serial { 1 ≤ serial }
-    requires views { C.views ≡ fewest_views }
-    requires latency { (1 ≤ latency) × (latency ≤ 3) }
-{
-    let start = Start {
-        frame,
-        serial,
-        views: VIEWS,
-        latency,
-    };
-    let link = ListLink {
-        rt,
-        latency,
-        out: Vec::new(alloc),
-        backs: Vec::new(alloc),
-    };
-    match Context::init(alloc, shared, seat, link, start) {
-        Ok(context) => Some(context),
-        Err(_) => None,
-    }
+// ---- what is tried of one context
+
+// The cases, each with what is told of it.
+#[derive(Clone, Copy, Drop)]
+enum Case {
+    // the indices of the programs of frames 1 to 4, where one dies in frame 0
+    Again,
+    // what encoders of frames 0 to 2 answer to a draw by a program that dies in frame 0
+    Dead,
+    // the refusals of a second program where one serial is left, of a ninth encoder, and of the last frame's end
+    Limits,
+    // the answer to the destroy of a texture that a frame buffer holds, and the frame buffer
+    Held,
+    // the same where of two frame buffers the first dies, and a third one has its index
+    HeldAgain,
+    // the items and the dropped of a frame whose encoder a thread ends beside it
+    Beside,
+    // the number of an encoder, how many were begun, and the items of its frame
+    Begun,
+    // the items and the dropped of a frame whose bundle goes into no queue
+    Gathered,
 }
 
-// The answer to a begin, and to the end of a frame, where the context is not ended.
+// Refusals and numbers, as the case says; where there are fewer, none and 0.
+type Told = ([Option<Refusal>; 3], [u64; 4]);
+
+// What came back at the close of a context.
+type Backs = [Option<BackNote>; 3];
+
+const NONE: [Option<Refusal>; 3] = [None; 3];
+
+// The answer to a begin, where the context is not ended.
 fn begun_one<'t, C: Naming, R: Wait>(
     context: &mut Context<'t, C, ListLink<'_, R>>,
 ) -> Option<Result<Encoder<'t, C>, Refusal>> {
@@ -134,6 +137,17 @@ fn begun_one<'t, C: Naming, R: Wait>(
     Some(context.begin(ROOM))
 }
 
+// An encoder, where the context gives one.
+fn next_encoder<'t, C: Naming, R: Wait>(
+    context: &mut Context<'t, C, ListLink<'_, R>>,
+) -> Option<Encoder<'t, C>> {
+    match begun_one(context) {
+        Some(Ok(encoder)) => Some(encoder),
+        _ => None,
+    }
+}
+
+// The end of a frame, where the context is not ended.
 fn ended<C: Naming, R: Wait>(
     rt: &R,
     context: &mut Context<'_, C, ListLink<'_, R>>,
@@ -144,130 +158,76 @@ fn ended<C: Naming, R: Wait>(
     Some(context.frame(rt))
 }
 
-// A program is made and destroyed in frame 0. The indices of the programs that are made in frames 1 to 4.
-fn indices_again<C: Naming, R: Threads + Wait + Sync>(
+// The items and the dropped of a frame that ends.
+fn frame_told<C: Naming, R: Wait>(
     rt: &R,
     context: &mut Context<'_, C, ListLink<'_, R>>,
-) -> Option<[u16; 4]> {
+) -> Option<(u64, u64)> {
+    match ended(rt, context) {
+        Some(Ok(report)) => Some((report.journal.len() as u64, report.dropped)),
+        _ => None,
+    }
+}
+
+// A program of the next frame.
+fn next_program<C: Naming, R: Wait>(
+    rt: &R,
+    context: &mut Context<'_, C, ListLink<'_, R>>,
+) -> Option<Handle> {
+    frame_told(rt, context)?;
+    match context.create_program(ProgramKind::Solid) {
+        Ok(program) => Some(program),
+        Err(_) => None,
+    }
+}
+
+fn indices_again<C: Naming, R: Wait>(
+    rt: &R,
+    context: &mut Context<'_, C, ListLink<'_, R>>,
+) -> Option<Told> {
     let Ok(first) = context.create_program(ProgramKind::Solid) else {
         return None;
     };
     let Ok(_) = context.destroy(first) else {
         return None;
     };
-    let mut indices = [0u16; 4];
+    let mut indices = [0u64; 4];
     for place in &mut indices {
-        let Ok(_) = ended(rt, context)? else {
-            return None;
-        };
-        let Ok(program) = context.create_program(ProgramKind::Solid) else {
-            return None;
-        };
-        *place = program.index();
+        *place = u64::from(next_program(rt, context)?.index());
     }
-    Some(indices)
+    Some((NONE, indices))
 }
 
-fn made_again<C: Naming, R: Threads + Wait + Sync>(
-    rt: &R,
-    alloc: Global,
-    table: HoldTable,
-    seat: ApiSeat,
-    latency: u8,
-) -> Option<[u16; 4]>
-    requires table { (table_of table ≡ C.table) × (api_table seat ≡ C.table) × (api_view seat ≡ first_view 0) }
-    requires views { C.views ≡ fewest_views }
-    requires latency { (1 ≤ latency) × (latency ≤ 3) }
-{
-    let Ok(shared) = Shared::<C>::new(alloc, table) else {
-        return None;
-    };
-    let mut context = begun(rt, alloc, &shared, seat, 0, 1, latency)?;
-    indices_again(rt, &mut context)
-}
-
-fn again<R: Threads + Wait + Sync>(
-    rt: &R,
-    alloc: Global,
-    latency: u8,
-) -> Result<Option<[u16; 4]>, AllocError>
-    requires { (1 ≤ latency) × (latency ≤ 3) }
-{
-    let (table, seat) = HoldTable::new(alloc, 0)?;
-    Ok(made_again::<Brand, R>(rt, alloc, table, seat, latency))
-}
-
-#[test]
-fn an_index_comes_again(rt: HostRuntime) -> Result<(), Fail> {
-    let one = again(&rt, rt.alloc(), 1)?;
-    assert_eq!(rt; one, Some([1, 0, 2, 3]));
-    let two = again(&rt, rt.alloc(), 2)?;
-    assert_eq!(rt; two, Some([1, 2, 0, 3]));
-    let three = again(&rt, rt.alloc(), 3)?;
-    assert_eq!(rt; three, Some([1, 2, 3, 0]));
-    Ok(())
-}
-
-// A program dies in frame 0, and another is made in each frame behind it. What encoders of frames 0 to 2 answer to a draw by the first.
-fn stale_answers<C: Naming, R: Threads + Wait + Sync>(
+// The program is destroyed, which is accepted in its first frame. What an encoder that was begun before answers to a draw by it.
+fn submitted<C: Naming, R: Wait>(
     rt: &R,
     context: &mut Context<'_, C, ListLink<'_, R>>,
-) -> Option<[Option<Refusal>; 3]>
+    program: Handle,
+) -> Option<Option<Refusal>>
+    requires admits { (e f d : ℕ) (items : List SeenItem) → C.admits e f items d }
+{
+    let mut encoder = next_encoder(context)?;
+    let _ = context.destroy(program);
+    let answer = refusal_of(encoder.submit(0, program, 0, 255));
+    encoder.end(rt, 0);
+    Some(answer)
+}
+
+fn stale_answers<C: Naming, R: Wait>(
+    rt: &R,
+    context: &mut Context<'_, C, ListLink<'_, R>>,
+) -> Option<Told>
     requires admits { (e f d : ℕ) (items : List SeenItem) → C.admits e f items d }
 {
     let Ok(program) = context.create_program(ProgramKind::Solid) else {
         return None;
     };
-    let mut answers = [None; 3];
+    let mut answers = NONE;
     for answer in &mut answers {
-        let Ok(mut encoder) = begun_one(context)? else {
-            return None;
-        };
-        // accepted in frame 0
-        let _ = context.destroy(program);
-        *answer = refusal_of(encoder.submit(0, program, 0, 255));
-        encoder.end(rt, 0);
-        let Ok(_) = ended(rt, context)? else {
-            return None;
-        };
-        let Ok(_) = context.create_program(ProgramKind::Solid) else {
-            return None;
-        };
+        *answer = submitted(rt, context, program)?;
+        next_program(rt, context)?;
     }
-    Some(answers)
-}
-
-fn dead_program<C: Naming, R: Threads + Wait + Sync>(
-    rt: &R,
-    alloc: Global,
-    table: HoldTable,
-    seat: ApiSeat,
-) -> Option<[Option<Refusal>; 3]>
-    requires table { (table_of table ≡ C.table) × (api_table seat ≡ C.table) × (api_view seat ≡ first_view 0) }
-    requires views { C.views ≡ fewest_views }
-    requires admits { (e f d : ℕ) (items : List SeenItem) → C.admits e f items d }
-{
-    let Ok(shared) = Shared::<C>::new(alloc, table) else {
-        return None;
-    };
-    let mut context = begun(rt, alloc, &shared, seat, 0, 1, 1)?;
-    stale_answers(rt, &mut context)
-}
-
-#[test]
-fn a_dead_program_is_stale(rt: HostRuntime) -> Result<(), Fail> {
-    let (table, seat) = HoldTable::new(rt.alloc(), 0)?;
-    let answers = dead_program::<Brand, _>(&rt, rt.alloc(), table, seat);
-    // its place is dying in frame 1, and has serial 3 in frame 2
-    assert_eq!(rt;
-        answers,
-        Some([
-            None,
-            Some(Refusal::Stale { word: 6 }),
-            Some(Refusal::Stale { word: 13 })
-        ])
-    );
-    Ok(())
+    Some((answers, [0; 4]))
 }
 
 // The refusal of a program, by whatever answers the calls.
@@ -275,11 +235,26 @@ fn refused<B: ResourceCalls>(calls: &mut B) -> Option<Refusal> {
     refusal_of(calls.create_program(ProgramKind::Solid))
 }
 
-// In the last frame: the refusals of a second program where one serial is left, of a ninth encoder, and of the frame's end.
-fn refusals_at_the_limits<C: Naming, R: Threads + Wait + Sync>(
+// An encoder is begun and ended: whether there is one.
+fn begun_and_ended<C: Naming, R: Wait>(
     rt: &R,
     context: &mut Context<'_, C, ListLink<'_, R>>,
-) -> Option<[Option<Refusal>; 3]>
+) -> bool
+    requires admits { (e f d : ℕ) (items : List SeenItem) → C.admits e f items d }
+{
+    match next_encoder(context) {
+        Some(encoder) => {
+            encoder.end(rt, 0);
+            true
+        }
+        None => false,
+    }
+}
+
+fn refusals_at_the_limits<C: Naming, R: Wait>(
+    rt: &R,
+    context: &mut Context<'_, C, ListLink<'_, R>>,
+) -> Option<Told>
     requires admits { (e f d : ℕ) (items : List SeenItem) → C.admits e f items d }
 {
     let Ok(_) = context.create_program(ProgramKind::Solid) else {
@@ -287,152 +262,75 @@ fn refusals_at_the_limits<C: Naming, R: Threads + Wait + Sync>(
     };
     let serials = refused(context);
     for _ in 0..8u8 {
-        let Ok(encoder) = begun_one(context)? else {
+        if !begun_and_ended(rt, context) {
             return None;
-        };
-        encoder.end(rt, 0);
+        }
     }
     let ninth = refusal_of(begun_one(context)?);
     let frames = refusal_of(ended(rt, context)?);
-    Some([serials, ninth, frames])
+    Some(([serials, ninth, frames], [0; 4]))
 }
 
-fn limits<C: Naming, R: Threads + Wait + Sync>(
-    rt: &R,
-    alloc: Global,
-    table: HoldTable,
-    seat: ApiSeat,
-) -> Option<[Option<Refusal>; 3]>
-    requires table { (table_of table ≡ C.table) × (api_table seat ≡ C.table) × (api_view seat ≡ first_view 1073741823) }
-    requires views { C.views ≡ fewest_views }
-    requires admits { (e f d : ℕ) (items : List SeenItem) → C.admits e f items d }
-{
-    let Ok(shared) = Shared::<C>::new(alloc, table) else {
-        return None;
-    };
-    let mut context = begun(rt, alloc, &shared, seat, 1_073_741_823, 4_294_967_295, 1)?;
-    refusals_at_the_limits(rt, &mut context)
+fn texture<C: Naming, R: Wait>(context: &mut Context<'_, C, ListLink<'_, R>>) -> Option<Handle> {
+    match context.create_texture(1, 1, Format::Rgba8, false, TexSource::Fill([0; 4])) {
+        Ok(texture) => Some(texture),
+        Err(_) => None,
+    }
 }
 
-#[test]
-fn the_limits(rt: HostRuntime) -> Result<(), Fail> {
-    let (table, seat) = HoldTable::new(rt.alloc(), 1_073_741_823)?;
-    let refusals = limits::<Brand, _>(&rt, rt.alloc(), table, seat);
-    assert_eq!(rt;
-        refusals,
-        Some([
-            Some(Refusal::SerialsSpent),
-            Some(Refusal::NoEncoder),
-            Some(Refusal::FramesSpent)
-        ])
-    );
-    Ok(())
-}
-
-// The answer to the destroy of a texture that a frame buffer holds, and the frame buffer.
-fn held_in<C: Naming, R: Wait>(
+fn frame_buffer<C: Naming, R: Wait>(
     context: &mut Context<'_, C, ListLink<'_, R>>,
-) -> Option<(Result<(), Refusal>, Handle)> {
-    let Ok(texture) = context.create_texture(1, 1, Format::Rgba8, false, TexSource::Fill([0; 4]))
-    else {
-        return None;
-    };
-    let Ok(holder) = context.create_frame_buffer(texture, None) else {
-        return None;
-    };
-    Some((context.destroy(texture), holder))
+    color: Handle,
+) -> Option<Handle> {
+    match context.create_frame_buffer(color, None) {
+        Ok(target) => Some(target),
+        Err(_) => None,
+    }
 }
 
-fn held<C: Naming, R: Wait>(
-    rt: &R,
-    alloc: Global,
-    table: HoldTable,
-    seat: ApiSeat,
-) -> Option<(Result<(), Refusal>, Handle)>
-    requires table { (table_of table ≡ C.table) × (api_table seat ≡ C.table) × (api_view seat ≡ first_view 0) }
-    requires views { C.views ≡ fewest_views }
-{
-    let Ok(shared) = Shared::<C>::new(alloc, table) else {
-        return None;
-    };
-    let mut context = begun(rt, alloc, &shared, seat, 0, 1, 1)?;
-    held_in(&mut context)
+// The texture is destroyed: whether it is refused for that holder, and the holder's index and serial.
+fn held_by<C: Naming, R: Wait>(
+    context: &mut Context<'_, C, ListLink<'_, R>>,
+    texture: Handle,
+    holder: Handle,
+) -> Told {
+    let (index, serial) = (u64::from(holder.index()), u64::from(holder.serial()));
+    let answer = context.destroy(texture);
+    let same = u64::from(answer == Err(Refusal::Attached { holder }));
+    (NONE, [same, index, serial, 0])
 }
 
-#[test]
-fn a_texture_is_held(rt: HostRuntime) -> Result<(), Fail> {
-    let (table, seat) = HoldTable::new(rt.alloc(), 0)?;
-    let (answer, holder) = held::<Brand, _>(&rt, rt.alloc(), table, seat).ok_or("memory")?;
-    assert_eq!(rt; answer, Err(Refusal::Attached { holder }));
-    Ok(())
+fn held<C: Naming, R: Wait>(context: &mut Context<'_, C, ListLink<'_, R>>) -> Option<Told> {
+    let texture = texture(context)?;
+    let holder = frame_buffer(context, texture)?;
+    Some(held_by(context, texture, holder))
 }
 
-// Of two frame buffers that hold a texture the first dies, and a third one has its index. The answer to the destroy of the texture,
-// and the third.
-fn held_again_in<C: Naming, R: Threads + Wait + Sync>(
+fn held_again<C: Naming, R: Wait>(
     rt: &R,
     context: &mut Context<'_, C, ListLink<'_, R>>,
-) -> Option<(Result<(), Refusal>, Handle)> {
-    let Ok(texture) = context.create_texture(1, 1, Format::Rgba8, false, TexSource::Fill([0; 4]))
-    else {
-        return None;
-    };
-    let Ok(first) = context.create_frame_buffer(texture, None) else {
-        return None;
-    };
-    let Ok(_) = context.create_frame_buffer(texture, None) else {
-        return None;
-    };
+) -> Option<Told> {
+    let texture = texture(context)?;
+    let first = frame_buffer(context, texture)?;
+    frame_buffer(context, texture)?;
     let Ok(_) = context.destroy(first) else {
         return None;
     };
-    for _ in 0..2u8 {
-        let Ok(_) = ended(rt, context)? else {
-            return None;
-        };
-    }
-    let Ok(third) = context.create_frame_buffer(texture, None) else {
-        return None;
-    };
-    Some((context.destroy(texture), third))
+    frame_told(rt, context)?;
+    frame_told(rt, context)?;
+    let third = frame_buffer(context, texture)?;
+    Some(held_by(context, texture, third))
 }
 
-fn held_again<C: Naming, R: Threads + Wait + Sync>(
-    rt: &R,
-    alloc: Global,
-    table: HoldTable,
-    seat: ApiSeat,
-) -> Option<(Result<(), Refusal>, Handle)>
-    requires table { (table_of table ≡ C.table) × (api_table seat ≡ C.table) × (api_view seat ≡ first_view 0) }
-    requires views { C.views ≡ fewest_views }
-{
-    let Ok(shared) = Shared::<C>::new(alloc, table) else {
-        return None;
-    };
-    let mut context = begun(rt, alloc, &shared, seat, 0, 1, 1)?;
-    held_again_in(rt, &mut context)
-}
-
-#[test]
-fn the_holder_of_least_index(rt: HostRuntime) -> Result<(), Fail> {
-    let (table, seat) = HoldTable::new(rt.alloc(), 0)?;
-    let (answer, holder) = held_again::<Brand, _>(&rt, rt.alloc(), table, seat).ok_or("memory")?;
-    assert_eq!(rt; (holder.index(), holder.serial()), (0, 4));
-    assert_eq!(rt; answer, Err(Refusal::Attached { holder }));
-    Ok(())
-}
-
-// A thread records and ends its encoder while this one ends the frame. The number of items, and the sum of the dropped.
+// A thread records and ends the encoder while this one ends the frame.
 fn ended_beside<C: Naming + Send + Sync, R: Threads + Wait + Sync>(
     rt: &R,
     context: &mut Context<'_, C, ListLink<'_, R>>,
-) -> Option<(usize, u64)>
+) -> Option<Told>
     requires admits { (e f d : ℕ) (items : List SeenItem) → C.admits e f items d }
 {
-    let Ok(mut encoder) = begun_one(context)? else {
-        return None;
-    };
-    let (_, report) = thread::join(
+    let mut encoder = next_encoder(context)?;
+    let (_, told) = thread::join(
         rt,
         || -> ()
             requires admits { (e f d : ℕ) (items : List SeenItem) → C.admits e f items d }
@@ -441,75 +339,302 @@ fn ended_beside<C: Naming + Send + Sync, R: Threads + Wait + Sync>(
             let _ = encoder.touch(1);
             encoder.end(rt, 5);
         },
-        || ended(rt, context),
+        || frame_told(rt, context),
     );
-    let Ok(report) = report? else {
-        return None;
-    };
-    Some((report.journal.len(), report.dropped))
+    let (items, dropped) = told?;
+    Some((NONE, [items, dropped, 0, 0]))
 }
 
-fn beside<C: Naming + Send + Sync, R: Threads + Wait + Sync>(
+// An encoder, begun again where there was no memory.
+fn begun_twice<'t, C: Naming, R: Wait>(
+    context: &mut Context<'t, C, ListLink<'_, R>>,
+) -> Option<Encoder<'t, C>> {
+    match begun_one(context)? {
+        Ok(encoder) => Some(encoder),
+        Err(Refusal::OutOfMemory) => next_encoder(context),
+        Err(_) => None,
+    }
+}
+
+// It records one touch: its number, and how many were begun.
+fn touched<C: Naming, R: Wait>(
+    rt: &R,
+    context: &mut Context<'_, C, ListLink<'_, R>>,
+) -> Option<(u64, u64)>
+    requires admits { (e f d : ℕ) (items : List SeenItem) → C.admits e f items d }
+{
+    let mut encoder = begun_twice(context)?;
+    let told = (u64::from(encoder.number()), u64::from(context.begun()));
+    let _ = encoder.touch(0);
+    encoder.end(rt, 0);
+    Some(told)
+}
+
+fn begun_again<C: Naming, R: Wait>(
+    rt: &R,
+    context: &mut Context<'_, C, ListLink<'_, R>>,
+) -> Option<Told>
+    requires admits { (e f d : ℕ) (items : List SeenItem) → C.admits e f items d }
+{
+    let (number, begun) = touched(rt, context)?;
+    let (items, _) = frame_told(rt, context)?;
+    Some((NONE, [number, begun, items, 0]))
+}
+
+// The items and the dropped of a frame that ends, where the context is not ended and no encoder is off.
+fn ended_here<C: Naming, R: Wait>(
+    context: &mut Context<'_, C, ListLink<'_, R>>,
+) -> Option<(u64, u64)> {
+    if context.is_ended() {
+        return None;
+    }
+    if context.off() != 0 {
+        return None;
+    }
+    match context.end() {
+        Ok(report) => Some((report.journal.len() as u64, report.dropped)),
+        Err(_) => None,
+    }
+}
+
+fn gathered<C: Naming, R: Wait>(context: &mut Context<'_, C, ListLink<'_, R>>) -> Option<Told>
+    requires admits { (e f d : ℕ) (items : List SeenItem) → C.admits e f items d }
+{
+    let mut encoder = next_encoder(context)?;
+    let _ = encoder.touch(0);
+    context.gather(encoder.finish(5));
+    let (items, dropped) = ended_here(context)?;
+    Some((NONE, [items, dropped, 0, 0]))
+}
+
+fn told_in<C: Naming + Send + Sync, R: Threads + Wait + Sync>(
+    rt: &R,
+    context: &mut Context<'_, C, ListLink<'_, R>>,
+    case: Case,
+) -> Option<Told>
+    requires admits { (e f d : ℕ) (items : List SeenItem) → C.admits e f items d }
+{
+    match case {
+        Case::Again => indices_again(rt, context),
+        Case::Dead => stale_answers(rt, context),
+        Case::Limits => refusals_at_the_limits(rt, context),
+        Case::Held => held(context),
+        Case::HeldAgain => held_again(rt, context),
+        Case::Beside => ended_beside(rt, context),
+        Case::Begun => begun_again(rt, context),
+        Case::Gathered => gathered(context),
+    }
+}
+
+// ---- one context for each
+
+fn begun<'t, 'r, C: Naming, R: Wait>(
+    rt: &'r R,
+    alloc: Global,
+    shared: &'t Shared<C>,
+    seat: ApiSeat,
+    start: Start,
+) -> Option<Context<'t, C, ListLink<'r, R>>>
+    requires table { api_table seat ≡ C.table }
+    requires seat { api_view seat ≡ first_view start.frame }
+    requires start { (start.frame ≤ 1073741823) × (1 ≤ start.serial) × (start.views ≡ fewest_views) }
+    requires views { C.views ≡ fewest_views }
+    requires latency { (1 ≤ start.latency) × (start.latency ≤ 3) }
+{
+    let link = ListLink {
+        rt,
+        latency: start.latency,
+        out: Vec::new(alloc),
+        backs: Vec::new(alloc),
+    };
+    match Context::init(alloc, shared, seat, link, start) {
+        Ok(context) => Some(context),
+        Err(_) => None,
+    }
+}
+
+// What came back at the close of a context; none where an encoder is off.
+fn closed_here<C: Naming, R: Wait>(context: Context<'_, C, ListLink<'_, R>>) -> Option<Backs> {
+    if context.off() != 0 {
+        None
+    } else {
+        Some(context.close().backs)
+    }
+}
+
+fn in_shared<C: Naming + Send + Sync, R: Threads + Wait + Sync>(
+    rt: &R,
+    alloc: Global,
+    shared: &Shared<C>,
+    seat: ApiSeat,
+    start: Start,
+    case: Case,
+) -> (Option<Told>, Option<Backs>)
+    requires table { (api_table seat ≡ C.table) × (api_view seat ≡ first_view start.frame) }
+    requires start { (start.frame ≤ 1073741823) × (1 ≤ start.serial) × (start.views ≡ fewest_views) }
+    requires latency { (1 ≤ start.latency) × (start.latency ≤ 3) }
+    requires views { C.views ≡ fewest_views }
+    requires admits { (e f d : ℕ) (items : List SeenItem) → C.admits e f items d }
+{
+    match begun(rt, alloc, shared, seat, start) {
+        Some(mut context) => {
+            let told = told_in(rt, &mut context, case);
+            (told, closed_here(context))
+        }
+        None => (None, None),
+    }
+}
+
+fn by_case<C: Naming + Send + Sync, R: Threads + Wait + Sync>(
     rt: &R,
     alloc: Global,
     table: HoldTable,
     seat: ApiSeat,
-) -> Option<(usize, u64)>
-    requires table { (table_of table ≡ C.table) × (api_table seat ≡ C.table) × (api_view seat ≡ first_view 0) }
+    start: Start,
+    case: Case,
+) -> (Option<Told>, Option<Backs>)
+    requires table { (table_of table ≡ C.table) × (api_table seat ≡ C.table) × (api_view seat ≡ first_view start.frame) }
+    requires start { (start.frame ≤ 1073741823) × (1 ≤ start.serial) × (start.views ≡ fewest_views) }
+    requires latency { (1 ≤ start.latency) × (start.latency ≤ 3) }
     requires views { C.views ≡ fewest_views }
     requires admits { (e f d : ℕ) (items : List SeenItem) → C.admits e f items d }
 {
-    let Ok(shared) = Shared::<C>::new(alloc, table) else {
-        return None;
-    };
-    let mut context = begun(rt, alloc, &shared, seat, 0, 1, 1)?;
-    ended_beside(rt, &mut context)
+    match Shared::<C>::new(alloc, table) {
+        Ok(shared) => in_shared(rt, alloc, &shared, seat, start, case),
+        Err(_) => (None, None),
+    }
+}
+
+// What is told of a case by a context of its own, and what came back at its close.
+fn told<R: Threads + Wait + Sync>(
+    rt: &R,
+    alloc: Global,
+    start: Start,
+    case: Case,
+) -> (Option<Told>, Option<Backs>)
+    requires start { (start.frame ≤ 1073741823) × (1 ≤ start.serial) × (start.views ≡ fewest_views) }
+    requires latency { (1 ≤ start.latency) × (start.latency ≤ 3) }
+{
+    match HoldTable::new(alloc, start.frame) {
+        Ok((table, seat)) => by_case::<Brand, R>(rt, alloc, table, seat, start, case),
+        Err(_) => (None, None),
+    }
+}
+
+fn of_latency(latency: u8) -> Start
+    ensures { (result.frame ≡ 0) × (result.serial ≡ 1) × (result.views ≡ 256) × (result.latency ≡ latency) }
+{
+    Start {
+        frame: 0,
+        serial: 1,
+        views: 256,
+        latency,
+    }
 }
 
 #[test]
-fn a_thread_records(rt: HostRuntime) -> Result<(), Fail> {
-    let (table, seat) = HoldTable::new(rt.alloc(), 0)?;
-    let told = beside::<Brand, _>(&rt, rt.alloc(), table, seat);
-    assert_eq!(rt; told, Some((2, 5)));
-    Ok(())
+fn an_index_comes_again(rt: HostRuntime) {
+    let (one, _) = told(&rt, rt.alloc(), of_latency(1), Case::Again);
+    let (two, _) = told(&rt, rt.alloc(), of_latency(2), Case::Again);
+    let (three, _) = told(&rt, rt.alloc(), of_latency(3), Case::Again);
+    assert_eq!(rt; one, Some((NONE, [1, 0, 2, 3])));
+    assert_eq!(rt; two, Some((NONE, [1, 2, 0, 3])));
+    assert_eq!(rt; three, Some((NONE, [1, 2, 3, 0])));
 }
 
+// Its place is dying in frame 1, and has serial 3 in frame 2.
+#[test]
+fn a_dead_program_is_stale(rt: HostRuntime) {
+    let (answers, _) = told(&rt, rt.alloc(), START, Case::Dead);
+    let wanted = [
+        None,
+        Some(Refusal::Stale { word: 6 }),
+        Some(Refusal::Stale { word: 13 }),
+    ];
+    assert_eq!(rt; answers, Some((wanted, [0; 4])));
+}
+
+// The last frame and the last serial.
+const LAST: Start = Start {
+    frame: 1_073_741_823,
+    serial: 4_294_967_295,
+    views: 256,
+    latency: 1,
+};
+
+#[test]
+fn the_limits(rt: HostRuntime) {
+    let (refusals, _) = told(&rt, rt.alloc(), LAST, Case::Limits);
+    let wanted = [
+        Some(Refusal::SerialsSpent),
+        Some(Refusal::NoEncoder),
+        Some(Refusal::FramesSpent),
+    ];
+    assert_eq!(rt; refusals, Some((wanted, [0; 4])));
+}
+
+#[test]
+fn a_texture_is_held(rt: HostRuntime) {
+    let (held, _) = told(&rt, rt.alloc(), START, Case::Held);
+    assert_eq!(rt; held, Some((NONE, [1, 0, 2, 0])));
+}
+
+#[test]
+fn the_holder_of_least_index(rt: HostRuntime) {
+    let (held, _) = told(&rt, rt.alloc(), START, Case::HeldAgain);
+    assert_eq!(rt; held, Some((NONE, [1, 0, 4, 0])));
+}
+
+#[test]
+fn a_thread_records(rt: HostRuntime) {
+    let (frame, _) = told(&rt, rt.alloc(), START, Case::Beside);
+    assert_eq!(rt; frame, Some((NONE, [2, 5, 0, 0])));
+}
+
+#[test]
+fn a_frame_without_a_queue(rt: HostRuntime) {
+    let (frame, backs) = told(&rt, rt.alloc(), START, Case::Gathered);
+    let first = BackNote {
+        number: 0,
+        outcome: Outcome::Shown,
+    };
+    assert_eq!(rt; frame, Some((NONE, [1, 5, 0, 0])));
+    assert_eq!(rt; backs, Some([Some(first), None, None]));
+}
+
+// `rt try --test --fail-alloc N` tries it with the Nth allocation failing.
+#[test]
+fn an_encoder_is_begun_again(rt: HostRuntime) {
+    let (begun, _) = told(&rt, rt.alloc(), START, Case::Begun);
+    assert_eq!(rt; begun, Some((NONE, [0, 1, 1, 0])));
+}
+
+// ---- the shutdown
+
 // A frame is out, an encoder has ended, and another one is off, which comes back.
-fn one_off<'t, C: Naming, R: Threads + Wait + Sync>(
+fn one_off<'t, C: Naming, R: Wait>(
     rt: &R,
     context: &mut Context<'t, C, ListLink<'_, R>>,
 ) -> Option<Encoder<'t, C>>
     requires admits { (e f d : ℕ) (items : List SeenItem) → C.admits e f items d }
 {
-    let Ok(_) = ended(rt, context)? else {
-        return None;
-    };
-    let Ok(encoder) = begun_one(context)? else {
-        return None;
-    };
-    encoder.end(rt, 0);
-    let Ok(off) = begun_one(context)? else {
-        return None;
-    };
-    Some(off)
+    frame_told(rt, context)?;
+    if begun_and_ended(rt, context) {
+        next_encoder(context)
+    } else {
+        None
+    }
 }
 
-// The context is shut down while a frame is out, an encoder has ended, and a thread ends another one. What came back.
-fn shut<C: Naming + Send + Sync, R: Threads + Wait + Sync>(
+// The context is shut down while a thread ends the encoder. The seat of its table, and what came back.
+fn shut_beside<'t, C: Naming + Send + Sync, R: Threads + Wait + Sync>(
     rt: &R,
-    alloc: Global,
-    table: HoldTable,
-    seat: ApiSeat,
-) -> Option<[Option<BackNote>; 3]>
-    requires table { (table_of table ≡ C.table) × (api_table seat ≡ C.table) × (api_view seat ≡ first_view 0) }
-    requires views { C.views ≡ fewest_views }
+    context: Context<'t, C, ListLink<'_, R>>,
+    open: Encoder<'t, C>,
+) -> (ApiSeat, Backs)
     requires admits { (e f d : ℕ) (items : List SeenItem) → C.admits e f items d }
+    ensures seat { (api_table result.0 ≡ C.table) × ((api_view result.0).off ≡ []) }
 {
-    let Ok(shared) = Shared::<C>::new(alloc, table) else {
-        return None;
-    };
-    let mut context = begun(rt, alloc, &shared, seat, 0, 1, 1)?;
-    let open = one_off(rt, &mut context)?;
     let (_, closed) = thread::join(
         rt,
         || -> ()
@@ -522,11 +647,40 @@ fn shut<C: Naming + Send + Sync, R: Threads + Wait + Sync>(
             ensures off { (api_view result.seat).off ≡ [] }
         { context.shutdown(rt) },
     );
-    let Closed {
-        link: _,
-        seat,
-        backs,
-    } = closed;
+    (closed.seat, closed.backs)
+}
+
+// The same of a new context, where a frame is out and an encoder has ended.
+fn shut_in<C: Naming + Send + Sync, R: Threads + Wait + Sync>(
+    rt: &R,
+    alloc: Global,
+    shared: &Shared<C>,
+    seat: ApiSeat,
+) -> Option<(ApiSeat, Backs)>
+    requires table { (api_table seat ≡ C.table) × (api_view seat ≡ first_view 0) }
+    requires views { C.views ≡ fewest_views }
+    requires admits { (e f d : ℕ) (items : List SeenItem) → C.admits e f items d }
+    ensures seat { IfSome result (λ r. (api_table r.0 ≡ C.table) × ((api_view r.0).off ≡ [])) }
+{
+    let mut context = begun(rt, alloc, shared, seat, START)?;
+    let open = one_off(rt, &mut context)?;
+    Some(shut_beside(rt, context, open))
+}
+
+fn shut<C: Naming + Send + Sync, R: Threads + Wait + Sync>(
+    rt: &R,
+    alloc: Global,
+    table: HoldTable,
+    seat: ApiSeat,
+) -> Option<Backs>
+    requires table { (table_of table ≡ C.table) × (api_table seat ≡ C.table) × (api_view seat ≡ first_view 0) }
+    requires views { C.views ≡ fewest_views }
+    requires admits { (e f d : ℕ) (items : List SeenItem) → C.admits e f items d }
+{
+    let Ok(shared) = Shared::<C>::new(alloc, table) else {
+        return None;
+    };
+    let (seat, backs) = shut_in(rt, alloc, &shared, seat)?;
     shared.into_table().close(seat);
     Some(backs)
 }
@@ -540,128 +694,5 @@ fn a_context_is_shut_down(rt: HostRuntime) -> Result<(), Fail> {
         outcome: Outcome::Shown,
     };
     assert_eq!(rt; backs, Some([Some(first), None, None]));
-    Ok(())
-}
-
-// The end of a frame, where the context is not ended and no encoder is off.
-fn ended_here<C: Naming, R: Wait>(
-    context: &mut Context<'_, C, ListLink<'_, R>>,
-) -> Option<FrameReport> {
-    if context.is_ended() {
-        return None;
-    }
-    if context.off() != 0 {
-        return None;
-    }
-    match context.end() {
-        Ok(report) => Some(report),
-        Err(_) => None,
-    }
-}
-
-// The close of a context, where no encoder is off.
-fn closed_here<'r, C: Naming, R: Wait>(
-    context: Context<'_, C, ListLink<'r, R>>,
-) -> Option<Closed<ListLink<'r, R>>> {
-    if context.off() != 0 {
-        return None;
-    }
-    Some(context.close())
-}
-
-// A frame with one encoder, whose bundle goes into no queue: the number of items, and the sum of the dropped.
-fn gathered_in<C: Naming, R: Wait>(
-    context: &mut Context<'_, C, ListLink<'_, R>>,
-) -> Option<(usize, u64)>
-    requires admits { (e f d : ℕ) (items : List SeenItem) → C.admits e f items d }
-{
-    let Ok(mut encoder) = begun_one(context)? else {
-        return None;
-    };
-    let _ = encoder.touch(0);
-    context.gather(encoder.finish(5));
-    let report = ended_here(context)?;
-    Some((report.journal.len(), report.dropped))
-}
-
-// The same through a new context, and what came back at the close.
-fn gathered<C: Naming, R: Wait>(
-    rt: &R,
-    alloc: Global,
-    table: HoldTable,
-    seat: ApiSeat,
-) -> Option<((usize, u64), [Option<BackNote>; 3])>
-    requires table { (table_of table ≡ C.table) × (api_table seat ≡ C.table) × (api_view seat ≡ first_view 0) }
-    requires views { C.views ≡ fewest_views }
-    requires admits { (e f d : ℕ) (items : List SeenItem) → C.admits e f items d }
-{
-    let Ok(shared) = Shared::<C>::new(alloc, table) else {
-        return None;
-    };
-    let mut context = begun(rt, alloc, &shared, seat, 0, 1, 1)?;
-    let told = gathered_in(&mut context);
-    let closed = closed_here(context)?;
-    Some((told?, closed.backs))
-}
-
-#[test]
-fn a_frame_without_a_queue(rt: HostRuntime) -> Result<(), Fail> {
-    let (table, seat) = HoldTable::new(rt.alloc(), 0)?;
-    let told = gathered::<Brand, _>(&rt, rt.alloc(), table, seat).ok_or("memory")?;
-    let first = BackNote {
-        number: 0,
-        outcome: Outcome::Shown,
-    };
-    assert_eq!(rt; told, ((1, 5), [Some(first), None, None]));
-    Ok(())
-}
-
-// An encoder is begun, and begun again where there was no memory: its number, how many were begun, and the items of its frame.
-fn begun_again_in<C: Naming, R: Threads + Wait + Sync>(
-    rt: &R,
-    context: &mut Context<'_, C, ListLink<'_, R>>,
-) -> Option<(u8, u32, usize)>
-    requires admits { (e f d : ℕ) (items : List SeenItem) → C.admits e f items d }
-{
-    let one = match begun_one(context)? {
-        Err(Refusal::OutOfMemory) => begun_one(context)?,
-        one => one,
-    };
-    let Ok(mut encoder) = one else {
-        return None;
-    };
-    let number = encoder.number();
-    let begun = context.begun();
-    let _ = encoder.touch(0);
-    encoder.end(rt, 0);
-    let Ok(report) = ended(rt, context)? else {
-        return None;
-    };
-    Some((number, begun, report.journal.len()))
-}
-
-fn begun_again<C: Naming, R: Threads + Wait + Sync>(
-    rt: &R,
-    alloc: Global,
-    table: HoldTable,
-    seat: ApiSeat,
-) -> Option<(u8, u32, usize)>
-    requires table { (table_of table ≡ C.table) × (api_table seat ≡ C.table) × (api_view seat ≡ first_view 0) }
-    requires views { C.views ≡ fewest_views }
-    requires admits { (e f d : ℕ) (items : List SeenItem) → C.admits e f items d }
-{
-    let Ok(shared) = Shared::<C>::new(alloc, table) else {
-        return None;
-    };
-    let mut context = begun(rt, alloc, &shared, seat, 0, 1, 1)?;
-    begun_again_in(rt, &mut context)
-}
-
-// `rt try --test --fail-alloc N` tries it with the Nth allocation failing.
-#[test]
-fn an_encoder_is_begun_again(rt: HostRuntime) -> Result<(), Fail> {
-    let (table, seat) = HoldTable::new(rt.alloc(), 0)?;
-    let told = begun_again::<Brand, _>(&rt, rt.alloc(), table, seat).ok_or("memory")?;
-    assert_eq!(rt; told, (0, 1, 1));
     Ok(())
 }

@@ -1,26 +1,16 @@
 // What no clause of `frame` says: that the journal is the order in which the encoders drew, also of one that is gathered.
-ghost use Rattle.std.specs.Prelude.{◌≡◌, []};
-ghost use Rattle.gfx_model.specs.FrameCalls.{opened};
-ghost use Rattle.gfx_model.specs.Resources.{opening};
-ghost use Rattle.gfx_model.specs.Views.{fewest_views};
-ghost use Rattle.hold_table.specs.Seats.{table_of as hold_of, api_table, api_view};
-ghost use Rattle.hold_table.specs.Views.{first_view};
-ghost use Rattle.gfx_context.specs.Gathered.{AdmitsAll};
-ghost use Rattle.gfx_context.specs.States.{no_book};
-ghost use Rattle.res_lock.specs.Seats.{table_of, pass_table};
+ghost use Rattle.std.specs.Prelude.{◌≡◌, IfSome, ℕ, List};
+ghost use Rattle.gfx_model.specs.World.{Item as SeenItem};
+ghost use Rattle.res_lock.specs.Seats.{pass_table};
+ghost use Rattle.res_lock.specs.Called.{IsSamePass};
 
-use crate::res_lock_tests::locked;
+use crate::res_lock_tests::{Case, ListLink, told};
 use draw_encoder::Encoder;
-use frame_keeping::KeepingLink;
 use frame_record::JournalEntry;
-use gfx_context::{Naming, Shared};
+use gfx_context::{FrameReport, Naming};
 use gfx_words::Room;
-use hold_table::{ApiSeat, HoldTable};
 use res_lock::*;
-use std::alloc::Global;
-use std::marker::Brand;
 use std::sync::Wait;
-use std::test::Fail;
 
 const ROOM: Room = Room {
     items: 2,
@@ -28,99 +18,87 @@ const ROOM: Room = Room {
     uniforms: 0,
 };
 
-// Two encoders touch view 0 by turns, the second one where the turn says so.
+// Two encoders touch view 0 by turns, the second one where the turn says so: whether all touches are accepted.
 fn by_turns<C: Naming>(
     first: &mut Encoder<'_, C>,
     second: &mut Encoder<'_, C>,
     turns: [bool; 3],
-) -> Option<()> {
+) -> bool {
+    let mut all = true;
     for is_second in turns {
         let taken = if is_second {
             second.touch(0)
         } else {
             first.touch(0)
         };
-        if taken.is_err() {
-            return None;
-        }
+        all = all && taken.is_ok();
     }
-    Some(())
+    all
 }
 
-// Their frame's journal, where the second one ends first, and the first one is gathered.
-fn journal_in<C: Naming, H: HistoryNaming, R: Wait>(
+fn next<'t, C: Naming, H: HistoryNaming, R: Wait>(
     rt: &R,
-    lock: &ResLock<'_, C, KeepingLink, H>,
-    mut pass: ResPass,
-    turns: [bool; 3],
-) -> Option<[Option<JournalEntry>; 3]>
-    requires table { pass_table pass ≡ H.table }
-    requires admits { AdmitsAll C.admits }
+    lock: &ResLock<'t, C, ListLink<'_, R>, H>,
+    pass: &mut ResPass,
+) -> Option<Encoder<'t, C>>
+    requires table { pass_table pass.old ≡ H.table }
+    ensures same { IfSome result (λ _. IsSamePass pass.old pass.new) }
 {
     if pass.is_full() {
         return None;
     }
-    let Ok(mut first) = lock.begin(rt, &mut pass, ROOM) else {
-        return None;
-    };
-    if pass.is_full() {
-        return None;
+    match lock.begin(rt, pass, ROOM) {
+        Ok(encoder) => Some(encoder),
+        Err(_) => None,
     }
-    let Ok(mut second) = lock.begin(rt, &mut pass, ROOM) else {
-        return None;
-    };
-    by_turns(&mut first, &mut second, turns)?;
+}
+
+// The second one ends first, and the first one is gathered: whether all touches were accepted.
+fn both<C: Naming, H: HistoryNaming, R: Wait>(
+    rt: &R,
+    lock: &ResLock<'_, C, ListLink<'_, R>, H>,
+    pass: &mut ResPass,
+    turns: [bool; 3],
+) -> Option<bool>
+    requires table { pass_table pass.old ≡ H.table }
+    requires admits { (e f d : ℕ) (items : List SeenItem) → C.admits e f items d }
+    ensures { IfSome result (λ _. IsSamePass pass.old pass.new) }
+{
+    let mut first = next(rt, lock, pass)?;
+    let mut second = next(rt, lock, pass)?;
+    let all = by_turns(&mut first, &mut second, turns);
     second.end(rt, 0);
     lock.gather(rt, first.finish(0));
-    if pass.is_full() {
-        return None;
-    }
-    let Ok(report) = lock.frame(rt, &mut pass) else {
-        return None;
-    };
+    Some(all)
+}
+
+fn entries_of(report: &FrameReport) -> [Option<JournalEntry>; 3] {
     let journal = report.journal.as_slice();
-    Some([
+    [
         journal.first().copied(),
         journal.get(1).copied(),
         journal.get(2).copied(),
-    ])
+    ]
 }
 
-fn journal<C: Naming, H: HistoryNaming, R: Wait>(
+/// The journal of their frame.
+pub(crate) fn journal_in<C: Naming, H: HistoryNaming, R: Wait>(
     rt: &R,
-    alloc: Global,
-    hold: HoldTable,
-    seat: ApiSeat,
-    table: HistoryTable,
-    pass: ResPass,
+    lock: &ResLock<'_, C, ListLink<'_, R>, H>,
+    pass: &mut ResPass,
     turns: [bool; 3],
 ) -> Option<[Option<JournalEntry>; 3]>
-    requires hold { (hold_of hold ≡ C.table) × (api_table seat ≡ C.table) × (api_view seat ≡ first_view 0) }
-    requires views { C.views ≡ fewest_views }
-    requires admits { AdmitsAll C.admits }
-    requires table { (table_of table ≡ H.table) × (pass_table pass ≡ H.table) }
-    requires start { H.start ≡ opened (opening 256 1 0 1) }
-    requires book { H.book ≡ record no_book { resources = opening 256 1 0 1 } }
-    requires given { H.given ≡ [] }
+    requires table { pass_table pass.old ≡ H.table }
+    requires admits { (e f d : ℕ) (items : List SeenItem) → C.admits e f items d }
+    ensures { IfSome result (λ _. IsSamePass pass.old pass.new) }
 {
-    let Ok(shared) = Shared::<C>::new(alloc, hold) else {
+    if !both(rt, lock, pass, turns)? || pass.is_full() {
         return None;
-    };
-    let Ok(link) = KeepingLink::new(alloc, 1) else {
-        return None;
-    };
-    let lock = locked::<C, KeepingLink, H>(alloc, &shared, seat, table, link)?;
-    journal_in(rt, &lock, pass, turns)
-}
-
-fn told<R: Wait>(rt: &R, alloc: Global, turns: [bool; 3]) -> Option<[Option<JournalEntry>; 3]> {
-    let Ok((hold, seat)) = HoldTable::new(alloc, 0) else {
-        return None;
-    };
-    let Ok((table, pass)) = HistoryTable::new(alloc) else {
-        return None;
-    };
-    journal::<Brand, Brand, R>(rt, alloc, hold, seat, table, pass, turns)
+    }
+    match lock.frame(rt, pass) {
+        Ok(report) => Some(entries_of(&report)),
+        Err(_) => None,
+    }
 }
 
 fn entry(encoder: u8, ordinal: u32) -> Option<JournalEntry> {
@@ -128,14 +106,9 @@ fn entry(encoder: u8, ordinal: u32) -> Option<JournalEntry> {
 }
 
 #[test]
-fn the_journal_is_the_order_drawn(rt: HostRuntime) -> Result<(), Fail> {
-    assert_eq!(rt;
-        told(&rt, rt.alloc(), [false, true, false]),
-        Some([entry(0, 0), entry(1, 0), entry(0, 1)])
-    );
-    assert_eq!(rt;
-        told(&rt, rt.alloc(), [true, false, false]),
-        Some([entry(1, 0), entry(0, 0), entry(0, 1)])
-    );
-    Ok(())
+fn the_journal_is_the_order_drawn(rt: HostRuntime) {
+    let one = told(&rt, rt.alloc(), Case::Order([false, true, false])).map(|told| told.1);
+    let other = told(&rt, rt.alloc(), Case::Order([true, false, false])).map(|told| told.1);
+    assert_eq!(rt; one, Some([entry(0, 0), entry(1, 0), entry(0, 1)]));
+    assert_eq!(rt; other, Some([entry(1, 0), entry(0, 0), entry(0, 1)]));
 }

@@ -12,17 +12,19 @@ ghost use Rattle.res_lock.specs.Seats.{table_of, pass_table, pass_view, made_by,
 ghost use Rattle.res_lock.specs.Views.{first_view};
 ghost use Rattle.res_lock.specs.Called.{IsSamePass};
 
+use crate::res_lock_order_tests::journal_in;
 use fix_math::{Affine, Rect};
 use frame_record::{Frame, FrameLink, Outcome, RenderedFrame};
 use gfx_context::{Context, Naming, Shared, Start};
-use gfx_words::{Format, Handle, ProgramKind, Refusal, Room, TexSource, UniformKind, ViewMode};
+use gfx_words::{
+    Format, Handle, JournalEntry, ProgramKind, Refusal, Room, TexSource, UniformKind, ViewMode,
+};
 use hold_table::{ApiSeat, HoldTable};
 use res_lock::*;
 use std::alloc::Global;
 use std::marker::Brand;
 use std::snapshot::Snapshot;
 use std::sync::Wait;
-use std::test::Fail;
 use std::thread::Threads;
 use vertex_layout::{Attr, AttrType, LayoutBuilder, VertexLayout};
 
@@ -41,7 +43,7 @@ const ROOM: Room = Room {
 
 // Frames wait in a list, and come back with one outcome, the oldest first.
 #[derive(Drop)]
-struct ListLink<'r, R> {
+pub(crate) struct ListLink<'r, R> {
     rt: &'r R,
     outcome: Outcome,
     out: Vec<Frame>,
@@ -105,7 +107,7 @@ fn list_link<R>(rt: &R, alloc: Global, outcome: Outcome) -> ListLink<'_, R>
     }
 }
 
-pub(crate) fn locked<'t, C: Naming, L: FrameLink + Drop, H: HistoryNaming>(
+fn locked<'t, C: Naming, L: FrameLink + Drop, H: HistoryNaming>(
     alloc: Global,
     shared: &'t Shared<C>,
     seat: ApiSeat,
@@ -156,218 +158,191 @@ fn few(pass: &ResPass) -> Option<()>
 fn makes_buffers<C: Naming, H: HistoryNaming, R: Wait>(
     rt: &R,
     lock: &ResLock<'_, C, ListLink<'_, R>, H>,
-    mut pass: ResPass,
+    pass: &mut ResPass,
     layout: VertexLayout,
-) -> Option<(ResPass, Handle)>
-    requires { pass_table pass ≡ H.table }
-    ensures { IfSome result (λ r. IsSamePass pass r.0) }
+) -> Option<Handle>
+    requires { pass_table pass.old ≡ H.table }
+    ensures { IfSome result (λ _. IsSamePass pass.old pass.new) }
 {
-    few(&pass)?;
-    let Ok(layout) = lock.create_layout(rt, &mut pass, layout) else {
+    few(pass)?;
+    let Ok(layout) = lock.create_layout(rt, pass, layout) else {
         return None;
     };
-    few(&pass)?;
-    let Ok(vertices) = lock.create_vertex_buffer(rt, &mut pass, layout, &[0; 24]) else {
+    few(pass)?;
+    let Ok(vertices) = lock.create_vertex_buffer(rt, pass, layout, &[0; 24]) else {
         return None;
     };
-    few(&pass)?;
-    let Ok(_) = lock.create_index_buffer(rt, &mut pass, &[0; 6]) else {
+    few(pass)?;
+    let Ok(_) = lock.create_index_buffer(rt, pass, &[0; 6]) else {
         return None;
     };
-    Some((pass, vertices))
+    Some(vertices)
 }
 
 // A texture and a frame buffer that holds it.
 fn makes_target<C: Naming, H: HistoryNaming, R: Wait>(
     rt: &R,
     lock: &ResLock<'_, C, ListLink<'_, R>, H>,
-    mut pass: ResPass,
-) -> Option<(ResPass, Handle, Handle)>
-    requires { pass_table pass ≡ H.table }
-    ensures { IfSome result (λ r. IsSamePass pass r.0) }
+    pass: &mut ResPass,
+) -> Option<(Handle, Handle)>
+    requires { pass_table pass.old ≡ H.table }
+    ensures { IfSome result (λ _. IsSamePass pass.old pass.new) }
 {
-    few(&pass)?;
+    few(pass)?;
     let fill = TexSource::Fill([0; 4]);
-    let Ok(texture) = lock.create_texture(rt, &mut pass, 1, 1, Format::Rgba8, false, fill) else {
+    let Ok(texture) = lock.create_texture(rt, pass, 1, 1, Format::Rgba8, false, fill) else {
         return None;
     };
-    few(&pass)?;
-    let Ok(target) = lock.create_frame_buffer(rt, &mut pass, texture, None) else {
+    few(pass)?;
+    let Ok(target) = lock.create_frame_buffer(rt, pass, texture, None) else {
         return None;
     };
-    Some((pass, texture, target))
+    Some((texture, target))
 }
 
 // A program, which dies, and a uniform.
 fn makes_program<C: Naming, H: HistoryNaming, R: Wait>(
     rt: &R,
     lock: &ResLock<'_, C, ListLink<'_, R>, H>,
-    mut pass: ResPass,
-) -> Option<ResPass>
-    requires { pass_table pass ≡ H.table }
-    ensures { IfSome result (λ r. IsSamePass pass r) }
+    pass: &mut ResPass,
+) -> Option<()>
+    requires { pass_table pass.old ≡ H.table }
+    ensures { IfSome result (λ _. IsSamePass pass.old pass.new) }
 {
-    few(&pass)?;
-    let Ok(program) = lock.create_program(rt, &mut pass, ProgramKind::Solid) else {
+    few(pass)?;
+    let Ok(program) = lock.create_program(rt, pass, ProgramKind::Solid) else {
         return None;
     };
-    few(&pass)?;
-    let Ok(_) = lock.create_uniform(rt, &mut pass, b"u", UniformKind::Vec4) else {
+    few(pass)?;
+    let Ok(_) = lock.create_uniform(rt, pass, b"u", UniformKind::Vec4) else {
         return None;
     };
-    few(&pass)?;
-    let Ok(_) = lock.destroy(rt, &mut pass, program) else {
+    few(pass)?;
+    let Ok(_) = lock.destroy(rt, pass, program) else {
         return None;
     };
-    Some(pass)
+    Some(())
 }
 
 // Both updates.
 fn updates<C: Naming, H: HistoryNaming, R: Wait>(
     rt: &R,
     lock: &ResLock<'_, C, ListLink<'_, R>, H>,
-    mut pass: ResPass,
+    pass: &mut ResPass,
     vertices: Handle,
     texture: Handle,
-) -> Option<ResPass>
-    requires { pass_table pass ≡ H.table }
-    ensures { IfSome result (λ r. IsSamePass pass r) }
+) -> Option<()>
+    requires { pass_table pass.old ≡ H.table }
+    ensures { IfSome result (λ _. IsSamePass pass.old pass.new) }
 {
-    few(&pass)?;
-    let Ok(_) = lock.update_buffer(rt, &mut pass, vertices, 4, &[1; 4]) else {
+    few(pass)?;
+    let Ok(_) = lock.update_buffer(rt, pass, vertices, 4, &[1; 4]) else {
         return None;
     };
-    few(&pass)?;
-    let Ok(_) = lock.update_texture(rt, &mut pass, texture, TEXEL, &[1; 4]) else {
+    few(pass)?;
+    let Ok(_) = lock.update_texture(rt, pass, texture, TEXEL, &[1; 4]) else {
         return None;
     };
-    Some(pass)
+    Some(())
 }
 
 // Where a view draws, and what it clears.
 fn sets_view<C: Naming, H: HistoryNaming, R: Wait>(
     rt: &R,
     lock: &ResLock<'_, C, ListLink<'_, R>, H>,
-    mut pass: ResPass,
+    pass: &mut ResPass,
     target: Handle,
-) -> Option<ResPass>
-    requires { pass_table pass ≡ H.table }
-    ensures { IfSome result (λ r. IsSamePass pass r) }
+) -> Option<()>
+    requires { pass_table pass.old ≡ H.table }
+    ensures { IfSome result (λ _. IsSamePass pass.old pass.new) }
 {
-    few(&pass)?;
-    let Ok(_) = lock.set_view_rect(rt, &mut pass, 0, TEXEL) else {
+    few(pass)?;
+    let Ok(_) = lock.set_view_rect(rt, pass, 0, TEXEL) else {
         return None;
     };
-    few(&pass)?;
-    let Ok(_) = lock.set_view_scissor(rt, &mut pass, 0, TEXEL) else {
+    few(pass)?;
+    let Ok(_) = lock.set_view_scissor(rt, pass, 0, TEXEL) else {
         return None;
     };
-    few(&pass)?;
-    let Ok(_) = lock.set_view_target(rt, &mut pass, 0, Some(target)) else {
+    few(pass)?;
+    let Ok(_) = lock.set_view_target(rt, pass, 0, Some(target)) else {
         return None;
     };
-    few(&pass)?;
-    let Ok(_) = lock.set_view_clear(rt, &mut pass, 0, 1, [0; 4], 0, 0) else {
+    few(pass)?;
+    let Ok(_) = lock.set_view_clear(rt, pass, 0, 1, [0; 4], 0, 0) else {
         return None;
     };
-    Some(pass)
+    Some(())
 }
 
 // How views are ordered and moved, and a view as at first.
 fn orders_views<C: Naming, H: HistoryNaming, R: Wait>(
     rt: &R,
     lock: &ResLock<'_, C, ListLink<'_, R>, H>,
-    mut pass: ResPass,
-) -> Option<ResPass>
-    requires { pass_table pass ≡ H.table }
-    ensures { IfSome result (λ r. IsSamePass pass r) }
+    pass: &mut ResPass,
+) -> Option<()>
+    requires { pass_table pass.old ≡ H.table }
+    ensures { IfSome result (λ _. IsSamePass pass.old pass.new) }
 {
-    few(&pass)?;
-    let Ok(_) = lock.set_view_mode(rt, &mut pass, 0, ViewMode::Sequential) else {
+    few(pass)?;
+    let Ok(_) = lock.set_view_mode(rt, pass, 0, ViewMode::Sequential) else {
         return None;
     };
-    few(&pass)?;
-    let Ok(_) = lock.set_view_transform(rt, &mut pass, 0, Affine::identity()) else {
+    few(pass)?;
+    let Ok(_) = lock.set_view_transform(rt, pass, 0, Affine::identity()) else {
         return None;
     };
-    few(&pass)?;
-    let Ok(_) = lock.set_view_order(rt, &mut pass, &[2, 1]) else {
+    few(pass)?;
+    let Ok(_) = lock.set_view_order(rt, pass, &[2, 1]) else {
         return None;
     };
-    few(&pass)?;
-    let Ok(_) = lock.reset_view(rt, &mut pass, 0) else {
+    few(pass)?;
+    let Ok(_) = lock.reset_view(rt, pass, 0) else {
         return None;
     };
-    Some(pass)
+    Some(())
 }
 
 // An encoder that ends, and its frame.
 fn frames<C: Naming, H: HistoryNaming, R: Threads + Wait + Sync>(
     rt: &R,
     lock: &ResLock<'_, C, ListLink<'_, R>, H>,
-    mut pass: ResPass,
-) -> Option<ResPass>
-    requires table { pass_table pass ≡ H.table }
+    pass: &mut ResPass,
+) -> Option<()>
+    requires table { pass_table pass.old ≡ H.table }
     requires admits { (e f d : ℕ) (items : List SeenItem) → C.admits e f items d }
-    ensures { IfSome result (λ r. IsSamePass pass r) }
+    ensures { IfSome result (λ _. IsSamePass pass.old pass.new) }
 {
-    few(&pass)?;
-    let Ok(encoder) = lock.begin(rt, &mut pass, ROOM) else {
+    few(pass)?;
+    let Ok(encoder) = lock.begin(rt, pass, ROOM) else {
         return None;
     };
     encoder.end(rt, 0);
-    few(&pass)?;
-    let Ok(_) = lock.frame(rt, &mut pass) else {
+    few(pass)?;
+    let Ok(_) = lock.frame(rt, pass) else {
         return None;
     };
-    Some(pass)
+    Some(())
 }
 
 // Each call of the lock, once.
 fn calls_each<C: Naming, H: HistoryNaming, R: Threads + Wait + Sync>(
     rt: &R,
     lock: &ResLock<'_, C, ListLink<'_, R>, H>,
-    pass: ResPass,
+    pass: &mut ResPass,
     layout: VertexLayout,
-) -> Option<ResPass>
-    requires table { pass_table pass ≡ H.table }
+) -> Option<()>
+    requires table { pass_table pass.old ≡ H.table }
     requires admits { (e f d : ℕ) (items : List SeenItem) → C.admits e f items d }
-    ensures { IfSome result (λ r. IsSamePass pass r) }
+    ensures { IfSome result (λ _. IsSamePass pass.old pass.new) }
 {
-    let (pass, vertices) = makes_buffers(rt, lock, pass, layout)?;
-    let (pass, texture, target) = makes_target(rt, lock, pass)?;
-    let pass = makes_program(rt, lock, pass)?;
-    let pass = updates(rt, lock, pass, vertices, texture)?;
-    let pass = sets_view(rt, lock, pass, target)?;
-    let pass = orders_views(rt, lock, pass)?;
+    let vertices = makes_buffers(rt, lock, pass, layout)?;
+    let (texture, target) = makes_target(rt, lock, pass)?;
+    makes_program(rt, lock, pass)?;
+    updates(rt, lock, pass, vertices, texture)?;
+    sets_view(rt, lock, pass, target)?;
+    orders_views(rt, lock, pass)?;
     frames(rt, lock, pass)
-}
-
-fn all_calls<C: Naming, H: HistoryNaming, R: Threads + Wait + Sync>(
-    rt: &R,
-    alloc: Global,
-    layout: VertexLayout,
-    hold: HoldTable,
-    seat: ApiSeat,
-    table: HistoryTable,
-    pass: ResPass,
-) -> Option<Vec<Entry>>
-    requires hold { (hold_of hold ≡ C.table) × (api_table seat ≡ C.table) × (api_view seat ≡ first_seat 0) }
-    requires views { C.views ≡ fewest_views }
-    requires admits { (e f d : ℕ) (items : List SeenItem) → C.admits e f items d }
-    requires table { (table_of table ≡ H.table) × (pass_table pass ≡ H.table) × (pass_view pass ≡ first_view) }
-    requires start { H.start ≡ opened (opening 256 1 0 1) }
-    requires book { H.book ≡ record no_book { resources = opening 256 1 0 1 } }
-    requires given { H.given ≡ [] }
-{
-    let Ok(shared) = Shared::<C>::new(alloc, hold) else {
-        return None;
-    };
-    let link = list_link(rt, alloc, Outcome::Shown);
-    let lock = locked::<C, ListLink<'_, R>, H>(alloc, &shared, seat, table, link)?;
-    let pass = calls_each(rt, &lock, pass, layout)?;
-    let (_, history) = lock.close(pass);
-    Some(history)
 }
 
 // A layout with a position.
@@ -380,183 +355,247 @@ fn position() -> Option<VertexLayout> {
     }
 }
 
-#[test]
-fn each_call_is_accepted(rt: HostRuntime) -> Result<(), Fail> {
-    let layout = position().ok_or("layout")?;
-    let (hold, seat) = HoldTable::new(rt.alloc(), 0)?;
-    let (table, pass) = HistoryTable::new(rt.alloc())?;
-    let history = all_calls::<Brand, Brand, _>(
-        &rt,
-        rt.alloc(),
-        layout,
-        hold,
-        seat,
-        table,
-        pass,
-    ).ok_or("refused")?;
-    assert_eq!(rt; history.len(), 20);
-    for entry in &history {
-        let accepted = matches!(
-            entry.reply,
-            ResReply::Made { .. } | ResReply::Unit | ResReply::Frame { .. } | ResReply::Begun { .. }
-        );
-        assert!(rt; accepted, "at {}", entry.ordinal);
-    }
-    Ok(())
-}
-
 // ---- a context that is ended
 
 // A program is destroyed twice. The second answer.
 fn destroyed_again<C: Naming, H: HistoryNaming, R: Wait>(
     rt: &R,
     lock: &ResLock<'_, C, ListLink<'_, R>, H>,
-    mut pass: ResPass,
-) -> Option<(ResPass, Option<LockRefusal>)>
-    requires { pass_table pass ≡ H.table }
-    ensures { IfSome result (λ r. IsSamePass pass r.0) }
+    pass: &mut ResPass,
+) -> Option<Option<LockRefusal>>
+    requires { pass_table pass.old ≡ H.table }
+    ensures { IfSome result (λ _. IsSamePass pass.old pass.new) }
 {
-    few(&pass)?;
-    let Ok(program) = lock.create_program(rt, &mut pass, ProgramKind::Solid) else {
+    few(pass)?;
+    let Ok(program) = lock.create_program(rt, pass, ProgramKind::Solid) else {
         return None;
     };
-    few(&pass)?;
-    let Ok(_) = lock.destroy(rt, &mut pass, program) else {
+    few(pass)?;
+    let Ok(_) = lock.destroy(rt, pass, program) else {
         return None;
     };
-    few(&pass)?;
-    let again = refusal_of(lock.destroy(rt, &mut pass, program));
-    Some((pass, again))
+    few(pass)?;
+    let again = refusal_of(lock.destroy(rt, pass, program));
+    Some(again)
 }
 
 // Two frames: whether each was given.
 fn two_frames<C: Naming, H: HistoryNaming, R: Threads + Wait + Sync>(
     rt: &R,
     lock: &ResLock<'_, C, ListLink<'_, R>, H>,
-    mut pass: ResPass,
-) -> Option<(ResPass, [bool; 2])>
-    requires { pass_table pass ≡ H.table }
-    ensures { IfSome result (λ r. IsSamePass pass r.0) }
+    pass: &mut ResPass,
+) -> Option<[bool; 2]>
+    requires { pass_table pass.old ≡ H.table }
+    ensures { IfSome result (λ _. IsSamePass pass.old pass.new) }
 {
-    few(&pass)?;
-    let Ok(one) = lock.frame(rt, &mut pass) else {
+    few(pass)?;
+    let Ok(one) = lock.frame(rt, pass) else {
         return None;
     };
-    few(&pass)?;
-    let Ok(two) = lock.frame(rt, &mut pass) else {
+    few(pass)?;
+    let Ok(two) = lock.frame(rt, pass) else {
         return None;
     };
-    Some((pass, [one.given, two.given]))
+    Some([one.given, two.given])
 }
 
 // A create, a begin and a frame: their refusals.
 fn three_refused<C: Naming, H: HistoryNaming, R: Threads + Wait + Sync>(
     rt: &R,
     lock: &ResLock<'_, C, ListLink<'_, R>, H>,
-    mut pass: ResPass,
-) -> Option<(ResPass, [Option<LockRefusal>; 3])>
-    requires { pass_table pass ≡ H.table }
-    ensures { IfSome result (λ r. IsSamePass pass r.0) }
+    pass: &mut ResPass,
+) -> Option<[Option<LockRefusal>; 3]>
+    requires { pass_table pass.old ≡ H.table }
+    ensures { IfSome result (λ _. IsSamePass pass.old pass.new) }
 {
-    few(&pass)?;
-    let create = refusal_of(lock.create_program(rt, &mut pass, ProgramKind::Solid));
-    few(&pass)?;
-    let begin = refusal_of(lock.begin(rt, &mut pass, ROOM));
-    few(&pass)?;
-    let frame = refusal_of(lock.frame(rt, &mut pass));
-    Some((pass, [create, begin, frame]))
+    few(pass)?;
+    let create = refusal_of(lock.create_program(rt, pass, ProgramKind::Solid));
+    few(pass)?;
+    let begin = refusal_of(lock.begin(rt, pass, ROOM));
+    few(pass)?;
+    let frame = refusal_of(lock.frame(rt, pass));
+    Some([create, begin, frame])
 }
 
-// What an ended context answers.
-#[derive(Drop)]
-struct Answers {
-    again: Option<LockRefusal>,
-    given: [bool; 2],
-    refused: [Option<LockRefusal>; 3],
-    history: Vec<Entry>,
-}
-
-// The answers of a lock whose context a fault of the second frame ends: a second destroy, whether two frames were given, and three calls.
-fn answers_of<C: Naming, H: HistoryNaming, R: Threads + Wait + Sync>(
+// Of a lock whose context a fault of the second frame ends: whether a second destroy is refused as stale, whether two frames were given, and
+// whether a create, a begin and a frame behind them are told of the end.
+fn refused_behind<C: Naming, H: HistoryNaming, R: Threads + Wait + Sync>(
     rt: &R,
     lock: &ResLock<'_, C, ListLink<'_, R>, H>,
-    pass: ResPass,
-) -> Option<
-    (
-        ResPass,
-        Option<LockRefusal>,
-        [bool; 2],
-        [Option<LockRefusal>; 3],
-    ),
->
-    requires { pass_table pass ≡ H.table }
-    ensures { IfSome result (λ r. IsSamePass pass r.0) }
+    pass: &mut ResPass,
+) -> Option<[bool; 4]>
+    requires { pass_table pass.old ≡ H.table }
+    ensures { IfSome result (λ _. IsSamePass pass.old pass.new) }
 {
-    let (pass, again) = destroyed_again(rt, lock, pass)?;
-    let (pass, given) = two_frames(rt, lock, pass)?;
-    let (pass, refused) = three_refused(rt, lock, pass)?;
-    Some((pass, again, given, refused))
+    let again = destroyed_again(rt, lock, pass)?;
+    let [one, two] = two_frames(rt, lock, pass)?;
+    let refused = three_refused(rt, lock, pass)?;
+    let stale = matches!(again, Some(LockRefusal::Refused(Refusal::Stale { .. })));
+    Some([stale, one, two, are_of_the_end(&refused)])
 }
 
-fn ends<C: Naming, H: HistoryNaming, R: Threads + Wait + Sync>(
+// Each is the refusal of a context that ended in frame 1.
+fn are_of_the_end(refused: &[Option<LockRefusal>]) -> bool {
+    for refusal in refused {
+        if !matches!(refusal, Some(LockRefusal::Ended { frame: 1 })) {
+            return false;
+        }
+    }
+    true
+}
+
+// ---- what is told by a lock of its own
+
+/// The cases: each call once; a context that a fault ends; and two encoders that touch a view by turns.
+#[derive(Clone, Copy, Drop)]
+pub(crate) enum Case {
+    Each,
+    Fault,
+    Order([bool; 3]),
+}
+
+/// What is told: whether the calls behind a fault answer as they should; the journal of the turns; and of the history how many entries there
+/// are, how many of accepted calls, and how many of calls on a context that ended in frame 1; and whether entry 3 is of frame 0, and entry 4
+/// of the fault in frame 1.
+pub(crate) type Told = ([bool; 4], [Option<JournalEntry>; 3], [usize; 3], [bool; 2]);
+
+fn is_accepted(entry: &Entry) -> bool {
+    matches!(
+        entry.reply,
+        ResReply::Made { .. } | ResReply::Unit | ResReply::Frame { .. } | ResReply::Begun { .. }
+    )
+}
+
+fn counted(history: &[Entry]) -> [usize; 3] {
+    let mut accepted = 0usize;
+    let mut ended = 0usize;
+    for entry in history {
+        if is_accepted(entry) {
+            accepted = accepted.wrapping_add(1);
+        }
+        if matches!(entry.reply, ResReply::Ended { frame: 1 }) {
+            ended = ended.wrapping_add(1);
+        }
+    }
+    [history.len(), accepted, ended]
+}
+
+fn faulted(history: &[Entry]) -> [bool; 2] {
+    let (Some(shown), Some(ending)) = (history.get(3), history.get(4)) else {
+        return [false; 2];
+    };
+    let outcome = matches!(
+        ending.reply,
+        ResReply::Ending {
+            frame: 1,
+            outcome: Outcome::PictureFault
+        }
+    );
+    [
+        matches!(shown.reply, ResReply::Frame { number: 0 }),
+        outcome,
+    ]
+}
+
+// What the calls of a case answered.
+type Answered = ([bool; 4], [Option<JournalEntry>; 3]);
+
+fn answered<C: Naming, H: HistoryNaming, R: Threads + Wait + Sync>(
+    rt: &R,
+    lock: &ResLock<'_, C, ListLink<'_, R>, H>,
+    pass: &mut ResPass,
+    case: Case,
+) -> Option<Answered>
+    requires table { pass_table pass.old ≡ H.table }
+    requires admits { (e f d : ℕ) (items : List SeenItem) → C.admits e f items d }
+    ensures { IfSome result (λ _. IsSamePass pass.old pass.new) }
+{
+    match case {
+        Case::Each => {
+            calls_each(rt, lock, pass, position()?)?;
+            Some(([false; 4], [None; 3]))
+        }
+        Case::Fault => Some((refused_behind(rt, lock, pass)?, [None; 3])),
+        Case::Order(turns) => Some(([false; 4], journal_in(rt, lock, pass, turns)?)),
+    }
+}
+
+fn outcome_of(case: Case) -> Outcome {
+    match case {
+        Case::Fault => Outcome::PictureFault,
+        _ => Outcome::Shown,
+    }
+}
+
+fn in_shared<C: Naming, H: HistoryNaming, R: Threads + Wait + Sync>(
+    rt: &R,
+    alloc: Global,
+    shared: &Shared<C>,
+    seat: ApiSeat,
+    table: HistoryTable,
+    mut pass: ResPass,
+    case: Case,
+) -> Option<Told>
+    requires seat { (api_table seat ≡ C.table) × (api_view seat ≡ first_seat 0) }
+    requires views { C.views ≡ fewest_views }
+    requires admits { (e f d : ℕ) (items : List SeenItem) → C.admits e f items d }
+    requires table { (table_of table ≡ H.table) × (pass_table pass ≡ H.table) × (pass_view pass ≡ first_view) }
+    requires start { H.start ≡ opened (opening 256 1 0 1) }
+    requires book { H.book ≡ record no_book { resources = opening 256 1 0 1 } }
+    requires given { H.given ≡ [] }
+{
+    let link = list_link(rt, alloc, outcome_of(case));
+    let lock = locked::<C, ListLink<'_, R>, H>(alloc, shared, seat, table, link)?;
+    let (answers, journal) = answered(rt, &lock, &mut pass, case)?;
+    let (_, history) = lock.close(pass);
+    Some((answers, journal, counted(&history), faulted(&history)))
+}
+
+fn by_case<C: Naming, H: HistoryNaming, R: Threads + Wait + Sync>(
     rt: &R,
     alloc: Global,
     hold: HoldTable,
     seat: ApiSeat,
     table: HistoryTable,
     pass: ResPass,
-) -> Option<Answers>
+    case: Case,
+) -> Option<Told>
     requires hold { (hold_of hold ≡ C.table) × (api_table seat ≡ C.table) × (api_view seat ≡ first_seat 0) }
     requires views { C.views ≡ fewest_views }
+    requires admits { (e f d : ℕ) (items : List SeenItem) → C.admits e f items d }
     requires table { (table_of table ≡ H.table) × (pass_table pass ≡ H.table) × (pass_view pass ≡ first_view) }
     requires start { H.start ≡ opened (opening 256 1 0 1) }
     requires book { H.book ≡ record no_book { resources = opening 256 1 0 1 } }
     requires given { H.given ≡ [] }
 {
-    let Ok(shared) = Shared::<C>::new(alloc, hold) else {
-        return None;
-    };
-    let link = list_link(rt, alloc, Outcome::PictureFault);
-    let lock = locked::<C, ListLink<'_, R>, H>(alloc, &shared, seat, table, link)?;
-    let (pass, again, given, refused) = answers_of(rt, &lock, pass)?;
-    let (_, history) = lock.close(pass);
-    Some(Answers {
-        again,
-        given,
-        refused,
-        history,
-    })
+    match Shared::<C>::new(alloc, hold) {
+        Ok(shared) => in_shared::<C, H, R>(rt, alloc, &shared, seat, table, pass, case),
+        Err(_) => None,
+    }
 }
 
+/// What is told of a case.
+pub(crate) fn told<R: Threads + Wait + Sync>(rt: &R, alloc: Global, case: Case) -> Option<Told> {
+    let Ok((table, pass)) = HistoryTable::new(alloc) else {
+        return None;
+    };
+    match HoldTable::new(alloc, 0) {
+        Ok((hold, seat)) => by_case::<Brand, Brand, R>(rt, alloc, hold, seat, table, pass, case),
+        Err(_) => None,
+    }
+}
+
+// All 20 calls are accepted.
 #[test]
-fn a_fault_ends_the_context(rt: HostRuntime) -> Result<(), Fail> {
-    let (hold, seat) = HoldTable::new(rt.alloc(), 0)?;
-    let (table, pass) = HistoryTable::new(rt.alloc())?;
-    let answers = ends::<Brand, Brand, _>(&rt, rt.alloc(), hold, seat, table, pass).ok_or(
-        "refused",
-    )?;
-    let stale = matches!(
-        answers.again,
-        Some(LockRefusal::Refused(Refusal::Stale { .. }))
-    );
-    assert!(rt; stale);
-    assert_eq!(rt; answers.given, [true, false]);
-    for refusal in &answers.refused {
-        assert!(rt; matches!(refusal, Some(LockRefusal::Ended { frame: 1 })));
-    }
-    let told = &answers.history;
-    assert_eq!(rt; told.len(), 8);
-    assert!(rt; matches!(told[3].reply, ResReply::Frame { number: 0 }));
-    let ending = matches!(
-        told[4].reply,
-        ResReply::Ending {
-            frame: 1,
-            outcome: Outcome::PictureFault
-        }
-    );
-    assert!(rt; ending);
-    for entry in told.iter().skip(5) {
-        assert!(rt; matches!(entry.reply, ResReply::Ended { frame: 1 }));
-    }
-    Ok(())
+fn each_call_is_accepted(rt: HostRuntime) {
+    let (_, _, counted, _) = told(&rt, rt.alloc(), Case::Each).expect(&rt, "refused");
+    assert_eq!(rt; counted, [20, 20, 0]);
+}
+
+// Of eight entries the fourth is of frame 0, the fifth of the fault, and the last three are told of it.
+#[test]
+fn a_fault_ends_the_context(rt: HostRuntime) {
+    let (answers, _, counted, faulted) = told(&rt, rt.alloc(), Case::Fault).expect(&rt, "refused");
+    assert_eq!(rt; answers, [true, true, false, true]);
+    assert_eq!(rt; (counted[0], counted[2], faulted), (8, 3, [true; 2]));
 }

@@ -1,6 +1,6 @@
 // Frames by hand: what is named and not there, and a frame that wants memory.
 use crate::render_core_stray_tests::positions;
-use crate::render_core_tests::{Parts, framed, render, row};
+use crate::render_core_tests::{Parts, framed, render, rest_of};
 use cmd_buffer::Command;
 use draw_encoder::{DrawItem, IndexSet, Item, VertexSet};
 use fix_math::{Affine, Rect};
@@ -10,7 +10,6 @@ use io_edge::MemSink;
 use render_core::Renderer;
 use std::alloc::Global;
 use std::test::Fail;
-use view_table::ViewTable;
 
 // A layout of two numbers, a vertex buffer of a payload, and a program that paints white, for it finds no uniform. The payload 0 is a
 // triangle round the whole picture, and there are three payloads.
@@ -63,29 +62,36 @@ fn draw(view: u16) -> Result<DrawItem, Fail> {
 // The colours are written, without tests.
 const COLORS: u64 = 15;
 
-// The views of a frame, view 0 cleared to green or not.
-fn views_of(alloc: Global, is_green: bool) -> Result<ViewTable, Fail> {
-    let mut views = ViewTable::new(alloc, 256)?;
-    if is_green {
-        let _ = views.set_clear(0, 1, [0, 255, 0, 255], 0, 0);
-    }
-    Ok(views)
+// What a frame is made of: whether view 0 is cleared to green, the commands before and after, and the view of its draw.
+#[derive(Clone, Copy, Drop)]
+struct Made<'a> {
+    is_green: bool,
+    pre: &'a [Command],
+    post: &'a [Command],
+    view: u16,
 }
 
-// A frame of one draw, with commands before and after it.
-fn frame_of(
-    alloc: Global,
-    is_green: bool,
-    pre: &[Command],
-    post: &[Command],
-    draw: DrawItem,
-) -> Result<Frame, Fail> {
+// A frame of one draw.
+fn frame_of(alloc: Global, made: Made<'_>) -> Result<Frame, Fail> {
     // The types of a draw's parts are seen here, as the check asks.
     let _parts: Option<Parts> = None;
-    let pre = row(alloc, pre)?;
-    let post = row(alloc, post)?;
-    let views = views_of(alloc, is_green)?;
-    Ok(framed(alloc, 0, views, pre, post, Item::Draw(draw))?)
+    let draw = draw(made.view)?;
+    let mut rest = rest_of(alloc, 0, made.pre, made.post)?;
+    if made.is_green {
+        let _ = rest.views.set_clear(0, 1, [0, 255, 0, 255], 0, 0);
+    }
+    Ok(framed(alloc, rest, Item::Draw(draw))?)
+}
+
+// The frame is rendered: its outcome.
+fn rendered(
+    alloc: Global,
+    renderer: &mut Renderer<MemSink>,
+    made: Made<'_>,
+) -> Result<Outcome, Fail> {
+    let frame = frame_of(alloc, made)?;
+    let (outcome, _) = render(renderer, frame);
+    Ok(outcome)
 }
 
 // A renderer of two pixels.
@@ -94,19 +100,28 @@ fn two_pixels(alloc: Global) -> Result<Renderer<MemSink>, Fail> {
     Ok(Renderer::new(alloc, 2, 1, sink).map_err(|_| "memory")?)
 }
 
-// Two frames rendered on two pixels: their outcomes, and the sink.
-fn rendered(
+type Outcomes = (Outcome, Outcome);
+
+fn both_rendered(
     alloc: Global,
-    first: Frame,
-    second: Frame,
-) -> Result<((Outcome, Outcome), MemSink), Fail> {
-    let mut renderer = two_pixels(alloc)?;
-    let (one, _) = render(&mut renderer, first);
-    let (two, _) = render(&mut renderer, second);
-    Ok(((one, two), renderer.into_sink()))
+    renderer: &mut Renderer<MemSink>,
+    first: Made<'_>,
+    second: Made<'_>,
+) -> Result<Outcomes, Fail> {
+    let one = rendered(alloc, renderer, first)?;
+    let two = rendered(alloc, renderer, second)?;
+    Ok((one, two))
 }
 
-const SHOWN: (Outcome, Outcome) = (Outcome::Shown, Outcome::Shown);
+// Two frames rendered on two pixels: their outcomes, and the sink.
+fn put(alloc: Global, first: Made<'_>, second: Made<'_>) -> Result<(Outcomes, MemSink), Fail> {
+    let mut renderer = two_pixels(alloc)?;
+    let both = both_rendered(alloc, &mut renderer, first, second);
+    let sink = renderer.into_sink();
+    Ok((both?, sink))
+}
+
+const SHOWN: Outcomes = (Outcome::Shown, Outcome::Shown);
 
 const BLACK_WHITE: &[u8] = b"P6\n2 1\n255\n\0\0\0\0\0\0P6\n2 1\n255\n\xff\xff\xff\xff\xff\xff";
 
@@ -114,56 +129,86 @@ const BLACK: &[u8] = b"P6\n2 1\n255\n\0\0\0\0\0\0";
 
 const WHITE_GREEN: &[u8] = b"P6\n2 1\n255\n\xff\xff\xff\xff\xff\xffP6\n2 1\n255\n\0\xff\0\0\xff\0";
 
+// The outcomes, and whether these bytes were put.
+fn put_as(
+    alloc: Global,
+    first: Made<'_>,
+    second: Made<'_>,
+    wanted: &[u8],
+) -> Result<(Outcomes, bool), Fail> {
+    let (both, sink) = put(alloc, first, second)?;
+    Ok((both, sink.bytes() == wanted))
+}
+
+// A frame with commands before and behind a draw in a view.
+fn with<'a>(pre: &'a [Command], post: &'a [Command], view: u16) -> Made<'a> {
+    Made {
+        is_green: false,
+        pre,
+        post,
+        view,
+    }
+}
+
 // The vertex buffer is not made, so its index is free for that of the next frame.
 #[test]
 fn a_payload_past_the_end(rt: HostRuntime) -> Result<(), Fail> {
-    // The types of a draw's parts are seen here, as the check asks.
-    let _parts: Option<Parts> = None;
-    let (none, some) = (things(3)?, things(0)?);
-    let (one, other) = (draw(0)?, draw(0)?);
-    let first = frame_of(rt.alloc(), false, &none, &[], one)?;
-    let second = frame_of(rt.alloc(), false, &some, &[], other)?;
-    let (both, sink) = rendered(rt.alloc(), first, second)?;
-    assert_eq!(rt; both, SHOWN);
-    assert_eq!(rt; sink.bytes(), BLACK_WHITE);
+    let (past, some) = (things(3)?, things(0)?);
+    let none: [Command; 0] = [];
+    let first = with(&past, &none, 0);
+    let second = with(&some, &none, 0);
+    let told = put_as(rt.alloc(), first, second, BLACK_WHITE)?;
+    assert!(rt; told == (SHOWN, true));
     Ok(())
 }
 
 // The draw of the second frame names the vertex buffer that the first one destroyed behind its draw, so only the clear is seen.
 #[test]
 fn a_handle_of_a_thing_that_is_gone(rt: HostRuntime) -> Result<(), Fail> {
-    // The types of a draw's parts are seen here, as the check asks.
-    let _parts: Option<Parts> = None;
     let some = things(0)?;
-    let (one, other) = (draw(0)?, draw(0)?);
     let gone = [Command::Destroy { kind: 1, index: 0 }];
-    let first = frame_of(rt.alloc(), false, &some, &gone, one)?;
-    let second = frame_of(rt.alloc(), true, &[], &[], other)?;
-    let (both, sink) = rendered(rt.alloc(), first, second)?;
-    assert_eq!(rt; both, SHOWN);
-    assert_eq!(rt; sink.bytes(), WHITE_GREEN);
+    let none: [Command; 0] = [];
+    let first = with(&some, &gone, 0);
+    let second = Made {
+        is_green: true,
+        pre: &none,
+        post: &none,
+        view: 0,
+    };
+    let told = put_as(rt.alloc(), first, second, WHITE_GREEN)?;
+    assert!(rt; told == (SHOWN, true));
     Ok(())
+}
+
+// What is put by the outcomes, where a call may have had no memory.
+fn wanted_of(both: Outcomes) -> Option<&'static [u8]> {
+    if both == SHOWN {
+        Some(BLACK_WHITE)
+    } else if both == (Outcome::Shown, Outcome::OutOfMemory) {
+        Some(BLACK)
+    } else if both == (Outcome::OutOfMemory, Outcome::Skipped) {
+        Some(b"".as_slice())
+    } else {
+        None
+    }
+}
+
+fn is_put(alloc: Global, first: Made<'_>, second: Made<'_>) -> Result<bool, Fail> {
+    let (both, sink) = put(alloc, first, second)?;
+    Ok(match wanted_of(both) {
+        Some(wanted) => sink.bytes() == wanted,
+        None => false,
+    })
 }
 
 // Of 256 views there is 255, and no 256. Both frames are shown. Where `rt try --test --fail-alloc N` refuses an allocation, nothing is put of
 // the frame that wants it, and the next one is skipped; where it is one of those that make the frames or the renderer, the test ends so.
 #[test]
 fn a_view_that_is_not_there_or_no_memory(rt: HostRuntime) -> Result<(), Fail> {
-    // The types of a draw's parts are seen here, as the check asks.
-    let _parts: Option<Parts> = None;
     let some = things(0)?;
-    let (one, other) = (draw(256)?, draw(255)?);
-    let first = frame_of(rt.alloc(), false, &some, &[], one)?;
-    let second = frame_of(rt.alloc(), false, &[], &[], other)?;
-    let (both, sink) = rendered(rt.alloc(), first, second)?;
-    let wanted = if both == SHOWN {
-        BLACK_WHITE
-    } else if both == (Outcome::Shown, Outcome::OutOfMemory) {
-        BLACK
-    } else {
-        assert_eq!(rt; both, (Outcome::OutOfMemory, Outcome::Skipped));
-        b"".as_slice()
-    };
-    assert_eq!(rt; sink.bytes(), wanted);
+    let none: [Command; 0] = [];
+    let first = with(&some, &none, 256);
+    let second = with(&none, &none, 255);
+    assert!(rt; is_put(rt.alloc(), first, second)?);
     Ok(())
 }

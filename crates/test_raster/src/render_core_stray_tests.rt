@@ -1,7 +1,7 @@
 // Frames that no context makes.
 ghost use Rattle.std.specs.Prelude.{◌≡◌, ◌≤◌, ◌<◌};
 
-use crate::render_core_tests::{framed, render, row};
+use crate::render_core_tests::{framed, render, rest_of};
 use cmd_buffer::Command;
 use draw_encoder::{BlitCall, BlitItem, DrawItem, IndexSet, Item, VertexSet};
 use fix_math::{Affine, Rect};
@@ -9,10 +9,9 @@ use frame_record::{Frame, Outcome};
 use gfx_words::{Handle, Info, Kind, StateWord, StencilWord};
 use io_edge::MemSink;
 use render_core::Renderer;
-use std::alloc::Global;
+use std::alloc::{AllocError, Global};
 use std::test::Fail;
 use vertex_layout::{Attr, AttrType, LayoutBuilder, VertexLayout};
-use view_table::ViewTable;
 
 // How many bytes a picture of four by two has before its pixels, and in all.
 const HEADER: usize = 11;
@@ -204,9 +203,6 @@ fn stray_item(seed: u64, words: (StateWord, StencilWord)) -> Item {
 // Three commands before and one after a draw or a blit, in views of which one has a target that may be missing.
 fn stray_frame(alloc: Global, seed: u64, words: (StateWord, StencilWord)) -> Result<Frame, Fail> {
     let layout = positions()?;
-    let mut views = ViewTable::new(alloc, 256)?;
-    let target = Handle::of(Kind::FrameBuffer, small(seed, 20), 1, Info::Plain);
-    views.set_target(1, Some(target)).map_err(|_| "target")?;
     let two = next(seed);
     let three = next(two);
     let pre = [
@@ -215,8 +211,12 @@ fn stray_frame(alloc: Global, seed: u64, words: (StateWord, StencilWord)) -> Res
         stray_command(three, layout),
     ];
     let post = [stray_change(next(three))];
-    let item = stray_item(three, words);
-    Ok(framed(alloc, 0, views, row(alloc, &pre)?, row(alloc, &post)?, item)?)
+    let target = Handle::of(Kind::FrameBuffer, small(seed, 20), 1, Info::Plain);
+    let mut rest = rest_of(alloc, 0, &pre, &post)?;
+    rest.views
+        .set_target(1, Some(target))
+        .map_err(|_| "target")?;
+    Ok(framed(alloc, rest, stray_item(three, words))?)
 }
 
 fn words() -> Result<(StateWord, StencilWord), Fail> {
@@ -225,36 +225,48 @@ fn words() -> Result<(StateWord, StencilWord), Fail> {
     Ok((state, stencil))
 }
 
-// A frame that a context could make at the end: all is destroyed, and a texture of one texel is drawn over the whole picture.
-fn last_frame(alloc: Global, words: (StateWord, StencilWord)) -> Result<Frame, Fail> {
-    let mut pre = Vec::new(alloc);
+// The commands that destroy all things of four indices.
+fn destroys(alloc: Global) -> Result<Vec<Command>, AllocError> {
+    let mut commands = Vec::new(alloc);
     for kind in 0..7u8 {
         for index in 0..4u16 {
-            pre.push(Command::Destroy { kind, index })?;
+            commands.push(Command::Destroy { kind, index })?;
         }
     }
-    pre.push(Command::CreateLayout {
-        index: 0,
-        layout: positions()?,
-    })?;
-    pre.push(Command::CreateVertexBuffer {
-        index: 0,
-        layout: 0,
-        payload: 0,
-    })?;
-    pre.push(Command::CreateTexture {
-        index: 0,
-        width: 1,
-        height: 1,
-        format: 0,
-        blit_dst: 0,
-        source: 1,
-        value: 1,
-    })?;
-    pre.push(Command::CreateProgram { index: 0, kind: 2 })?;
-    let views = ViewTable::new(alloc, 256)?;
+    Ok(commands)
+}
+
+// They, and the creates of a layout, a triangle, a texture of one texel and a program.
+fn last_commands(alloc: Global, layout: VertexLayout) -> Result<Vec<Command>, AllocError> {
+    let mut commands = destroys(alloc)?;
+    commands.extend_from_slice(&[
+        Command::CreateLayout { index: 0, layout },
+        Command::CreateVertexBuffer {
+            index: 0,
+            layout: 0,
+            payload: 0,
+        },
+        Command::CreateTexture {
+            index: 0,
+            width: 1,
+            height: 1,
+            format: 0,
+            blit_dst: 0,
+            source: 1,
+            value: 1,
+        },
+        Command::CreateProgram { index: 0, kind: 2 },
+    ])?;
+    Ok(commands)
+}
+
+// A frame that a context could make at the end: all is destroyed, and a texture of one texel is drawn over the whole picture.
+fn last_frame(alloc: Global, words: (StateWord, StencilWord)) -> Result<Frame, Fail> {
+    let layout = positions()?;
+    let pre = last_commands(alloc, layout)?;
+    let rest = rest_of(alloc, 0, &pre, &[])?;
     let draw = stray_draw((1 << 16) | (1 << 12), words);
-    Ok(framed(alloc, 0, views, row(alloc, &pre)?, row(alloc, &[])?, draw)?)
+    Ok(framed(alloc, rest, draw)?)
 }
 
 // How many of the first thousand pictures have a pixel that is not black.
@@ -283,20 +295,35 @@ fn all_shown(
     Ok(all && last == Outcome::Shown)
 }
 
+// Whether all are shown, and what was put.
+fn all_put(alloc: Global, words: (StateWord, StencilWord)) -> Result<(bool, MemSink), Fail> {
+    let sink = MemSink::new(alloc, 100_000, 100_000, Vec::new(alloc))?;
+    let mut renderer = Renderer::new(alloc, 4, 2, sink).map_err(|_| "memory")?;
+    let all = all_shown(alloc, &mut renderer, words);
+    let sink = renderer.into_sink();
+    Ok((all?, sink))
+}
+
+const LAST: &[u8] = b"P6\n4 2\n255\n000000000000000000000000";
+
+// How many bytes there are, whether more than 50 pictures have something in them, and whether the last one is as it would be without the others.
+fn told_of(bytes: &[u8]) -> (usize, bool, bool) {
+    let last = match bytes.chunks(PICTURE).last() {
+        Some(picture) => picture == LAST,
+        None => false,
+    };
+    (bytes.len(), pictures_with_color(bytes) > 50, last)
+}
+
+fn told(alloc: Global) -> Result<(bool, (usize, bool, bool)), Fail> {
+    let words = words()?;
+    let (all, sink) = all_put(alloc, words)?;
+    Ok((all, told_of(sink.bytes())))
+}
+
 // All are shown, many with something in them, and the frame behind them is as it would be without them.
 #[test]
 fn frames_of_no_context(rt: HostRuntime) -> Result<(), Fail> {
-    let alloc = rt.alloc();
-    let words = words()?;
-    let sink = MemSink::new(alloc, 100_000, 100_000, Vec::new(alloc))?;
-    let mut renderer = Renderer::new(alloc, 4, 2, sink).map_err(|_| "memory")?;
-    let all = all_shown(alloc, &mut renderer, words)?;
-    let sink = renderer.into_sink();
-    assert!(rt; all);
-    assert_eq!(rt; sink.bytes().len(), 35_035);
-    assert!(rt; pictures_with_color(sink.bytes()) > 50);
-    let last = sink.bytes().chunks(PICTURE).last().ok_or("no picture")?;
-    let wanted = b"P6\n4 2\n255\n000000000000000000000000";
-    assert_eq!(rt; last, wanted.as_slice());
+    assert_eq!(rt; told(rt.alloc())?, (true, (35_035, true, true)));
     Ok(())
 }

@@ -54,42 +54,65 @@ fn payloads(alloc: Global) -> Result<Vec<Vec<u8>>, AllocError> {
     Ok(payloads)
 }
 
-// A frame of one encoder's items.
-fn recorded(
+/// What a frame has besides its recordings.
+#[derive(Drop)]
+pub(crate) struct Rest {
+    pub(crate) number: u32,
+    pub(crate) views: ViewTable,
+    pub(crate) pre: CmdBytes,
+    pub(crate) post: CmdBytes,
+    pub(crate) payloads: Vec<Vec<u8>>,
+}
+
+/// Plain views, with commands before and after a frame, and the payloads.
+pub(crate) fn rest_of(
     alloc: Global,
     number: u32,
-    views: ViewTable,
-    pre: CmdBytes,
-    post: CmdBytes,
-    items: Vec<Item>,
-) -> Result<Frame, AllocError>
+    pre: &[Command],
+    post: &[Command],
+) -> Result<Rest, AllocError> {
+    let pre = row(alloc, pre)?;
+    let post = row(alloc, post)?;
+    let payloads = payloads(alloc)?;
+    let views = ViewTable::new(alloc, 256)?;
+    Ok(Rest {
+        number,
+        views,
+        pre,
+        post,
+        payloads,
+    })
+}
+
+// A frame of one encoder's items.
+fn recorded(alloc: Global, rest: Rest, items: Vec<Item>) -> Result<Frame, AllocError>
     requires few { length (numbers_of items.items) ≤ 65528 }
     requires ascend { Ascends (numbers_of items.items) }
 {
     let mut recordings = Vec::new(alloc);
     recordings.push(recording(alloc, items))?;
     let journal = collect(alloc, &recordings)?;
-    let payloads = payloads(alloc)?;
-    Ok(Frame::new(number, views, pre, post, payloads, recordings, journal))
+    Ok(Frame::new(
+        rest.number,
+        rest.views,
+        rest.pre,
+        rest.post,
+        rest.payloads,
+        recordings,
+        journal,
+    ))
 }
 
-// A frame of one item.
-pub(crate) fn framed(
-    alloc: Global,
-    number: u32,
-    views: ViewTable,
-    pre: CmdBytes,
-    post: CmdBytes,
-    item: Item,
-) -> Result<Frame, AllocError> {
+/// A frame of one item.
+pub(crate) fn framed(alloc: Global, rest: Rest, item: Item) -> Result<Frame, AllocError> {
     // The types of the item's parts are seen here for the same reason.
     let _parts: Option<Parts> = None;
     let mut items = Vec::new(alloc);
     items.push(item)?;
-    recorded(alloc, number, views, pre, post, items)
+    recorded(alloc, rest, items)
 }
 
-pub(crate) fn row(alloc: Global, commands: &[Command]) -> Result<CmdBytes, AllocError> {
+fn row(alloc: Global, commands: &[Command]) -> Result<CmdBytes, AllocError> {
     let mut row = CmdBuffer::new(alloc);
     for command in commands {
         row.write(*command)?;
