@@ -5,20 +5,8 @@
 //! that is too long, 8 memory ran out.
 #![tactic(auto)]
 
-mod block_lock;
-mod blocks;
-mod callers;
-mod calls;
-mod loading;
-mod notes;
-mod running;
-mod status;
-#[cfg(test)]
-mod tests;
-
-pub use crate::loading::load;
-pub use crate::status::LoadStatus;
 use io_edge::{NoGate, StdSink, StdSource};
+use load_running::load;
 use std::alloc::{Alloc, Global};
 use std::process::ExitCode;
 

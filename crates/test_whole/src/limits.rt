@@ -6,8 +6,33 @@ use gfx_words::{Format, Handle, ProgramKind, Refusal, UniformKind};
 use resource_book::ResourceCalls;
 use vertex_layout::VertexLayout;
 
-// How many creates of a kind were accepted, up to the first that was refused, and its refusal.
-pub type Made = (u32, Option<Refusal>);
+/// How many calls of a kind were accepted, up to the first that was refused, and its refusal.
+#[derive(Clone, Copy, Drop, PartialEq, Eq)]
+pub struct Made {
+    pub count: u32,
+    pub refusal: Option<Refusal>,
+}
+
+/// So many, and then a refusal.
+pub fn refused(count: u32, refusal: Refusal) -> Made {
+    Made {
+        count,
+        refusal: Some(refusal),
+    }
+}
+
+/// So many, and none refused.
+pub fn accepted(count: u32) -> Made {
+    Made {
+        count,
+        refusal: None,
+    }
+}
+
+/// What one call answered.
+pub fn answered(refusal: Option<Refusal>) -> Made {
+    Made { count: 0, refusal }
+}
 
 const LEAST: TexSource = TexSource::Fill([0; 4]);
 
@@ -22,64 +47,64 @@ pub fn refusal_of<T: Drop>(answer: Result<T, Refusal>) -> Option<Refusal> {
 pub fn layouts<B: ResourceCalls>(calls: &mut B, layout: VertexLayout) -> Made {
     for made in 0..65u32 {
         if let Err(refusal) = calls.create_layout(layout) {
-            return (made, Some(refusal));
+            return refused(made, refusal);
         }
     }
-    (65, None)
+    accepted(65)
 }
 
 pub fn vertex_buffers<B: ResourceCalls>(calls: &mut B, layout: Handle) -> Made {
     for made in 0..1025u32 {
         if let Err(refusal) = calls.create_vertex_buffer(layout, &[0]) {
-            return (made, Some(refusal));
+            return refused(made, refusal);
         }
     }
-    (1025, None)
+    accepted(1025)
 }
 
 pub fn index_buffers<B: ResourceCalls>(calls: &mut B) -> Made {
     for made in 0..1025u32 {
         if let Err(refusal) = calls.create_index_buffer(&[0, 0]) {
-            return (made, Some(refusal));
+            return refused(made, refusal);
         }
     }
-    (1025, None)
+    accepted(1025)
 }
 
 pub fn textures<B: ResourceCalls>(calls: &mut B) -> Made {
     for made in 0..1025u32 {
         if let Err(refusal) = calls.create_texture(1, 1, Format::Rgba8, false, LEAST) {
-            return (made, Some(refusal));
+            return refused(made, refusal);
         }
     }
-    (1025, None)
+    accepted(1025)
 }
 
 pub fn frame_buffers<B: ResourceCalls>(calls: &mut B, color: Handle) -> Made {
     for made in 0..129u32 {
         if let Err(refusal) = calls.create_frame_buffer(color, None) {
-            return (made, Some(refusal));
+            return refused(made, refusal);
         }
     }
-    (129, None)
+    accepted(129)
 }
 
 pub fn programs<B: ResourceCalls>(calls: &mut B) -> Made {
     for made in 0..257u32 {
         if let Err(refusal) = calls.create_program(ProgramKind::Solid) {
-            return (made, Some(refusal));
+            return refused(made, refusal);
         }
     }
-    (257, None)
+    accepted(257)
 }
 
 pub fn uniforms<B: ResourceCalls>(calls: &mut B) -> Made {
     for made in 0..257u32 {
         if let Err(refusal) = calls.create_uniform(&made.to_le_bytes(), UniformKind::Int) {
-            return (made, Some(refusal));
+            return refused(made, refusal);
         }
     }
-    (257, None)
+    accepted(257)
 }
 
 // All references of a uniform: how many creates and then destroys were accepted, and the refusals of one more of each.
@@ -94,19 +119,19 @@ pub fn references<B: ResourceCalls>(calls: &mut B) -> Option<(Made, Made)> {
 fn referred<B: ResourceCalls>(calls: &mut B) -> Made {
     for made in 1..65_536u32 {
         if let Err(refusal) = calls.create_uniform(b"many", UniformKind::Vec4) {
-            return (made, Some(refusal));
+            return refused(made, refusal);
         }
     }
-    (65_536, None)
+    accepted(65_536)
 }
 
 fn destroyed<B: ResourceCalls>(calls: &mut B, uniform: Handle) -> Made {
     for gone in 0..65_536u32 {
         if let Err(refusal) = calls.destroy(uniform) {
-            return (gone, Some(refusal));
+            return refused(gone, refusal);
         }
     }
-    (65_536, None)
+    accepted(65_536)
 }
 
 // The answers to names of 32 and of 33 bytes and of none, and to the first one again for the other kind.

@@ -1,0 +1,7 @@
+use Rattle.std.proofs.Common.{inl, refl}
+use Rattle.gfx_model.specs.Views.{fewest_views}
+use Rattle.test_whole.proofs.cases.told.Given as goal
+
+-- the table that was just made; anything is admitted
+abbrev pub ghosts-by_case : goal.ghosts-by_case
+ghosts-by_case g a = record { table = a.table.table.shared.table_id; admits = λ e f items d. Unit {0}; views = fewest_views; counted = inl refl }
