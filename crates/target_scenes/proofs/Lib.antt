@@ -1,0 +1,2 @@
+pub mod Targeters
+pub mod GivenTargets
