@@ -1,12 +1,11 @@
 -- Each covered pixel is in a run.
-use Rattle.std.proofs.Common.{◌≡◌, ℕ, ◌+◌, ◌<◌, ◌≤◌, inl, inr, Bool, true, false, nat_le, nat_lt, ◌&&◌, ◌==◌, List, [], ◌∷◌, ◌++◌, refl, sym, ap, subst, ◌∙◌, arith}
+use Rattle.std.proofs.Common.{◌≡◌, ℕ, ◌+◌, ◌<◌, ◌≤◌, inl, inr, Bool, true, false, nat_le, nat_lt, ◌&&◌, List, [], ◌∷◌, ◌++◌, refl, sym, subst, ◌∙◌, arith}
 use Rattle.gfx_model.specs.Vertex.{Triangle}
 use Rattle.gfx_model.specs.Raster.{Rect, ScreenVertex, contains, covers}
 use Rattle.shared_keys.specs.Members.{In}
 use Rattle.shared_keys.proofs.Members.{member-left, member-right, member-of-both}
 use Rattle.shared_keys.proofs.Order.{parts, both}
 use Rattle.covered_rows.specs.declared.runs.Run.{Run}
-use Rattle.covered_rows.specs.Apart.{HasColumn}
 use Rattle.covered_rows.specs.Covering.{HasRun, HasRow, HasRowsBefore, HasAll, Keeps, IsOf, AddsOnly}
 
 le_from_test : (m n : ℕ) → nat_le m n ≡ true → m ≤ n

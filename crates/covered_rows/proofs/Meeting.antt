@@ -1,13 +1,12 @@
 -- Runs that are not swept meet.
-use Rattle.std.proofs.Common.{◌≡◌, ℕ, ◌+◌, ◌<◌, ◌≤◌, ◌⊎◌, inl, inr, Bool, true, false, nat_lt, nat_le, not, ◌&&◌, ◌||◌, ◌==◌, cond, List, [], ◌∷◌, refl, sym, ap, subst, ◌∙◌, arith}
+use Rattle.std.proofs.Common.{◌≡◌, ℕ, ◌<◌, ◌≤◌, inl, inr, Bool, true, false, nat_lt, nat_le, not, ◌&&◌, ◌||◌, ◌==◌, cond, List, [], ◌∷◌, refl, sym, ◌∙◌, arith}
 use Rattle.std.specs.List.Sorted.{IsPermutation}
 use Rattle.std.proofs.lemmas.List.Sorted.{IsPermutation-sym}
 use Rattle.shared_keys.specs.Members.{In}
 use Rattle.shared_keys.proofs.Members.{member-moves}
-use Rattle.shared_keys.proofs.Order.{parts}
 use Rattle.covered_rows.specs.declared.runs.Run.{Run}
-use Rattle.covered_rows.specs.Apart.{HasColumn, HaveColumns, Meet, SomeMeet}
-use Rattle.covered_rows.specs.Sweep.{ComesBefore, AreInOrderFrom, AreInOrder, is_beside, is_clear, joined_after, joined, sweep_from, sweep_of}
+use Rattle.covered_rows.specs.Apart.{HaveColumns, SomeMeet}
+use Rattle.covered_rows.specs.Sweep.{ComesBefore, AreInOrderFrom, AreInOrder, is_clear, joined_after, joined, sweep_from, sweep_of}
 
 same_from_test : (m n : ℕ) → (m == n) ≡ true → m ≡ n
 same_from_test m n e = grind (arith, e)

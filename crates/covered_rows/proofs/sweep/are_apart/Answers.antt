@@ -1,4 +1,4 @@
-use Rattle.std.proofs.Common.{◌≡◌, false, true, ap, sym, ◌∙◌}
+use Rattle.std.proofs.Common.{ap, sym, ◌∙◌}
 use Rattle.covered_rows.specs.Sweep.{sweep_of}
 use Rattle.covered_rows.proofs.Swept.{swept}
 use Rattle.covered_rows.proofs.Meeting.{unswept}

@@ -1,4 +1,3 @@
-use Rattle.std.proofs.Common.{arith}
 use Rattle.covered_rows.proofs.Covered.{columns-told, column-covered}
 use Rattle.covered_rows.proofs.triangles.columns_in.Goals as goal
 

@@ -1,4 +1,3 @@
-use Rattle.std.proofs.Common.{inl, refl}
 use Rattle.covered_rows.proofs.Covered.{keeps-more, has-more, adds-one}
 use Rattle.covered_rows.proofs.triangles.push_run.Goals as goal
 

@@ -1,4 +1,4 @@
-use Rattle.std.proofs.Common.{◌≡◌, ◌≤◌, ◌-◌}
+use Rattle.std.proofs.Common.{◌≤◌, ◌-◌}
 use Rattle.fix_math.specs.Seen.{rect_seen}
 use Rattle.tri_cover.specs.Seen.{triangle_seen}
 use Rattle.covered_rows.specs.Covering.{AddsOnly, HasRowsBefore, IsOf, Keeps}
