@@ -16,7 +16,7 @@ use Rattle.draw_encoder.specs.declared.items.Recording.{Recording}
 use Rattle.frame_record.specs.declared.frame.Frame.{Frame}
 use Rattle.frame_record.specs.Seen.{entry_seen, recordings_seen}
 use Rattle.resource_laws.specs.Lawful.{IsLawful}
-use Rattle.resource_book.specs.Desks.{payloads_seen}
+use Rattle.cmd_buffer.specs.Payloads.{payloads_seen}
 use Rattle.resource_book.specs.Written.{BookView}
 use Rattle.resource_book.specs.declared.frames.Work.{Work}
 use Rattle.context_core.specs.Places.{Stays}

@@ -5,7 +5,7 @@ use Rattle.gfx_model.specs.Resources as model
 use Rattle.gfx_model.specs.FrameCalls.{end_frame, frame_refusal}
 use Rattle.schedule_model.specs.Held.{count_of}
 use Rattle.hold_table.specs.Views.{SeatView, once_between, advanced, joined_with}
-use Rattle.resource_book.specs.Desks.{payloads_seen}
+use Rattle.cmd_buffer.specs.Payloads.{payloads_seen}
 use Rattle.resource_book.specs.Written.{BookView}
 use Rattle.resource_book.specs.Works.{IsWork, with_nothing_written}
 use Rattle.resource_book.specs.declared.frames.Work.{Work}

@@ -1,5 +1,5 @@
 -- Updates and view calls: what they write and change.
-use Rattle.std.proofs.Common.{◌≡◌, ℕ, List, [], ◌∷◌, ◌++◌, map, length, None, Result, Ok, Err, sym, ◌∙◌}
+use Rattle.std.proofs.Common.{◌≡◌, ℕ, List, [], ◌∷◌, ◌++◌, map, length, None, Result, Ok, Err, sym, subst, ◌∙◌}
 use Rattle.gfx_model.specs.Words.{Handle, kind_number}
 use Rattle.gfx_model.specs.Raster.{Rect}
 use Rattle.gfx_model.specs.Views.{Views}
@@ -9,6 +9,9 @@ use Rattle.gfx_words.specs.declared.refusals.Refusal.{Refusal}
 use Rattle.view_table.specs.Answered.{IsAnswered}
 use Rattle.resource_laws.specs.Bare.{bare, bare_of}
 use Rattle.resource_book.specs.Answered.{Changes}
+use Rattle.resource_book.specs.Books.{view_of}
+use Rattle.resource_book.specs.declared.book.Book.TheInside.{Inside}
+use Rattle.resource_book.specs.Shelves.{resources_of}
 use Rattle.resource_book.specs.Written.{BookView, after_in, add_all, where_changed, written, payload_for, destroys_of}
 
 pub updated_buffer : (h : Handle) (offset : ℕ) (bytes : List ℕ) (v : BookView) → map bare v.resources.things ≡ v.resources.things
@@ -46,3 +49,10 @@ view_changed (Ok u) call v new changed b a e d = (
   (λ j. record v { resources = record v.resources { views = a.1 j; things = sym b j } }) ∙ (λ j. after_with call v (sym e j) (sym d j)),
 )
 view_changed (Err r) call v new changed b a e d = (a.0, λ j. record v { resources = with_views (a.1 j) v.resources })
+
+-- the same of a book, whose views alone are others
+pub view_answered : (b : Inside) (v : BookView) → view_of b ≡ v → (result : Result (Unit {0}) Refusal) (call : ResourceCall) (new changed : Views) → map bare b.shelf.table.things ≡ b.shelf.table.things
+    → IsAnswered result (refusals (resources_of b.shelf) call) b.shelf.views new changed → effect (resources_of b.shelf) call ≡ no_change (with_views changed (resources_of b.shelf)) → destroys_of (resources_of b.shelf) call ≡ []
+    → Changes result call v (view_of (record b { shelf = record b.shelf { views = new } }))
+view_answered b v is result call new changed things a e d =
+    subst (λ (w : BookView). Changes result call w (view_of (record b { shelf = record b.shelf { views = new } }))) is (view_changed result call (view_of b) new changed things a e d)

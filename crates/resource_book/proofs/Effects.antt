@@ -1,6 +1,7 @@
 use Rattle.std.proofs.Common.{◌≡◌, ℕ, ◌+◌, ◌-◌, ◌<◌, ◌≤◌, Bool, true, false, not, ◌&&◌, nat_lt, nat_le, List, [], ◌∷◌, ◌++◌, length, Option, Some, None, Result, Ok, Err, MatchOption, MatchResult, IfErr, sym, ap, ◌∙◌, subst, if◌then◌else◌}
 use Rattle.std.proofs.lemmas.Bool.{lt-ltb, le-ltb}
 use Rattle.std.specs.List.{find}
+use Rattle.cmd_buffer.specs.Rows.{Writing}
 use Rattle.gfx_model.specs.Words.{Handle, UniformKind, kind_number}
 use Rattle.gfx_model.specs.Commands.{destroy_command}
 use Rattle.gfx_model.specs.Resources as model
@@ -11,6 +12,10 @@ use Rattle.gfx_words.specs.Seen.{refusal_seen, IsFirstRefusal}
 use Rattle.resource_laws.specs.Bare.{bare_of}
 use Rattle.resource_book.specs.Written.{BookView, after_in, add_all, where_changed, written, payload_for}
 use Rattle.resource_book.specs.Answered.{Creates, IsFirstRefusalOrOutOfMemory}
+use Rattle.resource_book.specs.Books.{view_of}
+use Rattle.resource_book.specs.declared.book.Book.TheInside.{Inside}
+use Rattle.resource_book.specs.declared.shelf.Shelf.{Shelf}
+use Rattle.resource_book.specs.Shelves.{resources_of}
 
 weaker : (first : Option model.Refusal) (r : Refusal) → IsFirstRefusal first r → IsFirstRefusalOrOutOfMemory first r
 weaker first r h = weaker_by (refusal_seen r) h where
@@ -48,6 +53,28 @@ pub referred : (result : Result Handle Refusal) (name : List ℕ) (k : UniformKi
 referred result name k old new t size is a =
     subst (λ b. IsMadeBy b result name k old new (named_uniform old.resources name)) (sym size) (subst (λ o. IsMadeBy false result name k old new o) (sym is) (referred_by result name k old new t a))
 
+-- what a reference more is answered, of the state of the calls alone
+abbrev IsReferred : Result Handle Refusal → UniformKind → (old new : Resources) → Thing → Type 0
+IsReferred result k old new t =
+    MatchResult result
+    (λ h. (first_refusal (uniform_refusals old k (Some t)) ≡ None) × (h ≡ t.handle) × (new ≡ bare_of (on_thing (with_references (λ n. n + 1)) h.serial old)))
+    (λ r. IsFirstRefusal (first_refusal (uniform_refusals old k (Some t))) r × (new ≡ old))
+
+widened : (result : Result Handle Refusal) (k : UniformKind) (v : BookView) (new : Resources) (t : Thing) → IsReferred result k v.resources new t
+    → MatchResult result
+    (λ h. (first_refusal (uniform_refusals v.resources k (Some t)) ≡ None) × (h ≡ t.handle) × (record v { resources = new } ≡ record v { resources = bare_of (on_thing (with_references (λ n. n + 1)) h.serial v.resources) }))
+    (λ r. IsFirstRefusal (first_refusal (uniform_refusals v.resources k (Some t))) r × (record v { resources = new } ≡ v))
+widened (Ok h) k v new t a = (a.0, a.1, λ j. record v { resources = a.2 j })
+widened (Err r) k v new t a = (a.0, λ j. record v { resources = a.1 j })
+
+-- a book's create of a uniform whose name lives
+pub book_referred : (b : Inside) (v : BookView) → view_of b ≡ v → (result : Result Handle Refusal) (name : List ℕ) (k : UniformKind) (s : Shelf) (t : Thing)
+    → not (nat_le 1 (length name) && nat_le (length name) 32) ≡ false → named_uniform (resources_of b.shelf) name ≡ Some t
+    → IsReferred result k (resources_of b.shelf) (resources_of s) t → Creates result (model.create_uniform name k) v (view_of (record b { shelf = s }))
+book_referred b v is result name k s t size found a =
+    subst (λ (w : BookView). Creates result (model.create_uniform name k) w (view_of (record b { shelf = s }))) is
+    (referred result name k (view_of b) (view_of (record b { shelf = s })) t size found (widened result k (view_of b) (resources_of s) t a))
+
 -- who only tests what the definition tests wants no memory
 pub never_memory : (result : Result Handle Refusal) (first : Option model.Refusal) (A : Handle → Type 0) (B X : Type 0) → MatchResult result A (λ r. IsFirstRefusal first r × B) → IfErr result (λ r. r ≡ refusals.OutOfMemory → X)
 never_memory (Ok h) first A B X a = tt
@@ -81,3 +108,19 @@ is_less h v t is lt = sym (ap not (ap (λ o. nat_lt 1 (references_of o)) is ∙ 
 
 pub is_whole : (h : Handle) (v : BookView) (t : Thing) → find (is_at h.kind h.index) v.resources.things ≡ Some t → t.references ≤ 1 → true ≡ not (nat_lt 1 (references_of (find (is_at h.kind h.index) v.resources.things)))
 is_whole h v t is le = sym (ap not (ap (λ o. nat_lt 1 (references_of o)) is ∙ le-ltb 1 t.references le))
+
+-- a book's destroy that leaves references
+pub book_less : (b : Inside) (v : BookView) → view_of b ≡ v → (h : Handle) (s : Shelf) (t : Thing) → find (is_at h.kind h.index) b.shelf.table.things ≡ Some t → 1 < t.references
+    → resources_of s ≡ bare_of (on_thing (with_references (λ n. n - 1)) h.serial (resources_of b.shelf))
+    → (false ≡ not (nat_lt 1 (references_of (find (is_at h.kind h.index) v.resources.things)))) × (view_of (record b { shelf = s }) ≡ after_in (model.destroy h) None v)
+book_less b v is h s t found more e =
+    subst (λ (w : BookView). (false ≡ not (nat_lt 1 (references_of (find (is_at h.kind h.index) w.resources.things)))) × (view_of (record b { shelf = s }) ≡ after_in (model.destroy h) None w)) is
+    (is_less h (view_of b) t found more, (λ j. record (view_of b) { resources = e j }) ∙ destroyed_less h (view_of b) t found more)
+
+-- a book's destroy of a thing that dies
+pub book_whole : (b : Inside) (v : BookView) → view_of b ≡ v → (h : Handle) (s : Shelf) (post : Writing) (t : Thing) → find (is_at h.kind h.index) b.shelf.table.things ≡ Some t → t.references ≤ 1
+    → resources_of s ≡ bare_of (die h (resources_of b.shelf)) → post.commands ≡ b.post.commands ++ destroy_command (kind_number h.kind) h.index ∷ []
+    → (true ≡ not (nat_lt 1 (references_of (find (is_at h.kind h.index) v.resources.things)))) × (view_of (record b { shelf = s; post = post }) ≡ after_in (model.destroy h) None v)
+book_whole b v is h s post t found few e noted =
+    subst (λ (w : BookView). (true ≡ not (nat_lt 1 (references_of (find (is_at h.kind h.index) w.resources.things)))) × (view_of (record b { shelf = s; post = post }) ≡ after_in (model.destroy h) None w)) is
+    (is_whole h (view_of b) t found few, (λ j. record (view_of b) { resources = e j; post = noted j }) ∙ destroyed_whole h (view_of b) t found few)

@@ -4,7 +4,7 @@ use Rattle.std.specs.List.{find}
 use Rattle.std.proofs.lemmas.List.{length-set}
 use Rattle.gfx_model.specs.Views.{View, view_count}
 use Rattle.gfx_model.specs.Words.{Handle, UniformKind}
-use Rattle.gfx_model.specs.Resources.{Thing, Resources, create_layout, create_vertex_buffer, create_index_buffer, create_texture, create_frame_buffer, create_program, create_uniform, update_buffer, update_texture, destroy, change_view, set_view_target, set_view_order, effect, named_uniform, uniform_effect, no_change, die, on_thing, with_references, references_of, is_at}
+use Rattle.gfx_model.specs.Resources.{Thing, Resources, create_layout, create_vertex_buffer, create_index_buffer, create_texture, create_frame_buffer, create_program, create_uniform, update_buffer, update_texture, destroy, change_view, set_view_target, set_view_order, named_uniform, uniform_effect, no_change, die, on_thing, with_references, references_of, is_at}
 use Rattle.resource_book.specs.Laws.{SameLaw}
 
 -- two states with the same of all three

@@ -5,7 +5,8 @@ pub mod Stacks
 pub mod Shelves
 pub mod Written
 pub mod Answered
-pub mod Desks
+pub mod Orders
+pub mod Books
 pub mod Finding
 pub mod Opened
 pub mod Works

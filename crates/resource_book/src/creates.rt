@@ -1,22 +1,44 @@
 // The creates.
-ghost use Rattle.std.specs.Prelude.{◌≡◌, ◌≤◌, ◌<◌, ◌+◌, length, slice_index_or, Some, None, MatchResult, IfErr};
 ghost use Rattle.gfx_model.specs.Resources as model;
 ghost use Rattle.gfx_model.specs.Resources.{Thing};
-ghost use Rattle.gfx_words.specs.Kinds.{format_seen, program_seen, uniform_seen};
-ghost use Rattle.gfx_words.specs.Seen.{IsFirstRefusal};
-ghost use Rattle.resource_book.specs.Answered.{Creates};
+ghost use Rattle.gfx_words.specs.Kinds.{uniform_seen};
+ghost use Rattle.gfx_words.specs.Seen.{program_seen, IsFirstRefusal};
 ghost use Rattle.resource_laws.specs.Bare.{bare_of};
-ghost use Rattle.resource_book.specs.Desks.{desk_seen};
+ghost use Rattle.resource_laws.specs.Laws.{Gives};
 ghost use Rattle.resource_laws.specs.Lawful.{IsLawful};
-ghost use Rattle.resource_book.specs.Shelves.{HasLimits};
-ghost use Rattle.resource_book.specs.Written.{depth_word, flag_number};
+ghost use Rattle.resource_book.specs.Answered.{Creates};
+ghost use Rattle.resource_book.specs.Orders.{HasRoom, orders_sent};
+ghost use Rattle.resource_book.specs.Shelves.{resources_of};
+ghost use Rattle.resource_book.specs.Written.{depth_word};
+ghost use Rattle.std.specs.Prelude.{◌≡◌, ◌≤◌, ◌<◌, ◌+◌, length, slice_index_or, Some, None, MatchResult, IfOk, IfErr};
 
-use crate::desk::Desk;
+use crate::book::Book;
 use crate::find::{can_attach, uniform_kind_of};
+use crate::orders::Orders;
 use crate::rows::Fact;
+use crate::shelf::Shelf;
 use cmd_buffer::Command;
 use gfx_words::{Handle, Info, Kind, ProgramKind, Refusal, UniformKind};
 use vertex_layout::VertexLayout;
+
+// how many bytes a buffer can have
+const MOST_BUFFER_BYTES: usize = 524_288;
+
+/// Makes room for one thing, one command of so many bytes and one payload.
+pub fn reserve(shelf: &mut Shelf, orders: &mut Orders, bytes: u32) -> Result<(), Refusal>
+    ensures same { resources_of shelf.new ≡ resources_of shelf.old }
+    ensures stacks { shelf.new.stacks ≡ shelf.old.stacks }
+    ensures commands { orders.new.commands.commands ≡ orders.old.commands.commands }
+    ensures payloads { orders_sent orders.new ≡ orders_sent orders.old }
+    ensures thing { IfOk result (λ _. 1 ≤ shelf.new.table.spare) }
+    ensures room { IfOk result (λ _. HasRoom bytes orders.new) }
+    ensures refused { IfErr result (λ r. r ≡ Refusal.OutOfMemory) }
+{
+    if shelf.table.reserve().is_err() {
+        return Err(Refusal::OutOfMemory);
+    }
+    orders.reserve(bytes)
+}
 
 fn serial_of(h: Option<Handle>) -> Option<u32>
     ensures { result ≡ model.serial_option h }
@@ -36,14 +58,34 @@ fn index_of(h: Option<Handle>) -> u16
     }
 }
 
-impl Desk {
-    /// Makes a layout.
+// One reference more of the uniform of a number, if it is of a kind.
+fn refer(shelf: &mut Shelf, number: usize, kind: UniformKind) -> Result<Handle, Refusal>
+    requires lawful { IsLawful (resources_of shelf.old) }
+    requires within { number < length shelf.old.table.things }
+    ensures stacks { shelf.new.stacks ≡ shelf.old.stacks }
+    ensures answer { (d : Thing) → MatchResult result
+        (λ h. (model.first_refusal (model.uniform_refusals (resources_of shelf.old) (uniform_seen kind) (Some (slice_index_or shelf.old.table.things number d))) ≡ None)
+        × (h ≡ (slice_index_or shelf.old.table.things number d).handle)
+        × (resources_of shelf.new ≡ bare_of (model.on_thing (model.with_references (λ n. n + 1)) h.serial (resources_of shelf.old))))
+        (λ r. IsFirstRefusal (model.first_refusal (model.uniform_refusals (resources_of shelf.old) (uniform_seen kind) (Some (slice_index_or shelf.old.table.things number d)))) r × (resources_of shelf.new ≡ resources_of shelf.old)) }
+{
+    let row = shelf.table.row(number);
+    if !kind.is(uniform_kind_of(&row.fact)) {
+        return Err(Refusal::WrongKind);
+    }
+    if row.references >= 65_535 {
+        return Err(Refusal::Full);
+    }
+    let handle = row.handle;
+    shelf.refer(number);
+    Ok(handle)
+}
+
+impl Book {
+    /// Makes a layout. `Full` exactly where 64 layouts live or wait; then `SerialsSpent` exactly where no serial is left.
     pub fn create_layout(&mut self, layout: VertexLayout) -> Result<Handle, Refusal>
-        requires limits { HasLimits self.old.shelf }
-        requires lawful { IsLawful (desk_seen self.old).resources }
-        ensures limits { HasLimits self.new.shelf }
-        ensures post { self.new.post ≡ self.old.post }
-        ensures answer { Creates result (model.create_layout layout) (desk_seen self.old) (desk_seen self.new) }
+        ensures answer { Creates result (model.create_layout layout) self.old self.new }
+        ensures free { IfOk result (λ h. Gives self.old.resources (model.create_layout layout) h) }
     {
         if self.shelf.lacks_index(Kind::Layout) {
             return Err(Refusal::Full);
@@ -53,24 +95,23 @@ impl Desk {
         }
         // as long as with any other index
         let bytes = Command::CreateLayout { index: 0, layout }.size();
-        self.reserve(bytes)?;
-        let handle = self.make(Kind::Layout, Info::Plain, Fact::Layout(layout), None);
-        self.write(Command::CreateLayout {
+        reserve(&mut self.shelf, &mut self.orders, bytes)?;
+        let handle = self
+            .shelf
+            .make(Kind::Layout, Info::Plain, Fact::Layout(layout), None);
+        self.orders.write(Command::CreateLayout {
             index: handle.index(),
             layout,
         });
         Ok(handle)
     }
 
-    /// Makes a vertex buffer.
+    /// Makes a vertex buffer of a layout. `BadSize` exactly where there are not 1 to 524,288 bytes; then `WrongKind`, `Stale`, `Full` (1,024) and `SerialsSpent`.
     pub fn create_vertex_buffer(&mut self, layout: Handle, bytes: &[u8]) -> Result<Handle, Refusal>
-        requires limits { HasLimits self.old.shelf }
-        requires lawful { IsLawful (desk_seen self.old).resources }
-        ensures limits { HasLimits self.new.shelf }
-        ensures post { self.new.post ≡ self.old.post }
-        ensures answer { Creates result (model.create_vertex_buffer layout bytes.now) (desk_seen self.old) (desk_seen self.new) }
+        ensures answer { Creates result (model.create_vertex_buffer layout bytes.now) self.old self.new }
+        ensures free { IfOk result (λ h. Gives self.old.resources (model.create_vertex_buffer layout bytes.now) h) }
     {
-        if bytes.len() < 1 || bytes.len() > 524_288 {
+        if bytes.len() < 1 || bytes.len() > MOST_BUFFER_BYTES {
             return Err(Refusal::BadSize);
         }
         if !layout.kind().is(Kind::Layout) {
@@ -83,17 +124,17 @@ impl Desk {
         if self.shelf.lacks_serial() {
             return Err(Refusal::SerialsSpent);
         }
-        self.reserve(9)?;
         let Ok(sent) = bytes.to_vec(self.alloc) else {
             return Err(Refusal::OutOfMemory)
         };
-        let payload = self.payloads.len() as u32;
+        reserve(&mut self.shelf, &mut self.orders, 9)?;
+        let payload = self.orders.next_payload();
         let fact = Fact::Vertices {
             bytes: bytes.len() as u32,
         };
-        let handle = self.make(Kind::VertexBuffer, Info::Plain, fact, None);
+        let handle = self.shelf.make(Kind::VertexBuffer, Info::Plain, fact, None);
         let index = handle.index();
-        self.send(
+        self.orders.send(
             Command::CreateVertexBuffer {
                 index,
                 layout: layout.index(),
@@ -104,15 +145,12 @@ impl Desk {
         Ok(handle)
     }
 
-    /// Makes an index buffer.
+    /// Makes an index buffer. `BadSize` exactly where there are not 2 to 524,288 bytes, or an odd number; then `Full` (1,024) and `SerialsSpent`.
     pub fn create_index_buffer(&mut self, bytes: &[u8]) -> Result<Handle, Refusal>
-        requires limits { HasLimits self.old.shelf }
-        requires lawful { IsLawful (desk_seen self.old).resources }
-        ensures limits { HasLimits self.new.shelf }
-        ensures post { self.new.post ≡ self.old.post }
-        ensures answer { Creates result (model.create_index_buffer bytes.now) (desk_seen self.old) (desk_seen self.new) }
+        ensures answer { Creates result (model.create_index_buffer bytes.now) self.old self.new }
+        ensures free { IfOk result (λ h. Gives self.old.resources (model.create_index_buffer bytes.now) h) }
     {
-        if bytes.len() < 1 || bytes.len() > 524_288 || bytes.len() % 2 != 0 {
+        if bytes.len() < 1 || bytes.len() > MOST_BUFFER_BYTES || bytes.len() % 2 != 0 {
             return Err(Refusal::BadSize);
         }
         if self.shelf.lacks_index(Kind::IndexBuffer) {
@@ -121,27 +159,25 @@ impl Desk {
         if self.shelf.lacks_serial() {
             return Err(Refusal::SerialsSpent);
         }
-        self.reserve(7)?;
         let Ok(sent) = bytes.to_vec(self.alloc) else {
             return Err(Refusal::OutOfMemory)
         };
-        let payload = self.payloads.len() as u32;
+        reserve(&mut self.shelf, &mut self.orders, 7)?;
+        let payload = self.orders.next_payload();
         let fact = Fact::Indices {
             bytes: bytes.len() as u32,
         };
-        let handle = self.make(Kind::IndexBuffer, Info::Plain, fact, None);
+        let handle = self.shelf.make(Kind::IndexBuffer, Info::Plain, fact, None);
         let index = handle.index();
-        self.send(Command::CreateIndexBuffer { index, payload }, sent);
+        self.orders
+            .send(Command::CreateIndexBuffer { index, payload }, sent);
         Ok(handle)
     }
 
-    /// Makes a program.
+    /// Makes a program. `Full` exactly where 256 programs live or wait; then `SerialsSpent`.
     pub fn create_program(&mut self, kind: ProgramKind) -> Result<Handle, Refusal>
-        requires limits { HasLimits self.old.shelf }
-        requires lawful { IsLawful (desk_seen self.old).resources }
-        ensures limits { HasLimits self.new.shelf }
-        ensures post { self.new.post ≡ self.old.post }
-        ensures answer { Creates result (model.create_program (program_seen kind)) (desk_seen self.old) (desk_seen self.new) }
+        ensures answer { Creates result (model.create_program (program_seen kind)) self.old self.new }
+        ensures free { IfOk result (λ h. Gives self.old.resources (model.create_program (program_seen kind)) h) }
     {
         if self.shelf.lacks_index(Kind::Program) {
             return Err(Refusal::Full);
@@ -149,26 +185,25 @@ impl Desk {
         if self.shelf.lacks_serial() {
             return Err(Refusal::SerialsSpent);
         }
-        self.reserve(4)?;
-        let handle = self.make(Kind::Program, Info::Plain, Fact::Program(kind), None);
-        self.write(Command::CreateProgram {
+        reserve(&mut self.shelf, &mut self.orders, 4)?;
+        let handle = self
+            .shelf
+            .make(Kind::Program, Info::Plain, Fact::Program(kind), None);
+        self.orders.write(Command::CreateProgram {
             index: handle.index(),
             kind: kind.number(),
         });
         Ok(handle)
     }
 
-    /// Makes a frame buffer.
+    /// Makes a frame buffer. `WrongKind` exactly where the colour is no rgba8 texture, or a depth is given that is no d24s8 texture of the same sides; then `Stale` of the colour and of the depth, `Full` (128) and `SerialsSpent`.
     pub fn create_frame_buffer(
         &mut self,
         color: Handle,
         depth: Option<Handle>,
     ) -> Result<Handle, Refusal>
-        requires limits { HasLimits self.old.shelf }
-        requires lawful { IsLawful (desk_seen self.old).resources }
-        ensures limits { HasLimits self.new.shelf }
-        ensures post { self.new.post ≡ self.old.post }
-        ensures answer { Creates result (model.create_frame_buffer color depth) (desk_seen self.old) (desk_seen self.new) }
+        ensures answer { Creates result (model.create_frame_buffer color depth) self.old self.new }
+        ensures free { IfOk result (λ h. Gives self.old.resources (model.create_frame_buffer color depth) h) }
     {
         if !can_attach(color, depth) {
             return Err(Refusal::WrongKind);
@@ -184,14 +219,14 @@ impl Desk {
         if self.shelf.lacks_serial() {
             return Err(Refusal::SerialsSpent);
         }
-        self.reserve(7)?;
+        reserve(&mut self.shelf, &mut self.orders, 7)?;
         let fact = Fact::FrameBuffer {
             color: color.serial(),
             depth: serial_of(depth),
         };
-        let handle = self.make(Kind::FrameBuffer, Info::Plain, fact, None);
+        let handle = self.shelf.make(Kind::FrameBuffer, Info::Plain, fact, None);
         let index = handle.index();
-        self.write(Command::CreateFrameBuffer {
+        self.orders.write(Command::CreateFrameBuffer {
             index,
             color: color.index(),
             depth: index_of(depth),
@@ -199,56 +234,25 @@ impl Desk {
         Ok(handle)
     }
 
-    /// Makes a uniform, or refers to the live one of that name once more.
+    /// Makes a uniform, or refers to the live one of that name once more. `BadSize` exactly where the name has not 1 to 32 bytes; then, where one lives, `WrongKind` for the other kind and `Full` at 65,535 references; else `Full` (256) and `SerialsSpent`. Memory can be wanting only where none of the name lives.
     pub fn create_uniform(&mut self, name: &[u8], kind: UniformKind) -> Result<Handle, Refusal>
-        requires limits { HasLimits self.old.shelf }
-        requires lawful { IsLawful (desk_seen self.old).resources }
-        ensures limits { HasLimits self.new.shelf }
-        ensures post { self.new.post ≡ self.old.post }
-        ensures answer { Creates result (model.create_uniform name.now (uniform_seen kind)) (desk_seen self.old) (desk_seen self.new) }
-        ensures memory { IfErr result (λ r. r ≡ Refusal.OutOfMemory → model.named_uniform (desk_seen self.old).resources name.now ≡ None) }
+        ensures answer { Creates result (model.create_uniform name.now (uniform_seen kind)) self.old self.new }
+        ensures free { IfOk result (λ h. Gives self.old.resources (model.create_uniform name.now (uniform_seen kind)) h) }
+        ensures memory { IfErr result (λ r. r ≡ Refusal.OutOfMemory → model.named_uniform self.old.resources name.now ≡ None) }
     {
         if name.len() < 1 || name.len() > 32 {
             return Err(Refusal::BadSize);
         }
         match self.shelf.table.named(name) {
-            Some(number) => self.refer(number, kind),
+            Some(number) => refer(&mut self.shelf, number, kind),
             None => self.new_uniform(name, kind),
         }
     }
 
-    fn refer(&mut self, number: usize, kind: UniformKind) -> Result<Handle, Refusal>
-        requires limits { HasLimits self.old.shelf }
-        requires lawful { IsLawful (desk_seen self.old).resources }
-        requires within { number < length self.old.shelf.table.things }
-        ensures limits { HasLimits self.new.shelf }
-        ensures post { self.new.post ≡ self.old.post }
-        ensures answer { (d : Thing) → MatchResult result
-            (λ h. (model.first_refusal (model.uniform_refusals (desk_seen self.old).resources (uniform_seen kind) (Some (slice_index_or self.old.shelf.table.things number d))) ≡ None)
-            × (h ≡ (slice_index_or self.old.shelf.table.things number d).handle)
-            × (desk_seen self.new ≡ record (desk_seen self.old) { resources = bare_of (model.on_thing (model.with_references (λ n. n + 1)) h.serial (desk_seen self.old).resources) }))
-            (λ r. IsFirstRefusal (model.first_refusal (model.uniform_refusals (desk_seen self.old).resources (uniform_seen kind) (Some (slice_index_or self.old.shelf.table.things number d)))) r × (desk_seen self.new ≡ desk_seen self.old)) }
-    {
-        let row = self.shelf.table.row(number);
-        if !kind.is(uniform_kind_of(&row.fact)) {
-            return Err(Refusal::WrongKind);
-        }
-        if row.references >= 65_535 {
-            return Err(Refusal::Full);
-        }
-        let handle = row.handle;
-        self.shelf.refer(number);
-        Ok(handle)
-    }
-
     fn new_uniform(&mut self, name: &[u8], kind: UniformKind) -> Result<Handle, Refusal>
-        requires limits { HasLimits self.old.shelf }
-        requires lawful { IsLawful (desk_seen self.old).resources }
         requires size { (1 ≤ length name.now) × (length name.now ≤ 32) }
-        requires none { model.named_uniform (desk_seen self.old).resources name.now ≡ None }
-        ensures limits { HasLimits self.new.shelf }
-        ensures post { self.new.post ≡ self.old.post }
-        ensures answer { Creates result (model.create_uniform name.now (uniform_seen kind)) (desk_seen self.old) (desk_seen self.new) }
+        requires none { model.named_uniform self.old.resources name.now ≡ None }
+        ensures { Creates result (model.create_uniform name.now (uniform_seen kind)) self.old self.new }
     {
         if self.shelf.lacks_index(Kind::Uniform) {
             return Err(Refusal::Full);
@@ -256,7 +260,6 @@ impl Desk {
         if self.shelf.lacks_serial() {
             return Err(Refusal::SerialsSpent);
         }
-        self.reserve(12)?;
         let Ok(own) = name.to_vec(self.alloc) else {
             return Err(Refusal::OutOfMemory)
         };
@@ -266,12 +269,15 @@ impl Desk {
         let Ok(sent) = name.to_vec(self.alloc) else {
             return Err(Refusal::OutOfMemory)
         };
-        let payload = self.payloads.len() as u32;
+        reserve(&mut self.shelf, &mut self.orders, 12)?;
+        let payload = self.orders.next_payload();
         let fact = Fact::Uniform { kind, name: own };
-        let handle = self.make(Kind::Uniform, Info::Uniform(kind), fact, Some(key));
+        let handle = self
+            .shelf
+            .make(Kind::Uniform, Info::Uniform(kind), fact, Some(key));
         let index = handle.index();
         let serial = handle.serial();
-        self.send(
+        self.orders.send(
             Command::CreateUniform {
                 index,
                 serial,

@@ -2,8 +2,8 @@
 ghost use Rattle.std.specs.Prelude.{◌≡◌, ◌<◌, ◌&&◌, option_map, map, filter, length, slice_index_or, Some, None, true, false, MatchResult};
 ghost use Rattle.std.specs.List.{find};
 ghost use Rattle.gfx_model.specs.Words.{frame_buffer_kind, is_live_in, greatest};
-ghost use Rattle.gfx_model.specs.Resources.{Thing, is_at, is_live, holds_texture, word_of_thing, uniform_kind_in, byte_count, bytes_of_thing, least_index, can_attach, texture_sides, same_sides};
-ghost use Rattle.gfx_words.specs.Kinds.{kind_seen, uniform_seen, format_seen};
+ghost use Rattle.gfx_model.specs.Resources.{Thing, is_at, is_live, holds_texture, word_of_thing, uniform_kind_in, byte_count, bytes_of_thing, least_index, can_attach, sides_in, texture_sides, same_sides};
+ghost use Rattle.gfx_words.specs.Kinds.{kind_seen, info_seen, uniform_seen, format_seen};
 ghost use Rattle.resource_book.specs.Seen.{fact_seen, row_seen, rows_seen};
 ghost use Rattle.resource_book.specs.Finding.{held_by};
 ghost use Rattle.resource_book.specs.Answered.{HasLiveThing};
@@ -69,31 +69,33 @@ impl LiveTargets for ThingTable {
     }
 }
 
+fn sides_in(format: Format, info: Info) -> Option<(u16, u16)>
+    ensures { result ≡ sides_in (format_seen format) (info_seen info) }
+{
+    match info {
+        Info::Texture {
+            format: its,
+            blit_dst: _,
+            width,
+            height,
+        } => {
+            if format.is(its) {
+                Some((width, height))
+            } else {
+                None
+            }
+        }
+        _ => None,
+    }
+}
+
 fn sides_of(format: Format, h: Handle) -> Option<(u16, u16)>
     ensures { result ≡ texture_sides (format_seen format) h }
 {
-    match (h.kind(), h.info(), format) {
-        (
-            Kind::Texture,
-            Info::Texture {
-                format: Format::Rgba8,
-                blit_dst: _,
-                width,
-                height,
-            },
-            Format::Rgba8,
-        ) => Some((width, height)),
-        (
-            Kind::Texture,
-            Info::Texture {
-                format: Format::D24S8,
-                blit_dst: _,
-                width,
-                height,
-            },
-            Format::D24S8,
-        ) => Some((width, height)),
-        _ => None,
+    if h.kind().is(Kind::Texture) {
+        sides_in(format, h.info())
+    } else {
+        None
     }
 }
 

@@ -1,13 +1,11 @@
 // The end of a frame and the start of the next.
-ghost use Rattle.std.specs.Prelude.{◌≡◌, ◌≤◌, MatchResult};
 ghost use Rattle.gfx_model.specs.Resources as model;
-ghost use Rattle.resource_laws.specs.Lawful.{IsLawful};
-ghost use Rattle.resource_book.specs.Desks.{desk_seen, destroy_bytes};
-ghost use Rattle.resource_book.specs.Shelves.{HasLimits};
+ghost use Rattle.std.specs.Prelude.{◌≡◌, ◌≤◌, [], MatchResult};
 
-use crate::desk::Desk;
+use crate::book::Book;
 use crate::opening::post_buffer;
-use cmd_buffer::{CmdBuffer, CmdBytes};
+use crate::orders::Orders;
+use cmd_buffer::CmdBytes;
 use std::alloc::AllocError;
 use std::mem;
 use view_table::ViewTable;
@@ -23,43 +21,39 @@ pub struct Work {
     pub payloads: Vec<Vec<u8>>,
 }
 
-impl Desk {
+impl Book {
     ghost use Rattle.resource_book.specs.Works.{IsWork, with_nothing_written};
 
-    /// Takes what was written.
+    /// Takes what the calls of the frame wrote, with a copy of the views. Memory for the next frame's destroys is taken
+    /// here; after want of memory nothing is taken.
     pub fn take_work(&mut self) -> Result<Work, AllocError>
-        requires { HasLimits self.old.shelf }
-        ensures limits { HasLimits self.new.shelf }
-        ensures taken { MatchResult result
-            (λ work. IsWork (desk_seen self.old) work × (desk_seen self.new ≡ with_nothing_written (desk_seen self.old)))
-            (λ _. desk_seen self.new ≡ desk_seen self.old) }
-        ensures room { MatchResult result
-            (λ _. destroy_bytes ≤ self.new.post.spare)
-            (λ _. self.old.post.spare ≤ self.new.post.spare) }
+        ensures { MatchResult result
+            (λ work. IsWork self.old work × (self.new ≡ with_nothing_written self.old))
+            (λ _. self.new ≡ self.old) }
     {
-        let views = self.shelf.views.copy()?;
-        let destroys = post_buffer(self.alloc)?;
         // the end of each row
-        self.pre.reserve(1)?;
+        self.orders.commands.reserve(1)?;
         self.post.reserve(1)?;
-        let pre = mem::replace(&mut self.pre, CmdBuffer::new(self.alloc));
+        let destroys = post_buffer(self.alloc)?;
+        let views = self.shelf.views.copy()?;
+        let orders = mem::replace(&mut self.orders, Orders::new(self.alloc));
         let post = mem::replace(&mut self.post, destroys);
-        let payloads = mem::replace(&mut self.payloads, Vec::new(self.alloc));
         Ok(Work {
             views,
-            pre: pre.finish().unwrap(),
+            pre: orders.commands.finish().unwrap(),
             post: post.finish().unwrap(),
-            payloads,
+            payloads: orders.payloads,
         })
     }
 
-    /// Starts a frame.
+    /// Starts a frame: indices and things whose death is over are given back, and a view whose target died has the back
+    /// buffer. What was written has been taken. The rows that `Row::is_kept` refuses tell before the call which places
+    /// it leaves free. It takes no memory.
     pub fn start_frame(&mut self, frame: u32)
-        requires limits { HasLimits self.old.shelf }
-        requires lawful { IsLawful (desk_seen self.old).resources }
-        ensures limits { HasLimits self.new.shelf }
-        ensures post { self.new.post ≡ self.old.post }
-        ensures after { desk_seen self.new ≡ record (desk_seen self.old) { resources = model.start_frame frame (desk_seen self.old).resources } }
+        requires later { self.old.resources.frame ≤ frame }
+        requires most { frame ≤ 1073741823 }
+        requires taken { self.old.post ≡ [] }
+        ensures { self.new ≡ record self.old { resources = model.start_frame frame self.old.resources } }
     {
         self.shelf.start_frame(frame);
     }

@@ -3,10 +3,11 @@ ghost use Rattle.std.specs.Prelude.{◌≡◌, ◌≤◌, [], ◌∷◌, map, ta
 ghost use Rattle.gfx_model.specs.Words.{all_kinds};
 ghost use Rattle.gfx_model.specs.Views.{IsViewCount};
 ghost use Rattle.gfx_words.specs.Kinds.{kind_seen};
-ghost use Rattle.resource_book.specs.Desks.{desk_seen, destroy_bytes, IsDesk};
+ghost use Rattle.resource_book.specs.Works.{destroy_bytes};
 ghost use Rattle.resource_book.specs.Opened.{new_stack, opened};
 
-use crate::desk::Desk;
+use crate::book::Book;
+use crate::orders::Orders;
 use crate::shelf::Shelf;
 use crate::stacks::Stack;
 use crate::table::ThingTable;
@@ -79,13 +80,14 @@ pub fn post_buffer(alloc: Global) -> Result<CmdBuffer, AllocError>
     Ok(post)
 }
 
-impl Desk {
-    /// Nothing is made.
-    pub fn new(alloc: Global, start: Start) -> Result<Desk, AllocError>
+impl Book {
+    /// Nothing is made. Memory for the destroys of all things is taken here.
+    pub fn new(alloc: Global, start: Start) -> Result<Book, AllocError>
         requires views { IsViewCount start.views }
         requires frame { start.frame ≤ 1073741823 }
-        ensures seen { IfOk result (λ d. desk_seen d ≡ opened start) }
-        ensures kept { IfOk result IsDesk }
+        requires serial { 1 ≤ start.serial }
+        requires latency { (1 ≤ start.latency) × (start.latency ≤ 3) }
+        ensures { IfOk result (λ b. b ≡ opened start) }
     {
         let stacks = stacks(alloc)?;
         let table = ThingTable::new(alloc)?;
@@ -99,12 +101,11 @@ impl Desk {
             next_serial: start.serial as u64,
             views,
         };
-        Ok(Desk {
+        Ok(Book {
             alloc,
             shelf,
-            pre: CmdBuffer::new(alloc),
+            orders: Orders::new(alloc),
             post,
-            payloads: Vec::new(alloc),
         })
     }
 }

@@ -43,8 +43,8 @@ impl Stack {
     pub fn new(alloc: Global, max: u16) -> Result<Stack, AllocError>
         ensures { IfOk result (λ s. s ≡ record { limit = max; free = range_with_len 0 max; waiting = [] }) }
     {
-        let free = HandleAlloc::new(alloc, max)?;
         let waiting = Vec::with_capacity(alloc, max as usize)?;
+        let free = HandleAlloc::new(alloc, max)?;
         Ok(Stack { free, waiting })
     }
 

@@ -1,24 +1,29 @@
 // The create of textures.
-ghost use Rattle.std.specs.Prelude.{◌≡◌, ◌≤◌, ◌+◌, ◌*◌, ◌&&◌, nat_lt, List, [], Some, None, false};
 ghost use Rattle.gfx_model.specs.Number.{u32_at as u32_of};
+ghost use Rattle.gfx_model.specs.Resources as model;
 ghost use Rattle.gfx_model.specs.Vertex.{Color};
 ghost use Rattle.gfx_model.specs.Words.{texture_kind, texture_info};
 ghost use Rattle.gfx_model.specs.World.{texture_content};
-ghost use Rattle.gfx_model.specs.Resources as model;
 ghost use Rattle.gfx_words.specs.Kinds.{format_seen};
-ghost use Rattle.texture_store.specs.Seen.{own_source_seen};
 ghost use Rattle.resource_laws.specs.Bare.{bare_of};
+ghost use Rattle.resource_laws.specs.Laws.{Gives};
 ghost use Rattle.resource_laws.specs.Lawful.{IsLawful};
 ghost use Rattle.resource_book.specs.Answered.{Creates};
-ghost use Rattle.resource_book.specs.Desks.{desk_seen};
-ghost use Rattle.resource_book.specs.Shelves.{HasLimits};
+ghost use Rattle.resource_book.specs.Shelves.{resources_of, HasLimits};
 ghost use Rattle.resource_book.specs.Written.{flag_number};
+ghost use Rattle.std.specs.Prelude.{◌≡◌, ◌≤◌, ◌+◌, ◌*◌, ◌&&◌, nat_lt, List, [], Some, None, false, IfOk};
+ghost use Rattle.texture_store.specs.Seen.{own_source_seen};
 
-use crate::desk::Desk;
+use crate::book::Book;
+use crate::creates::reserve;
 use crate::rows::Fact;
+use crate::shelf::Shelf;
 use cmd_buffer::Command;
 use gfx_words::{Format, Handle, Info, Kind, Refusal};
 use texture_store::TexSource;
+
+// the longest side of a texture
+const MOST_SIDE: u16 = 2048;
 
 // how many texels all textures that live or wait can have
 const MOST_TEXELS: u64 = 33_554_432;
@@ -26,7 +31,7 @@ const MOST_TEXELS: u64 = 33_554_432;
 fn is_size(side: u16) -> bool
     ensures { result ≡ model.is_size side }
 {
-    side >= 1 && side <= 2048
+    side >= 1 && side <= MOST_SIDE
 }
 
 fn source_fits(width: u16, height: u16, source: &TexSource) -> bool
@@ -68,8 +73,41 @@ fn color_word(color: [u8; 4]) -> u32
     low + 65_536 * high
 }
 
-impl Desk {
-    /// Makes a texture.
+// Makes the thing of a texture; there is room.
+fn make_texture(
+    shelf: &mut Shelf,
+    width: u16,
+    height: u16,
+    format: Format,
+    blit_dst: bool,
+) -> Handle
+    requires limits { HasLimits shelf.old }
+    requires lawful { IsLawful (resources_of shelf.old) }
+    requires index { (model.lacks_index (resources_of shelf.old) texture_kind).0 ≡ false }
+    requires serial { (model.lacks_serial (resources_of shelf.old)).0 ≡ false }
+    requires room { 1 ≤ shelf.old.table.spare }
+    ensures limits { HasLimits shelf.new }
+    ensures made { Some result ≡ (model.make texture_kind (texture_info (format_seen format) blit_dst width height) (texture_content (format_seen format) (record { width = width; height = height; texels = [] })) (resources_of shelf.old)).made }
+    ensures after { (texels : List Color) → resources_of shelf.new ≡ bare_of (model.make texture_kind (texture_info (format_seen format) blit_dst width height) (texture_content (format_seen format) (record { width = width; height = height; texels = texels })) (resources_of shelf.old)).after }
+{
+    let info = Info::Texture {
+        format,
+        blit_dst,
+        width,
+        height,
+    };
+    let fact = Fact::Texture {
+        format,
+        width,
+        height,
+    };
+    shelf.make(Kind::Texture, info, fact, None)
+}
+
+impl Book {
+    /// Makes a texture. `BadSize` exactly where a side is not 1 to 2,048 or there are not four bytes a texel; then `Full`
+    /// (1,024); then `TexelsFull` exactly where all live and waiting textures and this one have more than 33,554,432 texels;
+    /// then `SerialsSpent`.
     pub fn create_texture(
         &mut self,
         width: u16,
@@ -78,11 +116,8 @@ impl Desk {
         blit_dst: bool,
         source: TexSource,
     ) -> Result<Handle, Refusal>
-        requires limits { HasLimits self.old.shelf }
-        requires lawful { IsLawful (desk_seen self.old).resources }
-        ensures limits { HasLimits self.new.shelf }
-        ensures post { self.new.post ≡ self.old.post }
-        ensures answer { Creates result (model.create_texture width height (format_seen format) blit_dst (own_source_seen source)) (desk_seen self.old) (desk_seen self.new) }
+        ensures answer { Creates result (model.create_texture width height (format_seen format) blit_dst (own_source_seen source)) self.old self.new }
+        ensures free { IfOk result (λ h. Gives self.old.resources (model.create_texture width height (format_seen format) blit_dst (own_source_seen source)) h) }
     {
         if !is_texture(width, height, &source) {
             return Err(Refusal::BadSize);
@@ -102,33 +137,6 @@ impl Desk {
         }
     }
 
-    fn make_texture(&mut self, width: u16, height: u16, format: Format, blit_dst: bool) -> Handle
-        requires limits { HasLimits self.old.shelf }
-        requires lawful { IsLawful (desk_seen self.old).resources }
-        requires index { (model.lacks_index (desk_seen self.old).resources texture_kind).0 ≡ false }
-        requires serial { (model.lacks_serial (desk_seen self.old).resources).0 ≡ false }
-        requires room { 1 ≤ self.old.shelf.table.spare }
-        ensures limits { HasLimits self.new.shelf }
-        ensures made { Some result ≡ (model.make texture_kind (texture_info (format_seen format) blit_dst width height) (texture_content (format_seen format) (record { width = width; height = height; texels = [] })) (desk_seen self.old).resources).made }
-        ensures after { (texels : List Color) → desk_seen self.new ≡ record (desk_seen self.old) { resources = bare_of (model.make texture_kind (texture_info (format_seen format) blit_dst width height) (texture_content (format_seen format) (record { width = width; height = height; texels = texels })) (desk_seen self.old).resources).after } }
-        ensures pre { self.new.pre ≡ self.old.pre }
-        ensures post { self.new.post ≡ self.old.post }
-        ensures payloads { self.new.payloads ≡ self.old.payloads }
-    {
-        let info = Info::Texture {
-            format,
-            blit_dst,
-            width,
-            height,
-        };
-        let fact = Fact::Texture {
-            format,
-            width,
-            height,
-        };
-        self.make(Kind::Texture, info, fact, None)
-    }
-
     fn new_filled(
         &mut self,
         width: u16,
@@ -137,18 +145,14 @@ impl Desk {
         blit_dst: bool,
         color: [u8; 4],
     ) -> Result<Handle, Refusal>
-        requires limits { HasLimits self.old.shelf }
-        requires lawful { IsLawful (desk_seen self.old).resources }
-        requires index { (model.lacks_index (desk_seen self.old).resources texture_kind).0 ≡ false }
-        requires serial { (model.lacks_serial (desk_seen self.old).resources).0 ≡ false }
-        requires passes { model.refusal_of (desk_seen self.old).resources (model.create_texture width height (format_seen format) blit_dst (model.fill_source color)) ≡ None }
-        ensures limits { HasLimits self.new.shelf }
-        ensures post { self.new.post ≡ self.old.post }
-        ensures answer { Creates result (model.create_texture width height (format_seen format) blit_dst (model.fill_source color)) (desk_seen self.old) (desk_seen self.new) }
+        requires index { (model.lacks_index self.old.resources texture_kind).0 ≡ false }
+        requires serial { (model.lacks_serial self.old.resources).0 ≡ false }
+        requires passes { model.refusal_of self.old.resources (model.create_texture width height (format_seen format) blit_dst (model.fill_source color)) ≡ None }
+        ensures { Creates result (model.create_texture width height (format_seen format) blit_dst (model.fill_source color)) self.old self.new }
     {
-        self.reserve(14)?;
-        let handle = self.make_texture(width, height, format, blit_dst);
-        self.write(Command::CreateTexture {
+        reserve(&mut self.shelf, &mut self.orders, 14)?;
+        let handle = make_texture(&mut self.shelf, width, height, format, blit_dst);
+        self.orders.write(Command::CreateTexture {
             index: handle.index(),
             width,
             height,
@@ -168,20 +172,16 @@ impl Desk {
         blit_dst: bool,
         bytes: Vec<u8>,
     ) -> Result<Handle, Refusal>
-        requires limits { HasLimits self.old.shelf }
-        requires lawful { IsLawful (desk_seen self.old).resources }
-        requires index { (model.lacks_index (desk_seen self.old).resources texture_kind).0 ≡ false }
-        requires serial { (model.lacks_serial (desk_seen self.old).resources).0 ≡ false }
-        requires passes { model.refusal_of (desk_seen self.old).resources (model.create_texture width height (format_seen format) blit_dst (model.bytes_source bytes.items)) ≡ None }
-        ensures limits { HasLimits self.new.shelf }
-        ensures post { self.new.post ≡ self.old.post }
-        ensures answer { Creates result (model.create_texture width height (format_seen format) blit_dst (model.bytes_source bytes.items)) (desk_seen self.old) (desk_seen self.new) }
+        requires index { (model.lacks_index self.old.resources texture_kind).0 ≡ false }
+        requires serial { (model.lacks_serial self.old.resources).0 ≡ false }
+        requires passes { model.refusal_of self.old.resources (model.create_texture width height (format_seen format) blit_dst (model.bytes_source bytes.items)) ≡ None }
+        ensures { Creates result (model.create_texture width height (format_seen format) blit_dst (model.bytes_source bytes.items)) self.old self.new }
     {
-        self.reserve(14)?;
-        let payload = self.payloads.len() as u32;
-        let handle = self.make_texture(width, height, format, blit_dst);
+        reserve(&mut self.shelf, &mut self.orders, 14)?;
+        let payload = self.orders.next_payload();
+        let handle = make_texture(&mut self.shelf, width, height, format, blit_dst);
         let index = handle.index();
-        self.send(
+        self.orders.send(
             Command::CreateTexture {
                 index,
                 width,

@@ -1,13 +1,11 @@
 // The updates.
-ghost use Rattle.std.specs.Prelude.{◌≡◌};
-ghost use Rattle.gfx_words.specs.Kinds.{info_seen};
 ghost use Rattle.fix_math.specs.Seen.{rect_seen};
 ghost use Rattle.gfx_model.specs.Resources as model;
+ghost use Rattle.gfx_words.specs.Kinds.{info_seen};
 ghost use Rattle.resource_book.specs.Answered.{Updates};
-ghost use Rattle.resource_book.specs.Desks.{desk_seen};
-ghost use Rattle.resource_book.specs.Shelves.{HasLimits};
+ghost use Rattle.std.specs.Prelude.{◌≡◌};
 
-use crate::desk::Desk;
+use crate::book::Book;
 use crate::find::bytes_at;
 use cmd_buffer::Command;
 use fix_math::Rect;
@@ -36,18 +34,15 @@ fn passes_side(rect: Rect, info: Info) -> bool
     }
 }
 
-impl Desk {
-    /// Changes bytes of a vertex or index buffer.
+impl Book {
+    /// Changes bytes of a vertex or index buffer. `WrongKind`, `Stale`, then `BadRange` exactly where the bytes pass its end.
     pub fn update_buffer(
         &mut self,
         buffer: Handle,
         offset: u32,
         bytes: &[u8],
     ) -> Result<(), Refusal>
-        requires { HasLimits self.old.shelf }
-        ensures limits { HasLimits self.new.shelf }
-        ensures post { self.new.post ≡ self.old.post }
-        ensures answer { Updates result (model.update_buffer buffer offset bytes.now) (desk_seen self.old) (desk_seen self.new) }
+        ensures { Updates result (model.update_buffer buffer offset bytes.now) self.old self.new }
     {
         if !is_buffer(buffer) {
             return Err(Refusal::WrongKind);
@@ -56,15 +51,15 @@ impl Desk {
         if offset as u64 + bytes.len() as u64 > bytes_at(&self.shelf.table, buffer) as u64 {
             return Err(Refusal::BadRange);
         }
-        self.reserve(12)?;
         let Ok(sent) = bytes.to_vec(self.alloc) else {
             return Err(Refusal::OutOfMemory)
         };
+        self.orders.reserve(12)?;
         self.shelf.table.facts();
-        let payload = self.payloads.len() as u32;
+        let payload = self.orders.next_payload();
         let kind = buffer.kind().number();
         let index = buffer.index();
-        self.send(
+        self.orders.send(
             Command::UpdateBuffer {
                 kind,
                 index,
@@ -76,17 +71,14 @@ impl Desk {
         Ok(())
     }
 
-    /// Changes texels of a texture.
+    /// Changes texels of a texture. `WrongKind`, `Stale`, then `BadRange` exactly where the rectangle passes a side, then `BadSize` exactly where there are not four bytes a texel.
     pub fn update_texture(
         &mut self,
         texture: Handle,
         rect: Rect,
         bytes: &[u8],
     ) -> Result<(), Refusal>
-        requires { HasLimits self.old.shelf }
-        ensures limits { HasLimits self.new.shelf }
-        ensures post { self.new.post ≡ self.old.post }
-        ensures answer { Updates result (model.update_texture texture (rect_seen rect) bytes.now) (desk_seen self.old) (desk_seen self.new) }
+        ensures { Updates result (model.update_texture texture (rect_seen rect) bytes.now) self.old self.new }
     {
         if !texture.kind().is(Kind::Texture) {
             return Err(Refusal::WrongKind);
@@ -98,14 +90,14 @@ impl Desk {
         if bytes.len() as u64 != 4 * (rect.w as u64 * rect.h as u64) {
             return Err(Refusal::BadSize);
         }
-        self.reserve(15)?;
         let Ok(sent) = bytes.to_vec(self.alloc) else {
             return Err(Refusal::OutOfMemory)
         };
+        self.orders.reserve(15)?;
         self.shelf.table.facts();
-        let payload = self.payloads.len() as u32;
+        let payload = self.orders.next_payload();
         let index = texture.index();
-        self.send(
+        self.orders.send(
             Command::UpdateTexture {
                 index,
                 x: rect.x,

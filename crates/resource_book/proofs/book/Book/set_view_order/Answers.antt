@@ -1,6 +1,13 @@
-use Rattle.gfx_model.specs.Resources.{set_view_order}
-use Rattle.resource_book.proofs.Kept.{changed_kept}
+use Rattle.std.proofs.Common.{refl}
+use Rattle.gfx_model.specs.Resources.{effect, set_view_order}
+use Rattle.resource_book.specs.Shelves.{resources_of}
+use Rattle.resource_book.proofs.Changes.{view_answered}
+use Rattle.resource_book.proofs.Kept.{views_kept}
 use Rattle.resource_book.proofs.book.Book.set_view_order.Goals as goal
 
 pub invariant_of-self : goal.invariant_of-self
-invariant_of-self c = changed_kept c.set_view_order.result (set_view_order c.args.ids.now) c.self.inside.desk c.set_view_order.new.self c.self.invariant c.set_view_order.ensures.answer c.set_view_order.ensures.shelf c.set_view_order.ensures.post
+invariant_of-self c = views_kept c.self.inside c.set_order.new.self c.self.invariant
+
+pub returns : goal.returns
+returns c =
+    view_answered c.self.inside c.args.self.now c.self.view_is c.set_order.result (set_view_order c.args.ids.now) c.set_order.new.self (effect (resources_of c.self.inside.shelf) (set_view_order c.args.ids.now)).after.views c.facts.ensures.bare c.set_order.ensures refl refl

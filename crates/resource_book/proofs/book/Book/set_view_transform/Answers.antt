@@ -1,7 +1,14 @@
+use Rattle.std.proofs.Common.{refl}
 use Rattle.fix_math.specs.Seen.{affine_seen}
-use Rattle.gfx_model.specs.Resources.{set_view_transform}
-use Rattle.resource_book.proofs.Kept.{changed_kept}
+use Rattle.gfx_model.specs.Resources.{effect, set_view_transform}
+use Rattle.resource_book.specs.Shelves.{resources_of}
+use Rattle.resource_book.proofs.Changes.{view_answered}
+use Rattle.resource_book.proofs.Kept.{views_kept}
 use Rattle.resource_book.proofs.book.Book.set_view_transform.Goals as goal
 
 pub invariant_of-self : goal.invariant_of-self
-invariant_of-self c = changed_kept c.set_view_transform.result (set_view_transform c.args.view (affine_seen c.args.t)) c.self.inside.desk c.set_view_transform.new.self c.self.invariant c.set_view_transform.ensures.answer c.set_view_transform.ensures.shelf c.set_view_transform.ensures.post
+invariant_of-self c = views_kept c.self.inside c.set_transform.new.self c.self.invariant
+
+pub returns : goal.returns
+returns c =
+    view_answered c.self.inside c.args.self.now c.self.view_is c.set_transform.result (set_view_transform c.args.view (affine_seen c.args.t)) c.set_transform.new.self (effect (resources_of c.self.inside.shelf) (set_view_transform c.args.view (affine_seen c.args.t))).after.views c.facts.ensures.bare c.set_transform.ensures refl refl

@@ -1,0 +1,11 @@
+use Rattle.std.proofs.Common.{rules, refl}
+use Rattle.gfx_model.specs.Resources.{create_uniform}
+use Rattle.gfx_words.specs.Kinds.{uniform_seen}
+use Rattle.resource_book.proofs.Kept.{created_kept}
+use Rattle.resource_book.proofs.book.Book.new_uniform.Goals as goal
+
+pub returns : goal.returns
+returns c = search rules
+
+pub invariant_of-self-2 : goal.invariant_of-self-2
+invariant_of-self-2 c = created_kept c.self.inside _ c.args.self.now (create_uniform c.args.name.now (uniform_seen c.args.kind)) c.make-handle.result c.self.invariant c.self.view_is (returns c) c.make-handle.ensures.limits refl
