@@ -9,6 +9,7 @@ ghost use Rattle.tri_cover.specs.Shown.{setup_seen};
 ghost use Rattle.int_raster.specs.Seen.{paint_seen};
 ghost use Rattle.int_raster.specs.Painted.{place_at, shade_at, depth_at, painter_color, AreSamePlaces, bytes_of, Paints, HasDepths, HasWideDepths, IsOpaque};
 
+use crate::lanes::word_of;
 use crate::lists::{Paint, Prepared};
 use fix_math::Texels;
 use gfx_words::StateWord;
@@ -143,15 +144,11 @@ fn has_one_color(setup: &Setup) -> bool
     ensures blue { IsTrue result → (slice_index setup.now.b.color 2 ≡ slice_index setup.now.a.color 2) × (slice_index setup.now.c.color 2 ≡ slice_index setup.now.a.color 2) }
     ensures alpha { IsTrue result → (slice_index setup.now.b.color 3 ≡ slice_index setup.now.a.color 3) × (slice_index setup.now.c.color 3 ≡ slice_index setup.now.a.color 3) }
 {
-    let (a, b, c) = (&setup.a.color, &setup.b.color, &setup.c.color);
-    b[0] == a[0]
-        && c[0] == a[0]
-        && b[1] == a[1]
-        && c[1] == a[1]
-        && b[2] == a[2]
-        && c[2] == a[2]
-        && b[3] == a[3]
-        && c[3] == a[3]
+    let color = word_of(setup.a.color);
+    if word_of(setup.b.color) != color {
+        return false;
+    }
+    word_of(setup.c.color) == color
 }
 
 /// The colour of a triangle that is painted in one.

@@ -60,13 +60,12 @@ fn all_touch(spans: &[(u16, u16)], others: &[(u16, u16)], count: u16) -> bool
     requires other_room { count ≤ length others.now }
     ensures { IsTrue result → TouchAll spans.now others.now count }
 {
+    let mut all = true;
     for k in 0..count {
         let (a, b) = (columns_of(spans, k), columns_of(others, k));
-        if !touch(a, b) {
-            return false;
-        }
+        all = all & touch(a, b);
     }
-    true
+    all
 }
 
 /// Joins the columns of rows to others that touch them.

@@ -160,7 +160,7 @@ fn store_four(colors: &mut [[u8; 4]], depths: &mut [[u8; 4]], at: usize, left: u
     store_depth(depths, at, words, left, tile);
 }
 
-/// Stores a tile in a span behind which there are three more places.
+/// Stores a tile in a span behind which there are three more places: in whole windows, and in one that may run past its end.
 #[inline(always)]
 fn store_tile(
     colors: &mut [[u8; 4]],
@@ -178,10 +178,14 @@ fn store_tile(
     ensures { deep_pixels colors.new depths.new ≡ map_from (spanned (in_row span.now.start span.now.y (step_seen draw.now setup.now)) (span.now.start + span.now.first) (span.now.start + span.now.after)) 0 (deep_pixels colors.old depths.old) }
 {
     let after = span.after as u32;
+    let last = after.saturating_sub(3);
     let mut x = span.first as u32;
-    while x < after {
-        store_four(colors, depths, span.start + x as usize, after - x, tile);
+    while x < last {
+        store_four(colors, depths, span.start + x as usize, 4, tile);
         x += 4;
+    }
+    if x < after {
+        store_four(colors, depths, span.start + x as usize, after - x, tile);
     }
 }
 

@@ -157,73 +157,61 @@ fn stays(z: i64, d: i64, count: u16) -> bool
     z >= 0 && z + d * (count as i64 - 1) >= 0
 }
 
-/// The bounds with one more to the right, where there is room.
+/// Puts one bound more to the right, where there is room: whether there is.
 #[inline(always)]
-fn with_right(bounds: &Bounds, bound: Bound) -> Option<Bounds>
-    requires tame { AreTame bounds.now }
+fn put_right(bounds: &mut Bounds, bound: Bound) -> bool
+    requires tame { AreTame bounds.old }
     requires more { IsTame bound }
-    ensures tame { IfSome result (λ r. AreTame r) }
-    ensures columns { IfSome result (λ r. (k x : ℕ) → x < 65536 → is_let r k x ≡ (is_let bounds.now k x && is_not_behind (bound_at bound k) x)) }
+    ensures tame { AreTame bounds.new }
+    ensures columns { IsTrue result → (k x : ℕ) → x < 65536 → is_let bounds.new k x ≡ (is_let bounds.old k x && is_not_behind (bound_at bound k) x) }
 {
-    if is_free(&bounds.other_right) {
-        Some(Bounds {
-            left: bounds.left,
-            other_left: bounds.other_left,
-            right: bound,
-            other_right: bounds.right,
-        })
-    } else {
-        None
+    if !is_free(&bounds.other_right) {
+        return false;
     }
+    bounds.other_right = bounds.right;
+    bounds.right = bound;
+    true
 }
 
-/// The bounds with one more to the left, where there is room.
+/// Puts one bound more to the left, where there is room: whether there is.
 #[inline(always)]
-fn with_left(bounds: &Bounds, bound: Bound) -> Option<Bounds>
-    requires tame { AreTame bounds.now }
+fn put_left(bounds: &mut Bounds, bound: Bound) -> bool
+    requires tame { AreTame bounds.old }
     requires more { IsTame bound }
-    ensures tame { IfSome result (λ r. AreTame r) }
-    ensures columns { IfSome result (λ r. (k x : ℕ) → x < 65536 → is_let r k x ≡ (is_let bounds.now k x && is_not_before (bound_at bound k) x)) }
+    ensures tame { AreTame bounds.new }
+    ensures columns { IsTrue result → (k x : ℕ) → x < 65536 → is_let bounds.new k x ≡ (is_let bounds.old k x && is_not_before (bound_at bound k) x) }
 {
-    if is_free(&bounds.other_left) {
-        Some(Bounds {
-            left: bound,
-            other_left: bounds.left,
-            right: bounds.right,
-            other_right: bounds.other_right,
-        })
-    } else {
-        None
+    if !is_free(&bounds.other_left) {
+        return false;
     }
+    bounds.other_left = bounds.left;
+    bounds.left = bound;
+    true
 }
 
-/// The bounds with an edge as one more in so many rows from a row on, where its numbers are not too large. A level edge takes
-/// no bound: it must be right in all of them.
+/// Puts an edge as one bound more in so many rows from a row on, where its numbers are not too large and there is room: whether it does.
+/// A level edge takes no bound: it must be right in all of them.
 #[inline(always)]
-pub(crate) fn with_edge(bounds: &Bounds, edge: &Edge, row: u16, count: u16) -> Option<Bounds>
+pub(crate) fn put_edge(bounds: &mut Bounds, edge: &Edge, row: u16, count: u16) -> bool
     requires near { IsNear edge.now }
     requires few { count ≤ 32 }
-    requires tame { AreTame bounds.now }
-    ensures tame { IfSome result (λ r. AreTame r) }
-    ensures columns { IfSome result (λ r. (k x : ℕ) → k < count → x < 65536 → is_let r k x ≡ (is_let bounds.now k x && is_on_side edge.now (row + k) x)) }
+    requires tame { AreTame bounds.old }
+    ensures tame { AreTame bounds.new }
+    ensures columns { IsTrue result → (k x : ℕ) → k < count → x < 65536 → is_let bounds.new k x ≡ (is_let bounds.old k x && is_on_side edge.now (row + k) x) }
 {
     let z = lowered(edge, row);
     let n = edge.fall.unsigned_abs();
     if z.unsigned_abs() > 1 << 33 || n > 1 << 20 {
-        return None;
+        return false;
     }
     if n == 0 {
-        return if stays(z, edge.rise, count) {
-            Some(*bounds)
-        } else {
-            None
-        };
+        return stays(z, edge.rise, count);
     }
     let bound = bound_by(z, edge.rise, n);
     if edge.fall > 0 {
-        with_right(bounds, bound)
+        put_right(bounds, bound)
     } else {
-        with_left(bounds, bound)
+        put_left(bounds, bound)
     }
 }
 

@@ -7,7 +7,7 @@ ghost use Rattle.tri_cover.specs.Stepped.{AreSteps, IsNearby};
 ghost use Rattle.tri_cover.specs.Seen.{screen_seen, triangle_seen, IsEdge, IsNear, fragment_seen};
 
 use crate::averages::{Weights, mean_channel, mean_depth, mean_place};
-use crate::bounds::{Bounds, cuts, no_bounds, with_edge};
+use crate::bounds::{Bounds, cuts, no_bounds, put_edge};
 use crate::corners::{Fragment, ScreenVertex};
 use crate::edges::{Edge, edge_between, gained_by_row};
 use crate::inverses::Inverse;
@@ -396,9 +396,16 @@ impl Setup {
         ensures tame { IfSome result (λ b. AreTame b) }
         ensures columns { IfSome result (λ b. (k x : ℕ) → k < count → x < 65536 → is_let b k x ≡ covers (triangle_seen self.now.a self.now.b self.now.c) x (row + k)) }
     {
-        let bounds = with_edge(&no_bounds(), &self.ab, row, count)?;
-        let bounds = with_edge(&bounds, &self.bc, row, count)?;
-        let bounds = with_edge(&bounds, &self.ca, row, count)?;
+        let mut bounds = no_bounds();
+        if !put_edge(&mut bounds, &self.ab, row, count) {
+            return None;
+        }
+        if !put_edge(&mut bounds, &self.bc, row, count) {
+            return None;
+        }
+        if !put_edge(&mut bounds, &self.ca, row, count) {
+            return None;
+        }
         Some(bounds)
     }
 

@@ -1,6 +1,6 @@
 -- Missing vertices at the end of a draw have no triangle.
 use Rattle.std.proofs.Common.{◌≡◌, ℕ, zero, suc, ◌+◌, ◌*◌, ◌-◌, ◌≤◌, Bool, true, false, not, List, [], ◌∷◌, ◌++◌, length, map, Option, Some, None, refl, sym, ap, ◌∙◌, arith}
-use Rattle.std.specs.Prelude.{replicate, is_some, nat_le, ◌==◌, if◌then◌else◌}
+use Rattle.std.specs.Prelude.{replicate, nat_le, ◌==◌, if◌then◌else◌}
 use Rattle.std.specs.List.{cons_option, range_with_len}
 use Rattle.std.proofs.lemmas.List.{append-nil, append_assoc, map-append, replicate_more}
 use Rattle.std.proofs.lemmas.List.FromFn.{map-range_with_len_more}
@@ -116,7 +116,3 @@ no_index_after v bytes i none j le = ap (indexed_vertex v) (go (nat_le (2 * i + 
     go false e =
         let past : nat_le (2 * j + 2) (length bytes) ≡ false = grind (arith, nat_tests, le, e) in
         rw past refl
-
-pub none_of : {A : Type 0} (o : Option A) → is_some o ≡ false → o ≡ None
-none_of None e = refl
-none_of (Some a) e = absurd cc

@@ -1,6 +1,6 @@
 // The vertices and indices that a draw reads.
 ghost use Rattle.std.specs.Prelude.{◌≡◌, ◌≤◌, ◌+◌, ◌/◌, [], length, option_map, unwrap_or};
-ghost use Rattle.gfx_model.specs.Vertex.{fetch, index_at, indexed_vertex as indexed_vertex_of};
+ghost use Rattle.gfx_model.specs.Vertex.{fetch, index_at};
 ghost use Rattle.vertex_layout.specs.Seen.{vertex_seen};
 ghost use Rattle.store_model.specs.Slots.{at};
 ghost use Rattle.store_laws.specs.ByIndex.{vertices_at, indices_at, stored_at, transient_by};
@@ -182,15 +182,4 @@ pub(crate) fn index_in(bytes: &[u8], first: u32, number: u32) -> Option<u32>
         return None;
     }
     Some(bytes[at] as u32 + 256 * bytes[at + 1] as u32)
-}
-
-/// The vertex that an index stands for. None where it is not there or not below the range's count.
-pub(crate) fn vertex_by(range: &VertexRange<'_>, index: Option<u32>) -> Option<Vertex>
-    ensures { option_map vertex_seen result ≡ indexed_vertex_of (vertex_range_seen range.now) index }
-{
-    let index = index?;
-    if index >= range.count {
-        return None;
-    }
-    vertex_of(range, index)
 }

@@ -1,7 +1,7 @@
 // The triangles of a draw on its target.
-ghost use Rattle.std.specs.Prelude.{◌≡◌, ◌++◌, [], Option, Some, None, false, map, option_map, IsTrue, OnOk};
+ghost use Rattle.std.specs.Prelude.{◌≡◌, ◌++◌, ◌∷◌, ◌+◌, [], Option, Some, None, true, false, map, option_map, IsTrue, IfOk, OnOk};
 ghost use Rattle.std.specs.List.{cons_option};
-ghost use Rattle.gfx_model.specs.Vertex.{vertices_of, triangles_of as triangles_of_vertices, listed_triangles, strip_triangles as strip_triangles_of};
+ghost use Rattle.gfx_model.specs.Vertex.{fetch, indexed_vertex, vertices_of, triangles_of as triangles_of_vertices, listed_triangles, strip_triangles as strip_triangles_of};
 ghost use Rattle.gfx_model.specs.Raster.{identity, ScreenVertex as ScreenSeen};
 ghost use Rattle.fix_math.specs.Seen.{affine_seen};
 ghost use Rattle.vertex_layout.specs.Seen.{vertex_seen};
@@ -11,7 +11,7 @@ ghost use Rattle.view_drawing.specs.Ranges.{vertex_range_seen, index_range_seen}
 ghost use Rattle.view_drawing.specs.Shapes.{placed_by, kept, kept_of, turned, IsFrontOf};
 ghost use Rattle.view_drawing.specs.Still.{IsStill};
 
-use crate::ranges::{IndexRange, VertexRange, index_in, vertex_by, vertex_of};
+use crate::ranges::{IndexRange, VertexRange, index_in, vertex_of};
 use fix_math::{Affine, Rect};
 use std::alloc::AllocError;
 use tri_cover::{ScreenVertex, Setup, place, place_still};
@@ -58,6 +58,48 @@ fn placed_vertex(placement: &Placement, still: bool, vertex: Option<Vertex>) -> 
     }
 }
 
+/// Puts the vertex of a number on the target, behind others, where its bytes are there: whether they are.
+fn push_vertex(
+    placed: &mut Vec<Option<ScreenVertex>>,
+    placement: &Placement,
+    still: bool,
+    vertices: &VertexRange<'_>,
+    number: u32,
+) -> Result<bool, AllocError>
+    requires still { IsTrue still → IsStill placement.now }
+    ensures there { IfOk result (λ b. b ≡ true → map (option_map screen_seen) placed.new.items ≡ map (option_map screen_seen) placed.old.items ++ placed_by placement.now (fetch vertices.now.layout.now vertices.now.bytes.now (vertices.now.first + number)) ∷ []) }
+    ensures none { IfOk result (λ b. b ≡ false → (placed.new.items ≡ placed.old.items) × (fetch vertices.now.layout.now vertices.now.bytes.now (vertices.now.first + number) ≡ None)) }
+{
+    let vertex = vertex_of(vertices, number);
+    if vertex.is_none() {
+        return Ok(false);
+    }
+    placed.push(placed_vertex(placement, still, vertex))?;
+    Ok(true)
+}
+
+/// The same of an index. A vertex that is not there or not below the range's count is missing.
+fn push_indexed(
+    placed: &mut Vec<Option<ScreenVertex>>,
+    placement: &Placement,
+    still: bool,
+    vertices: &VertexRange<'_>,
+    index: u32,
+) -> Result<(), AllocError>
+    requires still { IsTrue still → IsStill placement.now }
+    ensures { OnOk result (map (option_map screen_seen) placed.new.items ≡ map (option_map screen_seen) placed.old.items ++ placed_by placement.now (indexed_vertex (vertex_range_seen vertices.now) (Some index)) ∷ []) }
+{
+    if index >= vertices.count {
+        placed.push(None)?;
+        return Ok(());
+    }
+    if push_vertex(placed, placement, still, vertices, index)? {
+        return Ok(());
+    }
+    placed.push(None)?;
+    Ok(())
+}
+
 fn place_plain(
     placed: &mut Vec<Option<ScreenVertex>>,
     placement: &Placement,
@@ -69,11 +111,9 @@ fn place_plain(
     ensures { OnOk result (IsFrontOf (map (option_map screen_seen) placed.new.items) (map (placed_by placement.now) (vertices_of (vertex_range_seen vertices.now) None))) }
 {
     for number in 0..vertices.count {
-        let vertex = vertex_of(vertices, number);
-        if vertex.is_none() {
+        if !push_vertex(placed, placement, still, vertices, number)? {
             return Ok(());
         }
-        placed.push(placed_vertex(placement, still, vertex))?;
     }
     Ok(())
 }
@@ -90,11 +130,10 @@ fn place_indexed(
     ensures { OnOk result (IsFrontOf (map (option_map screen_seen) placed.new.items) (map (placed_by placement.now) (vertices_of (vertex_range_seen vertices.now) (Some (index_range_seen indices.now))))) }
 {
     for number in 0..indices.count {
-        let index = index_in(indices.bytes, indices.first, number);
-        if index.is_none() {
-            return Ok(());
+        match index_in(indices.bytes, indices.first, number) {
+            Some(index) => push_indexed(placed, placement, still, vertices, index)?,
+            None => return Ok(()),
         }
-        placed.push(placed_vertex(placement, still, vertex_by(vertices, index)))?;
     }
     Ok(())
 }
@@ -125,15 +164,15 @@ pub(crate) fn place_vertices(
 /// One triangle more, if its corners are placed and it is kept.
 fn push_triangle(
     triangles: &mut Vec<Setup>,
-    a: Option<ScreenVertex>,
-    b: Option<ScreenVertex>,
-    c: Option<ScreenVertex>,
+    a: &Option<ScreenVertex>,
+    b: &Option<ScreenVertex>,
+    c: &Option<ScreenVertex>,
     cull: u8,
 ) -> Result<(), AllocError>
-    ensures { OnOk result (map setup_seen triangles.new.items ≡ map setup_seen triangles.old.items ++ cons_option (kept cull (record { a = option_map screen_seen a; b = option_map screen_seen b; c = option_map screen_seen c })) []) }
+    ensures { OnOk result (map setup_seen triangles.new.items ≡ map setup_seen triangles.old.items ++ cons_option (kept cull (record { a = option_map screen_seen a.now; b = option_map screen_seen b.now; c = option_map screen_seen c.now })) []) }
 {
     if let (Some(a), Some(b), Some(c)) = (a, b, c) {
-        if let Some(setup) = Setup::new(a, b, c, cull) {
+        if let Some(setup) = Setup::new(*a, *b, *c, cull) {
             triangles.push(setup)?;
         }
     }
@@ -151,19 +190,19 @@ fn list_triangles(
 {
     let mut rest = vertices;
     while let [a, b, c, after @ ..] = rest {
-        push_triangle(triangles, *a, *b, *c, cull)?;
+        push_triangle(triangles, a, b, c, cull)?;
         rest = after;
     }
     Ok(())
 }
 
 /// The first two corners of a triangle of a strip; in every second one they change places.
-fn turned_pair(
+fn turned_pair<'x>(
     odd: bool,
-    a: Option<ScreenVertex>,
-    b: Option<ScreenVertex>,
-) -> (Option<ScreenVertex>, Option<ScreenVertex>)
-    ensures { (c : Option ScreenSeen) → record { a = option_map screen_seen result.0; b = option_map screen_seen result.1; c = c } ≡ turned odd (option_map screen_seen a) (option_map screen_seen b) c }
+    a: &'x Option<ScreenVertex>,
+    b: &'x Option<ScreenVertex>,
+) -> (&'x Option<ScreenVertex>, &'x Option<ScreenVertex>)
+    ensures { (c : Option ScreenSeen) → record { a = option_map screen_seen result.0.now; b = option_map screen_seen result.1.now; c = c } ≡ turned odd (option_map screen_seen a.now) (option_map screen_seen b.now) c }
 {
     if odd { (b, a) } else { (a, b) }
 }
@@ -180,8 +219,8 @@ fn strip_triangles(
     let mut odd = false;
     let mut rest = vertices;
     while let [a, b, c, ..] = rest {
-        let (first, second) = turned_pair(odd, *a, *b);
-        push_triangle(triangles, first, second, *c, cull)?;
+        let (first, second) = turned_pair(odd, a, b);
+        push_triangle(triangles, first, second, c, cull)?;
         odd = !odd;
         rest = &rest[1..];
     }
