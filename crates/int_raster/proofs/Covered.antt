@@ -11,8 +11,7 @@ use Rattle.tri_cover.specs.declared.triangles.Setup.{Setup}
 use Rattle.int_raster.specs.Covered.{CoverRows}
 use Rattle.int_raster.specs.Places.{below, by_place}
 use Rattle.int_raster.specs.Drawing.{PreparedDraw, facing_shown, facing_step, prepared_step, covered_step}
-use Rattle.int_raster.specs.Seen.{prepared_seen, paint_seen}
-use Rattle.int_raster.specs.declared.lists.Prepared.{Prepared}
+use Rattle.int_raster.specs.Repainted.{painted_as}
 use Rattle.int_raster.specs.declared.listed.Listed.{Listed}
 use Rattle.int_raster.specs.Listing.{own_triangles, listed_seen}
 use Rattle.int_raster.proofs.Changes.{map_from-none}
@@ -56,13 +55,6 @@ facings_none state paint front back x y q (t ∷ ts) h =
     ap (λ r. fold (facing_step state paint x y) r (map (facing_shown front back) (map setup_seen ts))) step
     ∙ facings_none state paint front back x y q ts (λ i s b. h (suc i) s (omega (arith, b)))
 
--- and so does their draw
-pub draw_none : (d : Prepared) (ts : List Setup) (x y : ℕ) (q : Pixel) → ((i : ℕ) (s : Setup) → i < length ts → covers (setup_seen (slice_index_or ts i s)).triangle x y ≡ true → ⊥) →
-    prepared_step (prepared_seen d (map setup_seen ts)) x y q ≡ q
-draw_none d ts x y q h =
-    in_either (contains (rect_seen d.cut) x y) (fold (facing_step d.state (paint_seen d.paint) x y) q (map (facing_shown d.front d.back) (map setup_seen ts))) q
-    (facings_none d.state (paint_seen d.paint) d.front d.back x y q ts h)
-
 -- a draw of nothing, for places behind a list's end
 abbrev pub no_draw : PreparedDraw
 no_draw = record { cut = record { x = 0; y = 0; w = 0; h = 0 }; state = 0; paint = paint_solid []; facings = [] }
@@ -74,9 +66,10 @@ band_none d w top count ps pw l h =
     sym (map_from-none (by_place w (below top (prepared_step d))) 0 ps
     (λ k p b. h ((0 + k) % w) ((0 + k) / w) p (div_below (0 + k) w count pw (omega (arith, b, l)))))
 
--- a listed draw changes no row but its own
-pub listed_none : (l : Listed) (ts : List Setup) (x y : ℕ) (q : Pixel) → CoverRows l.top l.bottom (length (own_triangles ts l)) (own_triangles ts l) → y < 65535 → (l.top ≤ y → y < l.bottom → ⊥) →
-    prepared_step (listed_seen ts l) x y q ≡ q
-listed_none l ts x y q held low out =
-    draw_none (record { cut = l.cut; state = l.state; front = l.front; back = l.back; paint = l.paint }) (own_triangles ts l) x y q
-    (λ i s b h. let r = held i x y s b low h in out r.0 r.1)
+-- a listed draw changes no row but its own, whatever it paints with
+pub listed_none : (l : Listed) (ts : List Setup) (paint : Paint) (x y : ℕ) (q : Pixel) → CoverRows l.top l.bottom (length (own_triangles ts l)) (own_triangles ts l) → y < 65535 → (l.top ≤ y → y < l.bottom → ⊥) →
+    prepared_step (painted_as (listed_seen ts l) paint) x y q ≡ q
+listed_none l ts paint x y q held low out =
+    in_either (contains (rect_seen l.cut) x y) (fold (facing_step l.state paint x y) q (map (facing_shown l.front l.back) (map setup_seen (own_triangles ts l)))) q
+    (facings_none l.state paint l.front l.back x y q (own_triangles ts l)
+    (λ i s b h. let r = held i x y s b low h in out r.0 r.1))

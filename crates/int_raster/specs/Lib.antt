@@ -12,3 +12,4 @@ pub mod Sampled
 pub mod Filled
 pub mod Covered
 pub mod Joined
+pub mod Repainted

@@ -1,8 +1,10 @@
 // Draws that are ready, and lists of them.
 ghost use Rattle.std.specs.Prelude.{◌≡◌, ◌≤◌, ◌<◌, ◌+◌, ◌==◌, ◌++◌, ◌∷◌, [], ℕ, false, map, length, slice_index_or, OnOk, OnErr};
 ghost use Rattle.gfx_model.specs.Pixel.{Pixel};
+ghost use Rattle.gfx_model.specs.World as world;
 ghost use Rattle.int_raster.specs.Drawing.{PreparedDraw, prepared_step};
 ghost use Rattle.int_raster.specs.Listing.{AreWithin, AreInRows};
+ghost use Rattle.int_raster.specs.Repainted.{painted_as};
 
 use crate::columns::covered_rows;
 use crate::covering::covered_by;
@@ -185,11 +187,11 @@ impl<'x> DrawList<'x> {
         Err(AllocError)
     }
 
-    /// Whether a draw may change rows of a band.
+    /// Whether a draw may change rows of a band, whatever it paints with.
     #[inline(always)]
     pub(crate) fn meets(&self, index: usize, rows: &Rows) -> bool
         requires { index < length self.now }
-        ensures { (d : PreparedDraw) (x y : ℕ) (p : Pixel) → result ≡ false → y < rows.now.count → prepared_step (slice_index_or self.now index d) x (rows.now.top + y) p ≡ p }
+        ensures { (d : PreparedDraw) (paint : world.Paint) (x y : ℕ) (p : Pixel) → result ≡ false → y < rows.now.count → prepared_step (painted_as (slice_index_or self.now index d) paint) x (rows.now.top + y) p ≡ p }
     {
         let here = &self.draws[index];
         here.top < rows.bottom() && rows.top < here.bottom

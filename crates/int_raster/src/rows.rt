@@ -2,9 +2,9 @@
 ghost use Rattle.std.specs.Prelude.{◌≡◌, ◌≤◌, ◌+◌};
 ghost use Rattle.int_raster.specs.Sharing.{IsShare};
 
-/// Whole rows of a surface of a width, `count` of them from its row `top` on.
+/// Whole rows of a surface of a width, `count` of them from its row `top` on. The width is at least 1, and no row is behind 65,534.
 #[derive(Clone, Copy)]
-pub(crate) struct Rows {
+pub struct Rows {
     pub width: u16,
     pub top: u16,
     pub count: u16,
@@ -13,6 +13,17 @@ pub(crate) struct Rows {
 }
 
 impl Rows {
+    /// `count` rows of a surface of a width, from a row on.
+    pub fn new(width: u16, top: u16, count: u16) -> Rows
+        requires wide { 1 ≤ width }
+        requires within { top + count ≤ 65535 }
+        ensures width { result.width ≡ width }
+        ensures top { result.top ≡ top }
+        ensures count { result.count ≡ count }
+    {
+        Rows { width, top, count }
+    }
+
     /// The row behind the last.
     pub fn bottom(&self) -> u16
         ensures { result ≡ self.now.top + self.now.count }

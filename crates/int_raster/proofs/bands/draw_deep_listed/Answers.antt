@@ -16,4 +16,4 @@ returns-else-meets c d =
     let rows = c.args.rows.now in
     band_none (slice_index_or c.args.list.now c.args.index d) rows.width rows.top rows.count (deep_pixels c.args.colors.now c.args.depths.now) rows.wide
     (length-deep c.args.colors.now c.args.depths.now c.requires.same ∙ c.requires.whole)
-    (λ x y p b. c.meets.ensures d x y p (search rules) b)
+    (λ x y p b. c.meets.ensures d (slice_index_or c.args.list.now c.args.index d).paint x y p (search rules) b)

@@ -1,0 +1,9 @@
+use Rattle.std.proofs.Common.{◌≡◌, take}
+use Rattle.int_raster.specs.Bands.{flat_drawn}
+use Rattle.pass_bands.specs.Drawn.{work_seen}
+use Rattle.pass_bands.proofs.drawing.draw_flat_rows.Given as goal
+
+-- the draws before the index are made
+abbrev pub invariant-loop-index : goal.invariant-loop-index
+invariant-loop-index l =
+    l.colors ≡ flat_drawn l.fn.rows.width l.fn.rows.top l.fn.colors (take l.index (work_seen l.fn.work))
