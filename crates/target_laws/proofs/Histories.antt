@@ -1,5 +1,5 @@
 -- A pixel of a frame buffer after what it goes through.
-use Rattle.std.proofs.Common.{◌≡◌, ◌≢◌, ◌∙◌, ℕ, ◌+◌, Bool, true, false, cond, List, [], ◌∷◌, map, Option, Some, None, refl, sym, ap}
+use Rattle.std.proofs.Common.{◌≡◌, ◌≢◌, ◌∙◌, ℕ, ◌+◌, Bool, true, false, cond, eqb, List, [], ◌∷◌, map, Option, Some, None, refl, sym, ap}
 use Rattle.std.proofs.lemmas.Bool.{eqb-true, and_parts, both_ways}
 use Rattle.std.specs.Prelude.{◌*◌, ◌&&◌, fold, slice_index_or}
 use Rattle.gfx_model.specs.Words.{Handle}
@@ -127,13 +127,13 @@ module _ (t : Handle) (color : ℕ) (depth : Option ℕ) (apart : depth ≢ Some
         → fold after_target_stroke (target_pixel w t x y) (map (λ k. own_stroke k) (clear_strokes (with_back s w) view x y)) ≡ target_pixel (on_surface w o (clear_surface view)) t x y
     clear-own w view None s on is there has = absurd (both_ways false refl on)
     clear-own w view (Some h) s on is there has =
-        own-goes w h (clear_change view) s (clear_strokes (with_back s w) view x y) (eqb-true h.serial t.serial on) is there has (clear-strokes w view s x y has)
+        own-goes w h (clear_change view) s (clear_strokes (with_back s w) view x y) (eqb-true h.serial t.serial (and_parts (eqb h.index t.index) (eqb h.serial t.serial) on).1) is there has (clear-strokes w view s x y has)
 
     draw-own : (w : World) (view : View) (d : Draw) (paint : Paint) (o : Option Handle) (s : Surface) → is_target t o ≡ true → IsThere w → surface_of w (Some t) ≡ Some s → HasPixel s x y
         → fold after_target_stroke (target_pixel w t x y) (map (λ k. own_stroke k) (drawn_strokes (with_back s w) view d x y (Some paint))) ≡ target_pixel (on_surface w o (drawn_on w view d paint)) t x y
     draw-own w view d paint None s on is there has = absurd (both_ways false refl on)
     draw-own w view d paint (Some h) s on is there has =
-        own-goes w h (λ u. draw_change view d paint (facings_of w view (view_rect view.rect u.color.width u.color.height) d) u) s (drawn_strokes (with_back s w) view d x y (Some paint)) (eqb-true h.serial t.serial on) is there has
+        own-goes w h (λ u. draw_change view d paint (facings_of w view (view_rect view.rect u.color.width u.color.height) d) u) s (drawn_strokes (with_back s w) view d x y (Some paint)) (eqb-true h.serial t.serial (and_parts (eqb h.index t.index) (eqb h.serial t.serial) on).1) is there has
         (draw-strokes w view d paint s x y has)
 
     paint-own : (w : World) (view : View) (d : Draw) (o : Option Paint) (s : Surface) → is_target t view.target ≡ true → IsThere w → surface_of w (Some t) ≡ Some s → HasPixel s x y

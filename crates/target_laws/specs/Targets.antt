@@ -46,7 +46,7 @@ after_target_stroke p (left_stroke q) = q
 -- whether a view's target is this frame buffer
 abbrev pub is_target : Handle → Option Handle → Bool
 is_target t None = false
-is_target t (Some h) = h.serial == t.serial
+is_target t (Some h) = h.index == t.index && h.serial == t.serial
 
 -- whether an item draws
 abbrev pub is_draw : Item → Bool
