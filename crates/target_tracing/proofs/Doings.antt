@@ -1,5 +1,5 @@
 -- What a deed that is done did to a pixel of a frame buffer.
-use Rattle.std.proofs.Common.{◌≡◌, ◌≢◌, ◌∙◌, ◌<◌, ◌≤◌, ℕ, ◌+◌, Bool, true, false, cond, eqb, List, [], ◌∷◌, ◌++◌, map, length, Option, Some, None, refl, sym, ap, subst}
+use Rattle.std.proofs.Common.{◌≡◌, ◌≢◌, ◌∙◌, ◌<◌, ◌≤◌, ℕ, ◌+◌, true, false, cond, eqb, List, [], ◌∷◌, ◌++◌, map, Option, Some, None, refl, sym, ap, subst}
 use Rattle.std.proofs.lemmas.Bool.{eqb-true, eq-eqb, and_parts, and_from, both_ways}
 use Rattle.std.proofs.lemmas.Slice.Eq.{bytes_eq-Decides}
 use Rattle.std.specs.Prelude.{◌&&◌, option_map, bytes_eq, IfSome}
@@ -10,22 +10,23 @@ use Rattle.gfx_model.specs.Views.{View, Views, view_at, view_count}
 use Rattle.gfx_model.specs.World.{Surface, Draw, Item, draw_item, touch_item, blit_item, Paint, clear_surface}
 use Rattle.store_model.specs.Slots.{at}
 use Rattle.store_model.specs.Textures.{Textures, TargetSlot, IsTextures, target_out}
-use Rattle.store_laws.specs.ByIndex.{Stores, with_buffers, with_values, textures_out, vertices_at, indices_at, paint_at, on_target, drawn_with, painted_at, do_by_index}
-use Rattle.store_laws.specs.Listed.{IsApartTarget}
+use Rattle.store_laws.specs.ByIndex.{Stores, with_buffers, with_values, textures_out, vertices_at, indices_at, paint_at, on_target, drawn_with, painted_at}
 use Rattle.store_laws.proofs.SideLaws.{KeepsSides, map_sides, clear_sides}
 use Rattle.store_laws.proofs.ListLaws.{out_same}
-use Rattle.trace_laws.specs.ByIndex.{clear_strokes_in, drawn_strokes_in, draw_strokes_in, item_strokes_in, stores_after}
+use Rattle.trace_laws.specs.ByIndex.{clear_strokes_in, drawn_strokes_in, stores_after}
 use Rattle.trace_laws.specs.Deeds.{Deed, clear_deed, item_deed}
 use Rattle.trace_laws.specs.Doers.{Doer, clear_doer, item_doer}
 use Rattle.trace_laws.specs.History.{Stroke}
-use Rattle.frame_steps.specs.Doing.{in_view, deed_by, stores_after_some}
+use Rattle.frame_steps.specs.Doing.{deed_by, stores_after_some}
 use Rattle.frame_steps.proofs.Dones.{view-there, view-none}
 use Rattle.frame_blame.specs.Done.{view_of_doer}
-use Rattle.target_laws.specs.Targets.{TargetStroke, own_stroke, pixel_on, has_pixel, is_target, is_draw, draws_on, is_same_word, is_same_pixel, left_stroke, left_pixel}
-use Rattle.target_laws.specs.ByIndex.{surface_at, strokes_on_in, target_strokes_in}
-use Rattle.target_tracing.specs.Placed.{strokes_given, placed_strokes, standing_strokes}
+use Rattle.trace_laws.proofs.Lists.{append-none}
+use Rattle.target_laws.specs.Targets.{TargetMade, own_stroke, pixel_on, has_pixel, is_target, draws_on, is_same_word, is_same_pixel, left_stroke, left_pixel}
+use Rattle.target_laws.specs.ByIndex.{surface_at, strokes_on_in}
+use Rattle.target_tracing.specs.Placed.{strokes_given, standing_strokes}
 use Rattle.target_tracing.specs.Surfaces.{surface_in}
-use Rattle.target_tracing.specs.Tracing.{is_draw_some, doer_draws, strokes_of_some}
+use Rattle.target_tracing.specs.Seen.{target_made_of}
+use Rattle.target_tracing.specs.Tracing.{is_draw_some, doer_draws, strokes_of_some, Adds}
 use Rattle.target_tracing.proofs.After.{apart-in, surface-after}
 
 -- ---- pixels that stay
@@ -186,3 +187,42 @@ module _ (rs : List Recorded) (t : Handle) (x y : ℕ) (view : View) where
       → left_pixel (pixel_on (surface_in h.textures t.index) x y) (pixel_on (surface_in g.textures t.index) x y) ≡ strokes_of_some t x y h (deed-in d)
   other-strokes h g (clear_doer v) other done = other-some h g (clear_deed view) other done
   other-strokes h g (item_doer v n) other done = other-item h g (item_of_entry rs n) other done
+
+-- a deed of a view that is not there
+pub deed-nowhere : (vs : Views) (rs : List Recorded) (d : Doer) → view_count vs ≤ view_of_doer d → deed_by vs rs d ≡ None
+deed-nowhere vs rs (clear_doer v) le = view-none vs v (Some (clear_deed (view_at vs v))) le
+deed-nowhere vs rs (item_doer v n) le = view-none vs v (option_map (item_deed (view_at vs v)) (item_of_entry rs n)) le
+
+-- ---- strokes put behind others
+
+module _ (vs : Views) (rs : List Recorded) (t : Handle) (x y n : ℕ) (h : Stores) (d : Doer) where
+  pub adds-nowhere : (g : Stores) (old : List TargetMade) → view_count vs ≤ view_of_doer d → g ≡ stores_after_some h (deed_by vs rs d) → Adds t x y n h (deed_by vs rs d) old old g
+  adds-nowhere g old le done = record {
+    made = sym (append-none old) ∙ ap (λ o. old ++ map (target_made_of n) (strokes_of_some t x y h o)) (sym (deed-nowhere vs rs d le));
+    done = done;
+  }
+
+  module _ (view : View) (lt : view_of_doer d < view_count vs) (is : view ≡ view_at vs (view_of_doer d)) where
+    there : deed_by vs rs d ≡ deed-in rs t x y view d
+    there = deed-there rs t x y view vs d lt is
+
+    pub adds-own : (g end : Stores) (old new : List TargetMade) (ss : List Stroke) → IsTextures h.textures → doer_draws t view rs d ≡ true → has_pixel (surface_in h.textures t.index) x y ≡ true
+        → g ≡ stores_after_some h (deed_by vs rs d) → end ≡ g → ss ≡ standing_strokes (surface_in g.textures t.index) t.index g view x y rs d
+        → new ≡ old ++ map (target_made_of n) (map (λ k. own_stroke k) ss) → Adds t x y n h (deed_by vs rs d) old new end
+    adds-own g end old new ss all on has done same are put = record {
+      made = put ∙ ap (λ ks. old ++ map (target_made_of n) (map (λ k. own_stroke k) ks)) are
+          ∙ ap (λ ks. old ++ map (target_made_of n) ks) (own-strokes rs t x y view h g d all on has (done ∙ ap (stores_after_some h) there))
+          ∙ ap (λ o. old ++ map (target_made_of n) (strokes_of_some t x y h o)) (sym there);
+      done = same ∙ done;
+    }
+
+    pub adds-other : (g end : Stores) (old new : List TargetMade) (before after : Pixel) → (doer_draws t view rs d && has_pixel (surface_in h.textures t.index) x y) ≡ false
+        → g ≡ stores_after_some h (deed_by vs rs d) → end ≡ g → before ≡ pixel_on (surface_in h.textures t.index) x y → after ≡ pixel_on (surface_in g.textures t.index) x y
+        → new ≡ old ++ map (target_made_of n) (left_pixel before after) → Adds t x y n h (deed_by vs rs d) old new end
+    adds-other g end old new before after other done same was now put = record {
+      made = put ∙ ap (λ p. old ++ map (target_made_of n) (left_pixel p after)) was
+          ∙ ap (λ p. old ++ map (target_made_of n) (left_pixel (pixel_on (surface_in h.textures t.index) x y) p)) now
+          ∙ ap (λ ks. old ++ map (target_made_of n) ks) (other-strokes rs t x y view h g d other (done ∙ ap (stores_after_some h) there))
+          ∙ ap (λ o. old ++ map (target_made_of n) (strokes_of_some t x y h o)) (sym there);
+      done = same ∙ done;
+    }

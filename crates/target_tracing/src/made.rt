@@ -3,7 +3,7 @@ ghost use Rattle.std.specs.Prelude.{◌≡◌, ◌∷◌, ◌++◌, [], map, OnO
 ghost use Rattle.pixel_ops.specs.Seen.{pixel_seen};
 ghost use Rattle.pixel_strokes.specs.Seen.{stroke_seen};
 ghost use Rattle.target_laws.specs.Targets as model;
-ghost use Rattle.target_tracing.specs.Seen.{target_made_of, target_made_seen, target_stroke_seen};
+ghost use Rattle.target_tracing.specs.Seen.{stroke_or, target_made_of, target_made_seen};
 
 use pixel_ops::Pixel;
 use pixel_strokes::Stroke;
@@ -67,10 +67,19 @@ fn is_same_pixel(one: &Pixel, other: &Pixel) -> bool
     one.color == other.color && is_same_word(one.depth, other.depth)
 }
 
-/// Puts a stroke of a deed behind others.
-fn push_one(made: &mut Vec<TargetMade>, deed: u32, stroke: TargetStroke) -> Result<(), AllocError>
-    ensures { OnOk result (map target_made_seen made.new.items ≡ map target_made_seen made.old.items ++ target_made_of deed (target_stroke_seen stroke) ∷ []) }
+/// Puts a stroke of a deed behind others: one of its own, or else the pixel that it leaves.
+fn push_stroke(
+    made: &mut Vec<TargetMade>,
+    deed: u32,
+    own: Option<Stroke>,
+    left: &Pixel,
+) -> Result<(), AllocError>
+    ensures { OnOk result (map target_made_seen made.new.items ≡ map target_made_seen made.old.items ++ target_made_of deed (stroke_or own left.now) ∷ []) }
 {
+    let stroke = match own {
+        Some(stroke) => TargetStroke::Own(stroke),
+        None => TargetStroke::Left(*left),
+    };
     made.push(TargetMade { deed, stroke })?;
     Ok(())
 }
@@ -87,5 +96,5 @@ pub(crate) fn push_left(
     if is_same_pixel(before, after) {
         return Ok(());
     }
-    push_one(made, deed, TargetStroke::Left(*after))
+    push_stroke(made, deed, None, after)
 }

@@ -42,16 +42,16 @@ pub struct TargetSpot {
 }
 
 /// The pixel of a frame buffer; a pixel of zeros where that is not there.
-fn pixel_at(stores: &mut RenderStores, spot: TargetSpot) -> Pixel
-    ensures pixel { pixel_seen result ≡ model.pixel_on (surface_in stores.old.textures spot.target.index) spot.x spot.y }
+fn pixel_at(stores: &mut RenderStores, spot: &TargetSpot) -> Pixel
+    ensures pixel { pixel_seen result ≡ model.pixel_on (surface_in stores.old.textures spot.now.target.index) spot.now.x spot.now.y }
     ensures same { stores_seen stores.new ≡ stores_seen stores.old }
 {
     target_pixel(&mut stores.textures, spot.target.index(), spot.x, spot.y)
 }
 
 /// Whether a frame buffer is there and has the pixel.
-fn has_pixel_at(stores: &mut RenderStores, spot: TargetSpot) -> bool
-    ensures has { result ≡ model.has_pixel (surface_in stores.old.textures spot.target.index) spot.x spot.y }
+fn has_pixel_at(stores: &mut RenderStores, spot: &TargetSpot) -> bool
+    ensures has { result ≡ model.has_pixel (surface_in stores.old.textures spot.now.target.index) spot.now.x spot.now.y }
     ensures same { stores_seen stores.new ≡ stores_seen stores.old }
 {
     has_target_pixel(&mut stores.textures, spot.target.index(), spot.x, spot.y)
@@ -96,14 +96,14 @@ fn trace_in<D: Rasterizer>(
     view: &View,
     doer: Doer,
     number: u32,
-    spot: TargetSpot,
+    spot: &TargetSpot,
     made: &mut Vec<TargetMade>,
     room: &mut DrawingRoom,
 ) -> Result<(), AllocError>
-    requires column { spot.x < 65535 }
+    requires column { spot.now.x < 65535 }
     requires there { view_of_doer (doer_seen doer) < view_count frame.now.views }
     requires own { view_seen view.now ≡ view_at frame.now.views (view_of_doer (doer_seen doer)) }
-    ensures { OnOk result (Adds spot.target spot.x spot.y number (stores_seen stores.old) (deed_of_frame frame.now (doer_seen doer)) (map target_made_seen made.old.items) (map target_made_seen made.new.items) (stores_seen stores.new)) }
+    ensures { OnOk result (Adds spot.now.target spot.now.x spot.now.y number (stores_seen stores.old) (deed_of_frame frame.now (doer_seen doer)) (map target_made_seen made.old.items) (map target_made_seen made.new.items) (stores_seen stores.new)) }
 {
     let draws = draws_on(frame, view, doer, spot.target);
     let has = has_pixel_at(stores, spot);
@@ -139,12 +139,12 @@ fn trace_doer<D: Rasterizer>(
     frame: &Frame,
     doer: Doer,
     number: u32,
-    spot: TargetSpot,
+    spot: &TargetSpot,
     made: &mut Vec<TargetMade>,
     room: &mut DrawingRoom,
 ) -> Result<(), AllocError>
-    requires { spot.x < 65535 }
-    ensures { OnOk result (Adds spot.target spot.x spot.y number (stores_seen stores.old) (deed_of_frame frame.now (doer_seen doer)) (map target_made_seen made.old.items) (map target_made_seen made.new.items) (stores_seen stores.new)) }
+    requires { spot.now.x < 65535 }
+    ensures { OnOk result (Adds spot.now.target spot.now.x spot.now.y number (stores_seen stores.old) (deed_of_frame frame.now (doer_seen doer)) (map target_made_seen made.old.items) (map target_made_seen made.new.items) (stores_seen stores.new)) }
 {
     match frame.views.get(view_of(doer)) {
         Some(view) => trace_in(
@@ -161,13 +161,13 @@ fn trace_each<D: Rasterizer>(
     stores: &mut RenderStores,
     frame: &Frame,
     doers: &[Doer],
-    spot: TargetSpot,
+    spot: &TargetSpot,
     made: &mut Vec<TargetMade>,
     room: &mut DrawingRoom,
 ) -> Result<(), AllocError>
-    requires column { spot.x < 65535 }
+    requires column { spot.now.x < 65535 }
     requires few { length doers.now < 2 ^ 32 - 1 }
-    ensures { OnOk result (map target_made_seen made.new.items ≡ map target_made_seen made.old.items ++ history_of_these spot.target spot.x spot.y 0 (stores_seen stores.old) (deeds_of_doers frame.now doers.now)) }
+    ensures { OnOk result (map target_made_seen made.new.items ≡ map target_made_seen made.old.items ++ history_of_these spot.now.target spot.now.x spot.now.y 0 (stores_seen stores.old) (deeds_of_doers frame.now doers.now)) }
 {
     for place in 0..doers.len() {
         let doer = doers[place];
@@ -202,10 +202,10 @@ pub fn trace_target<D: Rasterizer>(
     done_law();
     frame.views.tell_facts();
     execute_all(alloc, stores, &frame.payloads, &frame.pre)?;
-    if !has_pixel_at(stores, spot) {
+    if !has_pixel_at(stores, &spot) {
         return Ok(None);
     }
-    let before = pixel_at(stores, spot);
+    let before = pixel_at(stores, &spot);
     let doers = doers_of(alloc, frame)?;
     if doers.len() >= 4_294_967_295 {
         return Err(AllocError);
@@ -218,7 +218,7 @@ pub fn trace_target<D: Rasterizer>(
         stores,
         frame,
         doers.as_slice(),
-        spot,
+        &spot,
         &mut made,
         &mut room,
     )?;

@@ -1,4 +1,4 @@
-use Rattle.std.proofs.Common.{◌+◌, ◌++◌, List, map, get_or, refl, arith}
+use Rattle.std.proofs.Common.{◌+◌, ◌++◌, map, get_or, arith}
 use Rattle.render_stores.specs.Seen.{stores_seen}
 use Rattle.trace_lines.specs.declared.doers.Doer.{Doer}
 use Rattle.trace_lines.specs.declared.doers.Doer.TheVariants as doers
@@ -16,15 +16,15 @@ loop-place-preserved g c =
     let a = c.args in
     let l = c.loop-place in
     let doer : Doer = get_or a.doers.now l.place (doers.Clear 0) in
-    trace-next a.spot.target a.spot.x a.spot.y (λ d. deed_of_frame a.frame.now (doer_seen d)) a.doers.now l.place doer (stores_seen l.stores) (stores_seen c.trace_doer.new.stores)
+    trace-next a.spot.now.target a.spot.now.x a.spot.now.y (λ d. deed_of_frame a.frame.now (doer_seen d)) a.doers.now l.place doer (stores_seen l.stores) (stores_seen c.trace_doer.new.stores)
     (map target_made_seen l.made.items) (map target_made_seen c.trace_doer.new.made.items)
-    (map target_made_seen a.made.now.items ++ history_of_these a.spot.target a.spot.x a.spot.y 0 (stores_seen a.stores.now) (deeds_of_doers a.frame.now a.doers.now))
+    (map target_made_seen a.made.now.items ++ history_of_these a.spot.now.target a.spot.now.x a.spot.now.y 0 (stores_seen a.stores.now) (deeds_of_doers a.frame.now a.doers.now))
     c.loop-place-test.true (got-self a.doers.now l.place _ c.loop-place-test.true) l.invariant c.in_ok-trace_doer.ensures
 
 pub returns : goal.returns
 returns g c =
     let a = c.args in
     let l = c.loop-place in
-    trace-past a.spot.target a.spot.x a.spot.y (λ d. deed_of_frame a.frame.now (doer_seen d)) a.doers.now l.place (stores_seen l.stores) (map target_made_seen l.made.items)
-    (map target_made_seen a.made.now.items ++ history_of_these a.spot.target a.spot.x a.spot.y 0 (stores_seen a.stores.now) (deeds_of_doers a.frame.now a.doers.now))
+    trace-past a.spot.now.target a.spot.now.x a.spot.now.y (λ d. deed_of_frame a.frame.now (doer_seen d)) a.doers.now l.place (stores_seen l.stores) (map target_made_seen l.made.items)
+    (map target_made_seen a.made.now.items ++ history_of_these a.spot.now.target a.spot.now.x a.spot.now.y 0 (stores_seen a.stores.now) (deeds_of_doers a.frame.now a.doers.now))
     (omega arith) l.invariant
