@@ -1,10 +1,9 @@
 -- The laws of the history of a frame buffer's pixel.
-use Rattle.std.specs.Prelude.{◌≡◌, ◌≢◌, ℕ, ◌+◌, ◌*◌, List, Option, Some, slice_get, slice_index_or}
+use Rattle.std.specs.Prelude.{◌≡◌, ◌≢◌, ℕ, ◌+◌, ◌*◌, true, List, Option, Some, slice_get, slice_index_or}
 use Rattle.gfx_model.specs.Words.{Handle}
 use Rattle.gfx_model.specs.Raster.{Texels, no_color}
 use Rattle.gfx_model.specs.World.{World, frame_buffer_content, content_in, content_of, texels_of, surface_of, FrameContent, frame_step}
 use Rattle.trace_laws.specs.Deeds.{begun}
-use Rattle.gfx_model.specs.Views.{view_at}
 use Rattle.store_laws.specs.ByIndex.{Stores, FrameData}
 use Rattle.store_laws.specs.Says.{StandsFor, Says, left, there_in, TargetNames}
 use Rattle.scene_model.specs.Scene.{Scene}
@@ -13,6 +12,7 @@ use Rattle.scene_laws.specs.SceneFrames.{HasColors, scene_frames}
 use Rattle.trace_laws.specs.Moments.{Moment, moments}
 use Rattle.trace_laws.specs.ByIndex.{begun_in, deeds_in}
 use Rattle.scene_traces.specs.Traced.{stores_before}
+use Rattle.target_laws.specs.Names.{is_drawn_on}
 use Rattle.target_laws.specs.Targets.{target_pixel, target_history, after_target_history}
 use Rattle.target_laws.specs.ByIndex.{surface_at, target_history_in}
 
@@ -50,5 +50,5 @@ TargetIndexedLaw = (place : ℕ → ℕ) (h : Stores) (w : World) (f : FrameData
 
 -- each frame buffer on which a view of a frame of a scene draws has its histories by index, and they end in the texels of its colour texture
 abbrev pub SceneTargetLaw : Type 0
-SceneTargetLaw = (s : Scene) (j : Journal) → HasColors s → (k v : ℕ) (f : FrameData) (m : Moment) (t : Handle) → slice_get (scene_frames s j) k ≡ Some f → slice_get (moments s j) k ≡ Some m → (view_at m.content.views v).target ≡ Some t
+SceneTargetLaw = (s : Scene) (j : Journal) → HasColors s → (k : ℕ) (f : FrameData) (m : Moment) (t : Handle) → slice_get (scene_frames s j) k ≡ Some f → slice_get (moments s j) k ≡ Some m → is_drawn_on m.content.views t ≡ true
     → IsTargetTraced (stores_before s j k) m.world f m.content t

@@ -30,7 +30,7 @@ fn depth_word(texel: [u8; 4]) -> u32
 }
 
 /// The place of a column of a row of so many columns.
-fn place_of(width: u16, x: u16, y: u16) -> usize
+fn place_of(width: u16, x: u32, y: u32) -> usize
     ensures { result ≡ y * width + x }
 {
     y as usize * width as usize + x as usize
@@ -50,7 +50,7 @@ fn word_at(depth: &Option<Texels>, place: usize) -> Option<u32>
 pub(crate) fn texel_pixel(surface: &Surface, x: u16, y: u16) -> Pixel
     ensures { pixel_seen result ≡ model.texel_pixel (surface_seen surface.now) x y }
 {
-    let place = place_of(surface.color.width, x, y);
+    let place = place_of(surface.color.width, x as u32, y as u32);
     Pixel {
         color: texel_at(surface.color.texels.as_slice(), place),
         depth: word_at(&surface.depth, place),
@@ -65,8 +65,8 @@ fn count_of(surface: &Surface) -> usize
 }
 
 /// Whether a surface has a pixel at a column and a row.
-pub(crate) fn has_pixel(surface: &Surface, x: u16, y: u16) -> bool
+pub(crate) fn has_pixel(surface: &Surface, x: u32, y: u32) -> bool
     ensures { result ≡ model.has_pixel (Some (surface_seen surface.now)) x y }
 {
-    x < surface.color.width && place_of(surface.color.width, x, y) < count_of(surface)
+    x < surface.color.width as u32 && place_of(surface.color.width, x, y) < count_of(surface)
 }

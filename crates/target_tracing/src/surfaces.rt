@@ -57,7 +57,7 @@ pub(crate) fn target_pixel(textures: &mut TextureStore, index: u16, x: u16, y: u
 }
 
 /// Whether a frame buffer is there and has a pixel.
-pub(crate) fn has_target_pixel(textures: &mut TextureStore, index: u16, x: u16, y: u16) -> bool
+pub(crate) fn has_target_pixel(textures: &mut TextureStore, index: u16, x: u32, y: u32) -> bool
     ensures has { result ≡ model.has_pixel (surface_in textures.old index) x y }
     ensures same { textures.new ≡ textures.old }
 {

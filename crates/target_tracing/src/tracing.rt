@@ -1,18 +1,20 @@
 // The deeds of a frame, one after another.
-ghost use Rattle.std.specs.Prelude.{◌≡◌, ◌<◌, ◌++◌, ◌-◌, ◌^◌, IfOk, OnOk, length, map};
+ghost use Rattle.std.specs.Prelude.{◌≡◌, ◌<◌, ◌++◌, ◌-◌, ◌^◌, IfOk, IfSome, OnOk, length, map};
 ghost use Rattle.gfx_model.specs.Frames.{item_of_entry};
 ghost use Rattle.gfx_model.specs.Views.{view_at, view_count};
 ghost use Rattle.frame_record.specs.Seen.{entry_seen, recordings_seen};
 ghost use Rattle.view_table.specs.Seen.{view_seen};
 ghost use Rattle.render_stores.specs.Seen.{stores_seen};
 ghost use Rattle.trace_lines.specs.Seen.{doer_seen};
-ghost use Rattle.render_core.specs.Seen.{frame_seen};
-ghost use Rattle.trace_laws.specs.ByIndex.{begun_in};
+ghost use Rattle.render_core.specs.Seen.{frame_seen, journal_of, recordings_of};
+ghost use Rattle.trace_laws.specs.ByIndex.{begun_in, deeds_in};
+ghost use Rattle.trace_laws.specs.Doers.{doers_in};
 ghost use Rattle.frame_steps.specs.Doing.{deed_of_frame};
 ghost use Rattle.frame_steps.specs.Steps.{deeds_of_doers};
 ghost use Rattle.frame_blame.specs.Done.{view_of_doer};
 ghost use Rattle.pixel_ops.specs.Seen.{pixel_seen};
 ghost use Rattle.target_laws.specs.Targets as model;
+ghost use Rattle.target_laws.specs.ByIndex.{target_history_in, target_pixel_in};
 ghost use Rattle.target_tracing.specs.Seen.{target_made_seen};
 ghost use Rattle.target_tracing.specs.Surfaces.{surface_in};
 ghost use Rattle.target_tracing.specs.Tracing.{Adds, IsTargetHistory, doer_draws, history_of_these, is_draw_some};
@@ -33,16 +35,24 @@ use trace_lines::{Doer, doers_of};
 use view_drawing::DrawingRoom;
 use view_table::View;
 
-/// A pixel of a frame buffer.
+/// A pixel of a frame buffer, by its column from the left and its row from the top, each from 0; it may not be there.
 #[derive(Clone, Copy, Drop)]
 pub struct TargetSpot {
     pub target: Handle,
-    pub x: u16,
-    pub y: u16,
+    pub x: u32,
+    pub y: u32,
+}
+
+/// A pixel of a frame buffer that has it.
+#[derive(Clone, Copy, Drop)]
+struct Spot {
+    target: Handle,
+    x: u16,
+    y: u16,
 }
 
 /// The pixel of a frame buffer; a pixel of zeros where that is not there.
-fn pixel_at(stores: &mut RenderStores, spot: &TargetSpot) -> Pixel
+fn pixel_at(stores: &mut RenderStores, spot: &Spot) -> Pixel
     ensures pixel { pixel_seen result ≡ model.pixel_on (surface_in stores.old.textures spot.now.target.index) spot.now.x spot.now.y }
     ensures same { stores_seen stores.new ≡ stores_seen stores.old }
 {
@@ -50,11 +60,16 @@ fn pixel_at(stores: &mut RenderStores, spot: &TargetSpot) -> Pixel
 }
 
 /// Whether a frame buffer is there and has the pixel.
-fn has_pixel_at(stores: &mut RenderStores, spot: &TargetSpot) -> bool
+fn has_pixel_at(stores: &mut RenderStores, spot: &Spot) -> bool
     ensures has { result ≡ model.has_pixel (surface_in stores.old.textures spot.now.target.index) spot.now.x spot.now.y }
     ensures same { stores_seen stores.new ≡ stores_seen stores.old }
 {
-    has_target_pixel(&mut stores.textures, spot.target.index(), spot.x, spot.y)
+    has_target_pixel(
+        &mut stores.textures,
+        spot.target.index(),
+        spot.x as u32,
+        spot.y as u32,
+    )
 }
 
 /// Whether a view's target is this frame buffer.
@@ -96,7 +111,7 @@ fn trace_in<D: Rasterizer>(
     view: &View,
     doer: Doer,
     number: u32,
-    spot: &TargetSpot,
+    spot: &Spot,
     made: &mut Vec<TargetMade>,
     room: &mut DrawingRoom,
 ) -> Result<(), AllocError>
@@ -139,7 +154,7 @@ fn trace_doer<D: Rasterizer>(
     frame: &Frame,
     doer: Doer,
     number: u32,
-    spot: &TargetSpot,
+    spot: &Spot,
     made: &mut Vec<TargetMade>,
     room: &mut DrawingRoom,
 ) -> Result<(), AllocError>
@@ -161,7 +176,7 @@ fn trace_each<D: Rasterizer>(
     stores: &mut RenderStores,
     frame: &Frame,
     doers: &[Doer],
-    spot: &TargetSpot,
+    spot: &Spot,
     made: &mut Vec<TargetMade>,
     room: &mut DrawingRoom,
 ) -> Result<(), AllocError>
@@ -186,26 +201,47 @@ fn trace_each<D: Rasterizer>(
     Ok(())
 }
 
-/// What a pixel of a frame buffer goes through in a frame: it executes the frame's first commands on a renderer's stores, and does its deeds
-/// one after another. `None` exactly where the frame buffer is not there when the first deed is done, or has no such pixel. After it the
-/// stores are of no use. `Err` only for want of memory, where there are 4,294,967,295 deeds, or so many triangles in one draw.
-pub fn trace_target<D: Rasterizer>(
+/// Whether a frame buffer is there and has a pixel.
+fn has_spot(stores: &mut RenderStores, spot: &TargetSpot) -> bool
+    ensures has { result ≡ model.has_pixel (surface_in stores.old.textures spot.now.target.index) spot.now.x spot.now.y }
+    ensures same { stores_seen stores.new ≡ stores_seen stores.old }
+{
+    has_target_pixel(&mut stores.textures, spot.target.index(), spot.x, spot.y)
+}
+
+/// A pixel of a frame buffer that has it. Its sides are up to 65,535, so none is further out.
+fn inner_spot(spot: TargetSpot) -> Option<Spot>
+    ensures { IfSome result (λ s. (s.target ≡ spot.target) × (s.x ≡ spot.x) × (s.y ≡ spot.y) × (s.x < 65535)) }
+{
+    if spot.x >= 65_535 {
+        return None;
+    }
+    if spot.y > 65_535 {
+        return None;
+    }
+    Some(Spot {
+        target: spot.target,
+        x: spot.x as u16,
+        y: spot.y as u16,
+    })
+}
+
+/// What a pixel of a frame buffer that has it goes through in a frame whose first commands are executed.
+fn trace_inside<D: Rasterizer>(
     alloc: Global,
     rasterizer: &mut D,
     stores: &mut RenderStores,
     frame: &Frame,
-    spot: TargetSpot,
-) -> Result<Option<TargetHistory>, AllocError>
-    requires { spot.x < 65535 }
-    ensures { IfOk result (λ o. IsTargetHistory spot.target spot.x spot.y (begun_in (stores_seen stores.old) (frame_seen frame.now)) (frame_seen frame.now) o) }
+    spot: &Spot,
+) -> Result<TargetHistory, AllocError>
+    requires { spot.now.x < 65535 }
+    ensures before { IfOk result (λ it. pixel_seen it.before ≡ target_pixel_in (stores_seen stores.old) spot.now.target spot.now.x spot.now.y) }
+    ensures made { IfOk result (λ it. map target_made_seen it.made.items ≡ target_history_in spot.now.target spot.now.x spot.now.y 0 (stores_seen stores.old) (deeds_in (frame_seen frame.now))) }
+    ensures doers { IfOk result (λ it. map doer_seen it.doers.items ≡ doers_in frame.now.views (recordings_of frame.now) (journal_of frame.now)) }
 {
     done_law();
     frame.views.tell_facts();
-    execute_all(alloc, stores, &frame.payloads, &frame.pre)?;
-    if !has_pixel_at(stores, &spot) {
-        return Ok(None);
-    }
-    let before = pixel_at(stores, &spot);
+    let before = pixel_at(stores, spot);
     let doers = doers_of(alloc, frame)?;
     if doers.len() >= 4_294_967_295 {
         return Err(AllocError);
@@ -218,13 +254,38 @@ pub fn trace_target<D: Rasterizer>(
         stores,
         frame,
         doers.as_slice(),
-        &spot,
+        spot,
         &mut made,
         &mut room,
     )?;
-    Ok(Some(TargetHistory {
+    Ok(TargetHistory {
         before,
         made,
         doers,
-    }))
+    })
+}
+
+/// What a pixel of a frame buffer goes through in a frame, and whose each of its deeds is: it executes the frame's first commands on a
+/// renderer's stores, and does its deeds one after another. `None` exactly where the frame buffer is not there when the first deed is done, or
+/// has no such pixel. After it the stores are of no use. `Err` only for want of memory, where there are 4,294,967,295 deeds, or so many
+/// triangles in one draw.
+pub fn trace_target<D: Rasterizer>(
+    alloc: Global,
+    rasterizer: &mut D,
+    stores: &mut RenderStores,
+    frame: &Frame,
+    spot: TargetSpot,
+) -> Result<Option<TargetHistory>, AllocError>
+    ensures history { IfOk result (λ o. IsTargetHistory spot.target spot.x spot.y (begun_in (stores_seen stores.old) (frame_seen frame.now)) (frame_seen frame.now) o) }
+    ensures doers { IfOk result (λ o. IfSome o (λ it. map doer_seen it.doers.items ≡ doers_in frame.now.views (recordings_of frame.now) (journal_of frame.now))) }
+{
+    execute_all(alloc, stores, &frame.payloads, &frame.pre)?;
+    if !has_spot(stores, &spot) {
+        return Ok(None);
+    }
+    let Some(inner) = inner_spot(spot) else {
+        return Err(AllocError);
+    };
+    let history = trace_inside(alloc, rasterizer, stores, frame, &inner)?;
+    Ok(Some(history))
 }
