@@ -741,6 +741,7 @@ class Plan:
         self.order, self.items = calls.order, [encoder.items for encoder in encoders]
         self.dropped = dropped + sum(encoder.dropped for encoder in encoders)
         self.gone = [thing.serial for thing in calls.things if thing.death == calls.frame]
+        self.names = dict(calls.names)
 
 
 def plans(scene):

@@ -1,0 +1,5 @@
+pub mod Given
+pub mod Targeters
+pub mod GivenTargets
+pub mod Strokes
+pub mod Tells

@@ -1,0 +1,4 @@
+pub mod Finding
+pub mod Scenes
+pub mod Numbered
+pub mod Told

@@ -1,0 +1,4 @@
+pub mod After
+pub mod Doings
+pub mod Loops
+pub mod Whole

@@ -1,0 +1,4 @@
+pub mod Surfaces
+pub mod Placed
+pub mod Seen
+pub mod Tracing
