@@ -12,3 +12,4 @@ pub mod LineTails
 pub mod WrittenScenes
 pub mod Bounded
 pub mod CutLines
+pub mod RunLines

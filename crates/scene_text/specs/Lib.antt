@@ -12,3 +12,4 @@ pub mod Spelled
 pub mod WrittenParts
 pub mod Bounds
 pub mod Journals
+pub mod Runs

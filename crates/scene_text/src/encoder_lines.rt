@@ -116,7 +116,7 @@ fn bind(names: &Names, fields: &[&[u8]]) -> Result<EncLine, Cause>
     Ok(EncLine::Bind { stage, texture })
 }
 
-fn four(x: i32, y: i32, z: i32, w: i32) -> [i32; 4]
+pub fn four(x: i32, y: i32, z: i32, w: i32) -> [i32; 4]
     ensures { result ≡ x ∷ y ∷ z ∷ w ∷ [] }
 {
     [x, y, z, w]

@@ -19,6 +19,7 @@ mod numbers;
 mod parts;
 mod reading;
 mod resource_lines;
+mod runs;
 mod scene;
 mod scene_writing;
 mod sequence;

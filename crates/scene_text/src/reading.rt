@@ -1,5 +1,6 @@
 // The state of reading, and what each line does to it.
-ghost use Rattle.std.specs.Prelude.{◌≡◌, ◌≤◌, true, map, IfOk, option_map};
+ghost use Rattle.std.specs.Prelude.{◌≡◌, ◌≤◌, true, length, map, IfOk, option_map};
+ghost use Rattle.scene_text.specs.Runs.{AreRead};
 ghost use Rattle.std.specs.List.{list_all};
 ghost use Rattle.scene_model.specs.Field.{split_at};
 ghost use Rattle.scene_model.specs.Scene.{newest_version, views_in};
@@ -20,6 +21,7 @@ use crate::frames::{add_before, add_beside, add_block, add_encoder_line, add_fra
 use crate::names::Names;
 use crate::numbers::{number, u8_number, value_to};
 use crate::resource_lines::resource_line;
+use crate::runs::{Run, read_run};
 use crate::scene::{ResLine, SceneFrame};
 use crate::stages::{Stage, can_stand};
 use crate::words::{Word, is, line_word};
@@ -454,6 +456,21 @@ impl Reading {
             return self.after_split(alloc, line, fields);
         }
         self.after_line(alloc, line, fields)
+    }
+
+    /// What the run of lines at the front of the bytes does, and how far it goes.
+    pub fn after_run(&mut self, alloc: Global, bytes: &[u8]) -> Result<Run, AllocError>
+        requires { length bytes.now ≤ 4294967295 }
+        ensures few { IfOk result (λ run. (run.lines ≤ run.bytes) × (run.bytes ≤ length bytes.now)) }
+        ensures read { IfOk result (λ run. AreRead bytes.now run.bytes run.lines (reading_seen self.old) (reading_seen self.new)) }
+    {
+        match self.stage {
+            Stage::InBlock => {
+                let run = read_run(alloc, &self.names, &mut self.frames, bytes)?;
+                Ok(run)
+            }
+            _ => Ok(Run { bytes: 0, lines: 0 }),
+        }
     }
 }
 

@@ -108,6 +108,9 @@ pub fn read(alloc: Global, bytes: &[u8]) -> Result<Scene, SceneFault>
         }
         rest = &rest[n + 1..];
         line += 1;
+        let run = reading.after_run(alloc, rest)?;
+        rest = &rest[run.bytes..];
+        line += run.lines;
     }
     at_last_piece(alloc, line, reading, rest)
 }

@@ -1,6 +1,7 @@
-use Rattle.std.proofs.Common.{ℕ, ◌≤◌, length, List, Result, Ok, Err, ◌+◌, take, drop, ap, subst, sym, ◌∙◌}
+use Rattle.std.proofs.Common.{ℕ, ◌≤◌, length, List, Result, Ok, Err, ◌+◌, ◌-◌, take, drop, ap, subst, sym, ◌∙◌, arith}
 use Rattle.std.specs.Prelude.{IfOk}
-use Rattle.std.proofs.lemmas.List.{take_rest}
+use Rattle.std.proofs.lemmas.List.{take_rest, length-drop}
+use Rattle.scene_model.specs.Field.{split_at}
 use Rattle.scene_model.specs.Grammar.{scene_of, read_pieces, whole_language}
 use Rattle.scene_text.specs.declared.scene.Scene.{Scene}
 use Rattle.scene_text.specs.declared.fault.SceneFault.{SceneFault}
@@ -44,8 +45,20 @@ returns-clause-bounds c =
 
 pub loop-fields-preserved : goal.loop-fields-preserved
 loop-fields-preserved c =
+    let l = c.loop-fields in
     let s = (rw c.in-Some.is at c.in_ok-found.ensures.cases) in
+    let n = c.in-Some.found.end + 1 in
+    let left = take (length l.rest.now - n) (drop n l.rest.now) in
+    let next = reading_seen c.after_next.new.self in
+    let last = reading_seen c.after_run.new.self in
+    let run = c.in_ok-run.run' in
+    let read = c.in_ok-run.ensures.read in
+    let few = c.in_ok-run.ensures.few in
     record {
-      left = rw (take_rest c.loop-fields.rest.now (c.in-Some.found.end + 1)) (line_more whole_language c.loop-fields.line (reading_seen c.loop-fields.reading) (reading_seen c.after_next.new.self) (take c.in-Some.found.end c.loop-fields.rest.now) c.loop-fields.rest.now (drop (c.in-Some.found.end + 1) c.loop-fields.rest.now) _ c.loop-fields.invariant.left s.1 c.in-Ok.ensures);
-      line = line_less c.loop-fields.line c.in-Some.found.end c.loop-fields.rest.now _ s.0 c.loop-fields.invariant.line;
+      left =
+          ap (λ t. read_pieces whole_language (l.line + 1 + run.lines) (Ok last) (split_at 10 t)) (take_rest left run.bytes)
+          ∙ sym (read.same (l.line + 1))
+          ∙ ap (λ t. read_pieces whole_language (l.line + 1) (Ok next) (split_at 10 t)) (take_rest l.rest.now n)
+          ∙ line_more whole_language l.line (reading_seen l.reading) next (take c.in-Some.found.end l.rest.now) l.rest.now (drop n l.rest.now) _ l.invariant.left s.1 c.in-Ok.ensures;
+      line = omega (arith, line_less l.line c.in-Some.found.end l.rest.now _ s.0 l.invariant.line, few.0, few.1, ap length (take_rest left run.bytes), length-drop run.bytes left);
     }
