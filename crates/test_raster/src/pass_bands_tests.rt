@@ -142,19 +142,25 @@ fn a_task_is_drawn_by_one_thread(rt: HostRuntime) -> Result<(), Fail> {
     Ok(())
 }
 
+// A band, drawn twice where it is drawn.
+fn twice(band: Band, is_drawn: bool) -> Band {
+    let mut band = band;
+    if is_drawn {
+        band.draw();
+        band.draw();
+    }
+    band
+}
+
 // The bands of a pass, drawn but for the last, and given back in the other order.
 fn all_but_the_last(alloc: Global, bands: Vec<Band>) -> Result<Vec<Band>, Fail> {
     let mut drawn = Vec::new(alloc);
     let mut bands = bands;
-    let mut left = bands.len();
-    while let Some(band) = bands.pop() {
-        let mut band = band;
-        left -= 1;
-        if left > 0 {
-            band.draw();
-            band.draw();
+    let count = bands.len();
+    for number in 0..count {
+        if let Some(band) = bands.pop() {
+            drawn.push(twice(band, number + 1 < count))?;
         }
-        drawn.push(band)?;
     }
     Ok(drawn)
 }
