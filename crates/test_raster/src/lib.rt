@@ -4,6 +4,8 @@
 #[cfg(test)]
 mod int_raster_tests;
 #[cfg(test)]
+mod pass_bands_tests;
+#[cfg(test)]
 mod render_core_frame_tests;
 #[cfg(test)]
 mod render_core_stray_tests;
