@@ -2,7 +2,7 @@ use Rattle.std.proofs.Common.{Ok, rules, refl}
 use Rattle.gfx_model.specs.Resources.{create_program}
 use Rattle.gfx_words.specs.Seen.{program_seen}
 use Rattle.resource_book.proofs.GivesLaws.{book_gives}
-use Rattle.resource_book.proofs.Kept.{created_kept}
+use Rattle.resource_book.proofs.Kept.{created_kept, reserved_kept}
 use Rattle.resource_book.proofs.book.Book.create_program.Goals as goal
 
 pub returns-clause-answer : goal.returns-clause-answer
@@ -13,3 +13,6 @@ returns-clause-free c = book_gives (Ok c.make-handle.result) (create_program (pr
 
 pub invariant_of-self-2 : goal.invariant_of-self-2
 invariant_of-self-2 c = created_kept c.self.inside _ c.args.self.now (create_program (program_seen c.args.kind)) c.make-handle.result c.self.invariant c.self.view_is (returns-clause-answer c) c.make-handle.ensures.limits refl
+
+pub invariant_of-self : goal.invariant_of-self
+invariant_of-self c = reserved_kept c.self.inside c.reserve.new.shelf c.reserve.new.orders c.self.invariant c.reserve.ensures.same c.reserve.ensures.stacks

@@ -1,7 +1,7 @@
 use Rattle.std.proofs.Common.{rules, refl}
 use Rattle.gfx_model.specs.Resources.{create_uniform}
 use Rattle.gfx_words.specs.Kinds.{uniform_seen}
-use Rattle.resource_book.proofs.Kept.{created_kept}
+use Rattle.resource_book.proofs.Kept.{created_kept, reserved_kept}
 use Rattle.resource_book.proofs.book.Book.new_uniform.Goals as goal
 
 pub returns : goal.returns
@@ -9,3 +9,6 @@ returns c = search rules
 
 pub invariant_of-self-2 : goal.invariant_of-self-2
 invariant_of-self-2 c = created_kept c.self.inside _ c.args.self.now (create_uniform c.args.name.now (uniform_seen c.args.kind)) c.make-handle.result c.self.invariant c.self.view_is (returns c) c.make-handle.ensures.limits refl
+
+pub invariant_of-self : goal.invariant_of-self
+invariant_of-self c = reserved_kept c.self.inside c.reserve.new.shelf c.reserve.new.orders c.self.invariant c.reserve.ensures.same c.reserve.ensures.stacks
