@@ -99,11 +99,13 @@ pub(crate) enum Way {
     Look { frame: u32, look: Look },
 }
 
-/// What is wanted of a frame: the pictures of its steps and their lines, or the picture of the deeds to which its pixels are due.
+/// What is wanted of a frame: the pictures of its steps and their lines, the picture of the deeds to which its pixels are due, or the lines of a
+/// pixel of the frame buffer whose name is the case's only word.
 #[derive(Clone, Copy, PartialEq, Eq, Drop)]
 pub(crate) enum Look {
     Steps,
     Blame,
+    Target { x: u32, y: u32 },
 }
 
 /// A case: what is run, and what it has to leave, or what it may leave as well.

@@ -16,6 +16,7 @@ pub(crate) fn read_line(alloc: Global, case: &mut Case, line: &str) -> Result<bo
             },
         )),
         "again" => Ok(put_way(case, Way::Again)),
+        "target" => put_target(alloc, case, rest),
         "queries" => Ok(put_way(case, Way::Queries)),
         "text" => Ok(put_text(case)),
         "line" => put_line(&mut case.text, 1, rest),
@@ -135,6 +136,33 @@ fn put_numbers(numbers: &mut Vec<u32>, rest: &str) -> Result<bool, AllocError> {
         }
     }
     Ok(true)
+}
+
+// A pixel of a frame that is looked into.
+fn put_spot(case: &mut Case, numbers: &[u32]) -> bool {
+    match numbers {
+        [frame, x, y] => put_way(
+            case,
+            Way::Look {
+                frame: *frame,
+                look: Look::Target { x: *x, y: *y },
+            },
+        ),
+        _ => false,
+    }
+}
+
+// `target NAME F X Y`: a pixel of the frame buffer of a name, which is the case's only word.
+fn put_target(alloc: Global, case: &mut Case, rest: &str) -> Result<bool, AllocError> {
+    let (name, places) = rest.split_once(' ').unwrap_or((rest, ""));
+    let mut numbers = Vec::new(alloc);
+    if !put_numbers(&mut numbers, places)? {
+        return Ok(false);
+    }
+    if !put_words(alloc, case, name)? {
+        return Ok(false);
+    }
+    Ok(put_spot(case, &numbers))
 }
 
 // The lines of numbers.
