@@ -97,6 +97,16 @@ pub(crate) enum Way {
     Queries,
     /// By its bytes alone: a scene, of which a frame is looked into.
     Look { frame: u32, look: Look },
+    /// By its words, as this program runs.
+    Program(Program),
+}
+
+/// Programs beside the player, each by the call of its library.
+#[derive(Clone, Copy, PartialEq, Eq, Drop)]
+pub(crate) enum Program {
+    Shares,
+    Check,
+    Diff,
 }
 
 /// What is wanted of a frame: the pictures of its steps and their lines, the picture of the deeds to which its pixels are due, or the lines of a

@@ -151,7 +151,7 @@ pub(crate) fn look_into(
             let ending = Ending {
                 status: NO_SCENE,
                 at: line,
-                cause,
+                cause: u32::from(cause),
             };
             Ok(left(ending, Vec::new(alloc), Vec::new(alloc)))
         }

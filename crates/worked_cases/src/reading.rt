@@ -1,5 +1,5 @@
 // The lines of a case.
-use crate::case::{Case, Look, Takes, Trouble, Wanted, Way};
+use crate::case::{Case, Look, Program, Takes, Trouble, Wanted, Way};
 use crate::gate::Hold;
 use crate::judging::Ending;
 use std::alloc::{AllocError, Global};
@@ -18,14 +18,17 @@ pub(crate) fn read_line(alloc: Global, case: &mut Case, line: &str) -> Result<bo
         "again" => Ok(put_way(case, Way::Again)),
         "target" => put_target(alloc, case, rest),
         "queries" => Ok(put_way(case, Way::Queries)),
+        "program" => Ok(put_program(case, rest)),
         "text" => Ok(put_text(case)),
         "line" => put_line(&mut case.text, 1, rest),
         "lines" => put_lines(case, rest),
         "bytes" => put_bytes(&mut case.text, rest),
+        "repeat" => put_fill(&mut case.text, rest),
         "leaves" => Ok(put_nothing(case.current())),
         "or" => Ok(put_other(alloc, case)),
         "pixels" => put_bytes(&mut case.current().pictures, rest),
         "fill" => put_fill(&mut case.current().pictures, rest),
+        "output" => put_line(&mut case.current().pictures, 1, rest),
         "note" => put_line(&mut case.current().notes, 1, rest),
         _ => {
             let mut numbers = Vec::new(alloc);
@@ -37,12 +40,17 @@ pub(crate) fn read_line(alloc: Global, case: &mut Case, line: &str) -> Result<bo
     }
 }
 
+// A word as it is written in a case: two quotes are the word without letters.
+fn word_of(word: &str) -> &str {
+    if word == "\"\"" { "" } else { word }
+}
+
 // The words of a run, each between blanks.
 fn put_words(alloc: Global, case: &mut Case, rest: &str) -> Result<bool, AllocError> {
     case.way = Way::Words;
     case.words.clear();
     for word in rest.split(' ').filter(|word| !word.is_empty()) {
-        case.words.push(word.to_string(alloc)?)?;
+        case.words.push(word_of(word).to_string(alloc)?)?;
     }
     Ok(true)
 }
@@ -50,6 +58,23 @@ fn put_words(alloc: Global, case: &mut Case, rest: &str) -> Result<bool, AllocEr
 fn put_way(case: &mut Case, way: Way) -> bool {
     case.way = way;
     true
+}
+
+// `program NAME`: the words are those of the program gfx_NAME.
+fn put_program(case: &mut Case, name: &str) -> bool {
+    match program_of(name) {
+        Some(program) => put_way(case, Way::Program(program)),
+        None => false,
+    }
+}
+
+fn program_of(name: &str) -> Option<Program> {
+    match name {
+        "shares" => Some(Program::Shares),
+        "check" => Some(Program::Check),
+        "diff" => Some(Program::Diff),
+        _ => None,
+    }
 }
 
 // What is read begins anew.
@@ -206,7 +231,7 @@ fn ending_of(numbers: &[u32]) -> Option<Ending> {
         [status, at, cause] => Some(Ending {
             status: narrow(*status),
             at: *at,
-            cause: narrow(*cause),
+            cause: *cause,
         }),
         _ => None,
     }
