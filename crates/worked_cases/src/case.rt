@@ -99,11 +99,14 @@ pub(crate) enum Way {
     Look { frame: u32, look: Look },
     /// By its words, as this program runs.
     Program(Program),
+    /// As so many frames of the ring of `gfx_example`, which reads nothing.
+    Ring { frames: u16 },
 }
 
-/// Programs beside the player, each by the call of its library.
+/// The programs beside the player, each by the call of its library.
 #[derive(Clone, Copy, PartialEq, Eq, Drop)]
 pub(crate) enum Program {
+    Capture,
     Shares,
     Check,
     Diff,

@@ -1,14 +1,29 @@
 // Runs of the programs beside the player.
 use crate::case::{Case, Program};
 use crate::judging::Ending;
-use crate::running::{Left, sinks};
+use crate::running::{Left, sink, sinks};
+use capture_running::{CaptureStatus, capture};
 use check_running::{CheckStatus, check};
 use diff_running::{DiffStatus, diff};
-use io_edge::{MemSink, MemSource};
+use io_edge::{MemSink, MemSource, NoGate};
+use ring_turning::{Spun, spin};
 use shares_running::{SharesStatus, shares};
 use std::alloc::{AllocError, Global};
 use std::sync::Wait;
 use std::thread::Threads;
+
+fn ending_of_capture(status: CaptureStatus) -> Ending {
+    let (at, cause) = match status {
+        CaptureStatus::Scene { line, cause } => (line, u32::from(cause)),
+        CaptureStatus::Capture { frame, cause } => (frame, u32::from(cause)),
+        _ => (0, 0),
+    };
+    Ending {
+        status: status.number(),
+        at,
+        cause,
+    }
+}
 
 fn ending_of_shares(status: SharesStatus) -> Ending {
     let (at, cause) = match status {
@@ -61,6 +76,28 @@ struct Streams {
     notes: MemSink,
 }
 
+// How a capture ended, and how many frames did.
+fn captured<R: Threads + Wait + Sync>(
+    rt: &R,
+    alloc: Global,
+    words: &[String],
+    streams: &mut Streams,
+) -> (Ending, usize) {
+    let captured = capture(
+        rt,
+        alloc,
+        words,
+        &mut streams.source,
+        &mut streams.output,
+        &mut streams.notes,
+        &NoGate,
+    );
+    (
+        ending_of_capture(captured.status),
+        captured.journal.frames.as_slice().len(),
+    )
+}
+
 // The lines of shared keys are the notes.
 fn shared<R: Threads + Wait + Sync>(
     rt: &R,
@@ -90,18 +127,19 @@ fn compared(alloc: Global, words: &[String], streams: &mut Streams) -> Ending {
     ))
 }
 
-// How a program ended.
+// How a program ended, and how many frames did.
 fn ended<R: Threads + Wait + Sync>(
     rt: &R,
     alloc: Global,
     program: Program,
     words: &[String],
     streams: &mut Streams,
-) -> Ending {
+) -> (Ending, usize) {
     match program {
-        Program::Shares => shared(rt, alloc, words, streams),
-        Program::Check => checked(alloc, streams),
-        Program::Diff => compared(alloc, words, streams),
+        Program::Capture => captured(rt, alloc, words, streams),
+        Program::Shares => (shared(rt, alloc, words, streams), 0),
+        Program::Check => (checked(alloc, streams), 0),
+        Program::Diff => (compared(alloc, words, streams), 0),
     }
 }
 
@@ -116,12 +154,16 @@ fn streams_of(alloc: Global, case: &Case) -> Result<Streams, AllocError> {
     })
 }
 
-fn left_in(alloc: Global, ending: Ending, streams: &Streams) -> Result<Left, AllocError> {
+fn left_in(
+    alloc: Global,
+    (ending, frames): (Ending, usize),
+    streams: &Streams,
+) -> Result<Left, AllocError> {
     let pictures = streams.output.bytes().to_vec(alloc)?;
     let notes = streams.notes.bytes().to_vec(alloc)?;
     Ok(Left {
         ending,
-        frames: 0,
+        frames,
         pictures,
         notes,
         is_held: true,
@@ -137,6 +179,29 @@ pub(crate) fn run_program<R: Threads + Wait + Sync>(
     program: Program,
 ) -> Result<Left, AllocError> {
     let mut streams = streams_of(alloc, case)?;
-    let ending = ended(rt, alloc, program, &case.words, &mut streams);
-    left_in(alloc, ending, &streams)
+    let end = ended(rt, alloc, program, &case.words, &mut streams);
+    left_in(alloc, end, &streams)
+}
+
+/// So many frames of the ring of `gfx_example`, with their pictures in a case's sink.
+pub(crate) fn turn_ring<R: Threads + Wait + Sync>(
+    rt: &R,
+    alloc: Global,
+    case: &Case,
+    frames: u16,
+) -> Result<Left, AllocError> {
+    let pictures = sink(alloc, &case.trouble.pictures)?;
+    let spun = spin(rt, alloc, frames, pictures);
+    left_by_spin(alloc, &spun)
+}
+
+fn left_by_spin(alloc: Global, spun: &Spun<MemSink>) -> Result<Left, AllocError> {
+    let pictures = spun.sink.bytes().to_vec(alloc)?;
+    Ok(Left {
+        ending: Ending::plain(spun.end.number()),
+        frames: 0,
+        pictures,
+        notes: Vec::new(alloc),
+        is_held: true,
+    })
 }

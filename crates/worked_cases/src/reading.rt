@@ -70,6 +70,7 @@ fn put_program(case: &mut Case, name: &str) -> bool {
 
 fn program_of(name: &str) -> Option<Program> {
     match name {
+        "capture" => Some(Program::Capture),
         "shares" => Some(Program::Shares),
         "check" => Some(Program::Check),
         "diff" => Some(Program::Diff),
@@ -210,6 +211,7 @@ fn put_counts(
         "items" => Ok(put_items(&mut case.trouble, numbers)),
         "steps" => Ok(put_look(case, Look::Steps, numbers)),
         "blame" => Ok(put_look(case, Look::Blame, numbers)),
+        "ring" => Ok(put_ring(case, numbers)),
         _ => Ok(false),
     }
 }
@@ -339,6 +341,17 @@ fn put_look(case: &mut Case, look: Look, numbers: &[u32]) -> bool {
                 look,
             },
         ),
+        _ => false,
+    }
+}
+
+// `ring N`: so many frames of the ring, at most 65,535.
+fn put_ring(case: &mut Case, numbers: &[u32]) -> bool {
+    match numbers {
+        [frames] => {
+            let frames = u16::try_from(*frames).unwrap_or(u16::MAX);
+            put_way(case, Way::Ring { frames })
+        }
         _ => false,
     }
 }

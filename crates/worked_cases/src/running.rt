@@ -3,7 +3,7 @@ use crate::case::{Case, Takes, Trouble, Way};
 use crate::gate::CaseGate;
 use crate::judging::{Ending, Outcome, is_same};
 use crate::looking::look_into;
-use crate::programs::run_program;
+use crate::programs::{run_program, turn_ring};
 use gfx_query::{QueryStatus, run_queries};
 use io_edge::{MemSink, MemSource};
 use scene_player::{Played, Status, play, play_bytes_here};
@@ -153,6 +153,7 @@ fn run<R: Threads + Wait + Sync>(rt: &R, alloc: Global, case: &Case) -> Result<L
         Way::Queries => run_script(alloc, case),
         Way::Look { frame, look } => look_into(alloc, case, frame, look),
         Way::Program(program) => run_program(rt, alloc, case, program),
+        Way::Ring { frames } => turn_ring(rt, alloc, case, frames),
         Way::Words | Way::Again => run_at_gate(rt, alloc, case),
     }
 }
