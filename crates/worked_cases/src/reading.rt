@@ -23,11 +23,11 @@ pub(crate) fn read_line(alloc: Global, case: &mut Case, line: &str) -> Result<bo
         "line" => put_line(&mut case.text, 1, rest),
         "lines" => put_lines(case, rest),
         "bytes" => put_bytes(&mut case.text, rest),
-        "repeat" => put_fill(&mut case.text, rest),
+        "repeat" => put_fill(alloc, &mut case.text, rest),
         "leaves" => Ok(put_nothing(case.current())),
         "or" => Ok(put_other(alloc, case)),
         "pixels" => put_bytes(&mut case.current().pictures, rest),
-        "fill" => put_fill(&mut case.current().pictures, rest),
+        "fill" => put_fill(alloc, &mut case.current().pictures, rest),
         "output" => put_line(&mut case.current().pictures, 1, rest),
         "note" => put_line(&mut case.current().notes, 1, rest),
         _ => {
@@ -140,16 +140,18 @@ fn put_bytes(bytes: &mut Vec<u8>, digits: &str) -> Result<bool, AllocError> {
     Ok(high.is_none())
 }
 
-// `fill N HEX`: the same bytes so often.
-fn put_fill(bytes: &mut Vec<u8>, rest: &str) -> Result<bool, AllocError> {
+// `fill N HEX` and `repeat N HEX`: the same bytes so often.
+fn put_fill(alloc: Global, bytes: &mut Vec<u8>, rest: &str) -> Result<bool, AllocError> {
     let (times, digits) = rest.split_once(' ').unwrap_or((rest, ""));
     let Ok(times) = times.parse::<u32>() else {
         return Ok(false);
     };
+    let mut unit = Vec::new(alloc);
+    if !put_bytes(&mut unit, digits)? {
+        return Ok(false);
+    }
     for _ in 0..times {
-        if !put_bytes(bytes, digits)? {
-            return Ok(false);
-        }
+        bytes.extend_from_slice(&unit)?;
     }
     Ok(true)
 }
