@@ -5,21 +5,7 @@
 //! the notes failed, 6 an input that is too long, 8 memory ran out, 9 pictures that are too large, 10 no capture.
 #![tactic(auto)]
 
-mod captured;
-mod given;
-pub mod laws;
-mod recording;
-mod run;
-mod showing;
-mod size;
-mod status;
-#[cfg(test)]
-mod tests;
-mod words;
-
-pub use crate::captured::Captured;
-pub use crate::run::capture;
-pub use crate::status::CaptureStatus;
+use capture_running::{CaptureStatus, capture};
 use io_edge::{NoGate, StdSink, StdSource};
 use std::alloc::{Alloc, Global};
 use std::env::{self, Env};

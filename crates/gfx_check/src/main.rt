@@ -5,15 +5,7 @@
 //! 8 memory ran out.
 #![tactic(auto)]
 
-mod checking;
-mod lines;
-mod putting;
-mod status;
-#[cfg(test)]
-mod tests;
-
-pub use crate::checking::check;
-pub use crate::status::CheckStatus;
+use check_running::check;
 use io_edge::{StdSink, StdSource};
 use std::alloc::{Alloc, Global};
 use std::process::ExitCode;

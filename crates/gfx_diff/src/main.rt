@@ -9,15 +9,7 @@
 //! out, 64 refused words.
 #![tactic(auto)]
 
-mod diffing;
-mod notes;
-mod status;
-#[cfg(test)]
-mod tests;
-mod words;
-
-pub use crate::diffing::diff;
-pub use crate::status::DiffStatus;
+use diff_running::{DiffStatus, diff};
 use io_edge::{StdSink, StdSource};
 use std::alloc::{Alloc, Global};
 use std::env::{self, Env};

@@ -4,18 +4,9 @@
 //! The exit status is 0 where all pictures were written, 4 where a write failed, and 8 where a call was refused, as for want of memory.
 #![tactic(auto)]
 
-mod recording;
-mod ring;
-mod spinning;
-mod things;
-mod turning;
-
-use crate::spinning::spin;
 use io_edge::StdSink;
+use ring_turning::spin;
 use std::process::ExitCode;
-
-#[cfg(test)]
-mod tests;
 
 /// How many frames a whole turn has.
 const FRAMES: u16 = 16;

@@ -6,23 +6,8 @@
 //! is too long, 8 memory ran out.
 #![tactic(auto)]
 
-mod harmless;
-mod leaving;
-mod lines;
-mod listing;
-mod pairing;
-mod pairs;
-mod sharing;
-mod status;
-#[cfg(test)]
-mod tests;
-mod views;
-mod words;
-
-pub use crate::sharing::shares;
-pub use crate::status::SharesStatus;
-pub use crate::words::Job;
 use io_edge::{StdSink, StdSource};
+use shares_running::{SharesStatus, shares};
 use std::alloc::{Alloc, Global};
 use std::env::{self, Env};
 use std::io::{self, ErrorKind};

@@ -1,23 +1,27 @@
 -- What each status says of what the source told, and what stands after a job from its parts.
-use Rattle.std.proofs.Common.{inl, inr, arith, ◌≤◌, ◌<◌, ◌≡◌, ◌⊎◌, ℕ, ◌+◌, Bool, true, false, ◌&&◌, if◌then◌else◌, nat_lt, List, ◌++◌, length, Option, Some, None, refl, sym, ap, subst, ◌∙◌, [], append-nil}
+use Rattle.std.proofs.Common.{inl, inr, arith, ◌≤◌, ◌<◌, ◌≡◌, ◌⊎◌, ℕ, ◌+◌, Bool, true, false, ◌&&◌, if◌then◌else◌, nat_lt, List, ◌++◌, length, Option, Some, None, IsSome, is_some, refl, sym, ap, subst, ◌∙◌, [], append-nil}
 use Rattle.std.proofs.lemmas.Bool.Decides.{nat_tests}
 use Rattle.std.proofs.lemmas.List.{length-append}
 use Rattle.std.proofs.lemmas.Option.{same_Some, none-some}
+use Rattle.std.specs.Prelude.{option_map}
 use Rattle.io_edge.specs.Edge.{with_front, with_back, IsSpent}
 use Rattle.io_whole.specs.Whole.{longest, HasMoreThan}
+use Rattle.gfx_model.specs.Words.{Handle}
 use Rattle.scene_model.specs.Scene.{Scene}
 use Rattle.scene_model.specs.Journal.{Journal}
 use Rattle.gfx_trace.specs.Asked.{Asked, scene_by, asked_of}
-use Rattle.gfx_trace.specs.Ended.{place_status, asked_status, status_of, text_of, notes_of, IsPut, IsNoted, AreEnded, HasFailedToNote, HasStopped, IsStopped, IsAnswered, EndsJob, Ends, IsGiven, AreTaken, EndsAs}
+use Rattle.target_laws.specs.Text.{scene_target_lines}
+use Rattle.gfx_trace.specs.Ended.{lines_status, place_status, asked_status, status_of, text_of, notes_of, IsPut, IsNoted, AreEnded, HasFailedToNote, HasStopped, IsStopped, IsAnswered, EndsJob, Ends, IsGiven, AreTaken, EndsAs}
 use Rattle.io_whole.specs.Runs.{Reading, Putting, HasFailedToTake, IsUntouched, HasPut, HasPutFront, HasTried}
 use Rattle.io_whole.proofs.Pieces.{with_back-nothing}
 use Rattle.scene_tracing.specs.Stepping.{Told, HasPutText}
 use Rattle.scene_tracing.specs.declared.stepped.StepsEnd.{StepsEnd}
 use Rattle.gfx_trace.specs.Io.{IsRead}
-use Rattle.gfx_trace.specs.Refusals.{refusal_line, MayRefuse}
-use Rattle.gfx_trace.specs.declared.words.Job.{Job}
+use Rattle.gfx_trace.specs.Refusals.{pixel_line, refusal_line, target_pixel_line, MayRefuse}
+use Rattle.gfx_trace.specs.Jobs.{Job, job_seen}
+use Rattle.gfx_trace.specs.declared.words.Job as code
 use Rattle.gfx_trace.specs.declared.words.Place.{Place}
-use Rattle.gfx_trace.specs.declared.words.Job.TheVariants as jobs
+use Rattle.gfx_trace.specs.Jobs as jobs
 use Rattle.gfx_trace.specs.declared.status.TraceStatus.{TraceStatus}
 use Rattle.gfx_trace.specs.declared.status.TraceStatus.TheVariants as status
 
@@ -54,14 +58,16 @@ status_long job bytes source told h =
 -- ---- how a run ends
 
 sink-taken : (job : Job) (sink notes : Putting) → AreTaken (Some job) sink notes → HasFailedToTake sink → ⊥
-sink-taken (jobs.Pixel p) sink notes t = t
-sink-taken (jobs.Steps frame) sink notes t = t.0
-sink-taken (jobs.Blame frame) sink notes t = t
+sink-taken (jobs.pixel_job p) sink notes t = t
+sink-taken (jobs.target_job p name) sink notes t = t
+sink-taken (jobs.steps_job frame) sink notes t = t.0
+sink-taken (jobs.blame_job frame) sink notes t = t
 
 notes-taken : (job : Job) (bytes : List ℕ) (sink notes : Putting) → AreTaken (Some job) sink notes → HasFailedToNote job bytes sink notes → ⊥
-notes-taken (jobs.Pixel p) bytes sink notes t h = h
-notes-taken (jobs.Steps frame) bytes sink notes t h = t.1 h.2
-notes-taken (jobs.Blame frame) bytes sink notes t h = h
+notes-taken (jobs.pixel_job p) bytes sink notes t h = h
+notes-taken (jobs.target_job p name) bytes sink notes t h = h
+notes-taken (jobs.steps_job frame) bytes sink notes t h = t.1 h.2
+notes-taken (jobs.blame_job frame) bytes sink notes t h = h
 
 job_ends_as : (st : TraceStatus) (job : Job) (source : Reading) (sink notes : Putting) (bytes : List ℕ) → EndsJob st job source sink notes → IsGiven (Some job) source bytes → (status_of (Some job) bytes ≡ status.Done → AreTaken (Some job) sink notes) → EndsAs (status_of (Some job) bytes) st
 job_ends_as status.Done job source sink notes bytes (b, r, h) given cut = inl (sym (status_told job bytes b status.Done source given.0 r h.0))
@@ -81,11 +87,19 @@ pub ends_as : (st : TraceStatus) (o : Option Job) (source : Reading) (sink notes
 ends_as st None source sink notes bytes h given cut = inl h.0
 ends_as st (Some job) source sink notes bytes h given cut = job_ends_as st job source sink notes bytes h given cut
 
+-- ---- the job of the words
+
+pub job_run : (st : TraceStatus) (o : Option Job) (r : Option code.Job) (job : code.Job) (source : Reading) (sink notes : Putting) → option_map job_seen r ≡ o → r ≡ Some job → EndsJob st (job_seen job) source sink notes → Ends st o source sink notes
+job_run st o r job source sink notes seen is h = subst (λ (i : Option Job). Ends st i source sink notes) (sym (ap (option_map job_seen) is) ∙ seen) h
+
+pub none_run : (st : TraceStatus) (o : Option Job) (r : Option code.Job) (source : Reading) (sink notes : Putting) → option_map job_seen r ≡ o → r ≡ None → Ends st None source sink notes → Ends st o source sink notes
+none_run st o r source sink notes seen is h = subst (λ (i : Option Job). Ends st i source sink notes) (sym (ap (option_map job_seen) is) ∙ seen) h
+
 -- ---- what stands after a job
 
 -- a pixel
-pub put_answered : (st : TraceStatus) (p : Place) (bytes text : List ℕ) (sink notes : Putting) → asked_status (jobs.Pixel p) (asked_of bytes) ≡ status.Done → text_of (jobs.Pixel p) bytes ≡ text → IsPut st text sink → IsUntouched notes
-    → IsAnswered st (jobs.Pixel p) bytes sink notes
+pub put_answered : (st : TraceStatus) (p : Place) (bytes text : List ℕ) (sink notes : Putting) → asked_status (jobs.pixel_job p) (asked_of bytes) ≡ status.Done → text_of (jobs.pixel_job p) bytes ≡ text → IsPut st text sink → IsUntouched notes
+    → IsAnswered st (jobs.pixel_job p) bytes sink notes
 put_answered status.Done p bytes text sink notes is same h quiet = (is, h ∙ ap (with_back sink.before) (sym same), quiet)
 put_answered status.Usage p bytes text sink notes is same h quiet = absurd h
 put_answered (status.Scene line cause) p bytes text sink notes is same h quiet = absurd h
@@ -98,9 +112,24 @@ put_answered status.OutOfMemory p bytes text sink notes is same h quiet = (h, qu
 put_answered status.NoFrame p bytes text sink notes is same h quiet = absurd h
 put_answered status.NoPixel p bytes text sink notes is same h quiet = absurd h
 
+-- a pixel of a frame buffer
+pub target_answered : (st : TraceStatus) (p : Place) (name bytes text : List ℕ) (sink notes : Putting) → asked_status (jobs.target_job p name) (asked_of bytes) ≡ status.Done → text_of (jobs.target_job p name) bytes ≡ text → IsPut st text sink → IsUntouched notes
+    → IsAnswered st (jobs.target_job p name) bytes sink notes
+target_answered status.Done p name bytes text sink notes is same h quiet = (is, h ∙ ap (with_back sink.before) (sym same), quiet)
+target_answered status.Usage p name bytes text sink notes is same h quiet = absurd h
+target_answered (status.Scene line cause) p name bytes text sink notes is same h quiet = absurd h
+target_answered status.ReadFault p name bytes text sink notes is same h quiet = absurd h
+target_answered status.PictureFault p name bytes text sink notes is same h quiet = (is, subst (λ (t : List ℕ). HasPutFront t sink) (sym same) h.0, h.1, quiet)
+target_answered status.NoteFault p name bytes text sink notes is same h quiet = absurd h
+target_answered status.TooLong p name bytes text sink notes is same h quiet = absurd h
+target_answered (status.Journal place) p name bytes text sink notes is same h quiet = absurd h
+target_answered status.OutOfMemory p name bytes text sink notes is same h quiet = (h, quiet)
+target_answered status.NoFrame p name bytes text sink notes is same h quiet = absurd h
+target_answered status.NoPixel p name bytes text sink notes is same h quiet = absurd h
+
 -- a picture of deeds
-pub blame_answered : (st : TraceStatus) (frame : ℕ) (bytes text : List ℕ) (sink notes : Putting) → asked_status (jobs.Blame frame) (asked_of bytes) ≡ status.Done → text_of (jobs.Blame frame) bytes ≡ text → IsPut st text sink → IsUntouched notes
-    → IsAnswered st (jobs.Blame frame) bytes sink notes
+pub blame_answered : (st : TraceStatus) (frame : ℕ) (bytes text : List ℕ) (sink notes : Putting) → asked_status (jobs.blame_job frame) (asked_of bytes) ≡ status.Done → text_of (jobs.blame_job frame) bytes ≡ text → IsPut st text sink → IsUntouched notes
+    → IsAnswered st (jobs.blame_job frame) bytes sink notes
 blame_answered status.Done frame bytes text sink notes is same h quiet = (is, h ∙ ap (with_back sink.before) (sym same), quiet)
 blame_answered status.Usage frame bytes text sink notes is same h quiet = absurd h
 blame_answered (status.Scene line cause) frame bytes text sink notes is same h quiet = absurd h
@@ -128,18 +157,18 @@ noted_ended status.NoFrame end lines notes none h = absurd h
 noted_ended status.NoPixel end lines notes none h = absurd h
 
 -- steps, by how they ended
-module _ (frame : ℕ) (bytes text lines : List ℕ) (old : Told) (end : StepsEnd) (new : Told) (notes : Putting) (is : asked_status (jobs.Steps frame) (asked_of bytes) ≡ status.Done)
-    (text_is : text_of (jobs.Steps frame) bytes ≡ text) (lines_are : end.fault ≡ None → notes_of (jobs.Steps frame) bytes ≡ lines) (put : HasPutText text old end new) where
+module _ (frame : ℕ) (bytes text lines : List ℕ) (old : Told) (end : StepsEnd) (new : Told) (notes : Putting) (is : asked_status (jobs.steps_job frame) (asked_of bytes) ≡ status.Done)
+    (text_is : text_of (jobs.steps_job frame) bytes ≡ text) (lines_are : end.fault ≡ None → notes_of (jobs.steps_job frame) bytes ≡ lines) (put : HasPutText text old end new) where
   abbrev sink : Putting
   sink = record { before = old.held; after = new.held; faults_before = old.faults; faults_after = new.faults }
 
-  whole : end.fault ≡ None → HasPut (text_of (jobs.Steps frame) bytes) sink
+  whole : end.fault ≡ None → HasPut (text_of (jobs.steps_job frame) bytes) sink
   whole none = put.whole none ∙ ap (with_back old.held) (sym text_is)
 
-  front : HasPutFront (text_of (jobs.Steps frame) bytes) sink
+  front : HasPutFront (text_of (jobs.steps_job frame) bytes) sink
   front = subst (λ (t : List ℕ). HasPutFront t sink) (sym text_is) put.front
 
-  pub steps_answered : (st : TraceStatus) → AreEnded st end lines notes → IsAnswered st (jobs.Steps frame) bytes sink notes
+  pub steps_answered : (st : TraceStatus) → AreEnded st end lines notes → IsAnswered st (jobs.steps_job frame) bytes sink notes
   steps_answered status.Done h = (is, whole h.0, h.1 ∙ ap (with_back notes.before) (sym (lines_are h.0)))
   steps_answered status.Usage h = absurd h
   steps_answered (status.Scene line cause) h = absurd h
@@ -158,9 +187,10 @@ none_front text sink h = (0, h ∙ with_back-nothing sink.before)
 
 -- nothing was put where memory ran out
 none_stopped : (job : Job) (bytes : List ℕ) (sink : Putting) → IsUntouched sink → HasStopped job bytes sink
-none_stopped (jobs.Pixel p) bytes sink h = h
-none_stopped (jobs.Blame frame) bytes sink h = h
-none_stopped (jobs.Steps frame) bytes sink h = none_front (text_of (jobs.Steps frame) bytes) sink h
+none_stopped (jobs.pixel_job p) bytes sink h = h
+none_stopped (jobs.target_job p name) bytes sink h = h
+none_stopped (jobs.blame_job frame) bytes sink h = h
+none_stopped (jobs.steps_job frame) bytes sink h = none_front (text_of (jobs.steps_job frame) bytes) sink h
 
 pub memory_answered : (job : Job) (bytes : List ℕ) (sink notes : Putting) → IsUntouched sink → IsUntouched notes → IsAnswered status.OutOfMemory job bytes sink notes
 memory_answered job bytes sink notes u q = (none_stopped job bytes sink u, q)
@@ -169,9 +199,10 @@ pub memory_ends : (job : Job) (source : Reading) (sink notes : Putting) → IsUn
 memory_ends job source sink notes u q = (go job, q)
   where
     go : (job : Job) → IsStopped job source sink
-    go (jobs.Pixel p) = u
-    go (jobs.Steps frame) = inl u
-    go (jobs.Blame frame) = u
+    go (jobs.pixel_job p) = u
+    go (jobs.target_job p name) = u
+    go (jobs.steps_job frame) = inl u
+    go (jobs.blame_job frame) = u
 
 -- the statuses with which a job over bytes is refused
 abbrev pub IsRefusal : TraceStatus → Type 0
@@ -181,7 +212,7 @@ IsRefusal status.NoFrame = Unit {0}
 IsRefusal status.NoPixel = Unit {0}
 IsRefusal _ = ⊥
 
-refusal_is : (st : TraceStatus) (job : Job) (bytes : List ℕ) (sink notes : Putting) → IsRefusal st → asked_status job (asked_of bytes) ≡ st → IsUntouched sink → HasTried (refusal_line job st) notes → IsAnswered st job bytes sink notes
+refusal_is : (st : TraceStatus) (job : Job) (bytes : List ℕ) (sink notes : Putting) → IsRefusal st → asked_status job (asked_of bytes) ≡ st → IsUntouched sink → HasTried (refusal_line job (asked_of bytes) st) notes → IsAnswered st job bytes sink notes
 refusal_is status.Done job bytes sink notes r is u t = absurd r
 refusal_is status.Usage job bytes sink notes r is u t = absurd r
 refusal_is (status.Scene line cause) job bytes sink notes r is u t = (is, u, t)
@@ -194,16 +225,17 @@ refusal_is status.OutOfMemory job bytes sink notes r is u t = absurd r
 refusal_is status.NoFrame job bytes sink notes r is u t = (is, u, t)
 refusal_is status.NoPixel job bytes sink notes r is u t = (is, u, t)
 
-pub refused_answered : (wanted st : TraceStatus) (job : Job) (bytes line : List ℕ) (sink notes : Putting) → IsRefusal wanted → asked_status job (asked_of bytes) ≡ wanted → refusal_line job wanted ≡ line → IsUntouched sink → MayRefuse wanted st line notes
+pub refused_answered : (wanted st : TraceStatus) (job : Job) (bytes line : List ℕ) (sink notes : Putting) → IsRefusal wanted → asked_status job (asked_of bytes) ≡ wanted → refusal_line job (asked_of bytes) wanted ≡ line → IsUntouched sink → MayRefuse wanted st line notes
     → IsAnswered st job bytes sink notes
 refused_answered wanted st job bytes line sink notes r is same u (inl (e, t)) =
     subst (λ (x : TraceStatus). IsAnswered x job bytes sink notes) (sym e) (refusal_is wanted job bytes sink notes r is u (subst (λ (l : List ℕ). HasTried l notes) (sym same) t))
 refused_answered wanted st job bytes line sink notes r is same u (inr (e, q)) = subst (λ (x : TraceStatus). IsAnswered x job bytes sink notes) (sym e) (none_stopped job bytes sink u, q)
 
 stopped_ends : (job : Job) (bytes : List ℕ) (source : Reading) (sink : Putting) → IsRead bytes source → HasStopped job bytes sink → IsStopped job source sink
-stopped_ends (jobs.Pixel p) bytes source sink r h = h
-stopped_ends (jobs.Steps frame) bytes source sink r h = inr (bytes, r, h)
-stopped_ends (jobs.Blame frame) bytes source sink r h = h
+stopped_ends (jobs.pixel_job p) bytes source sink r h = h
+stopped_ends (jobs.target_job p name) bytes source sink r h = h
+stopped_ends (jobs.steps_job frame) bytes source sink r h = inr (bytes, r, h)
+stopped_ends (jobs.blame_job frame) bytes source sink r h = h
 
 pub answered_ends : (st : TraceStatus) (job : Job) (bytes : List ℕ) (source : Reading) (sink notes : Putting) → IsRead bytes source → IsAnswered st job bytes sink notes → EndsJob st job source sink notes
 answered_ends status.Done job bytes source sink notes r h = (bytes, r, h)
@@ -223,44 +255,81 @@ answered_ends status.NoPixel job bytes source sink notes r h = (bytes, r, h)
 abbrev by_tests : (frame pixel : Bool) → TraceStatus
 by_tests frame pixel = if frame then (if pixel then status.Done else status.NoPixel) else status.NoFrame
 
-module _ (s : Scene) (p : Place) where
+module _ (s : Scene) (j : Journal) (p : Place) where
   abbrev is_inside : Bool
   is_inside = nat_lt p.x s.width && nat_lt p.y s.height
 
-  pub no_frame : nat_lt p.frame (length s.frames) ≡ false → place_status s (jobs.Pixel p) ≡ status.NoFrame
+  pub no_frame : nat_lt p.frame (length s.frames) ≡ false → place_status s j (jobs.pixel_job p) ≡ status.NoFrame
   no_frame e = ap (λ b. by_tests b is_inside) e
 
-  pub no_pixel : nat_lt p.frame (length s.frames) ≡ true → is_inside ≡ false → place_status s (jobs.Pixel p) ≡ status.NoPixel
+  pub no_pixel : nat_lt p.frame (length s.frames) ≡ true → is_inside ≡ false → place_status s j (jobs.pixel_job p) ≡ status.NoPixel
   no_pixel e f = ap (λ b. by_tests b is_inside) e ∙ ap (by_tests true) f
 
-  pub is_there : nat_lt p.frame (length s.frames) ≡ true → is_inside ≡ true → place_status s (jobs.Pixel p) ≡ status.Done
+  pub is_there : nat_lt p.frame (length s.frames) ≡ true → is_inside ≡ true → place_status s j (jobs.pixel_job p) ≡ status.Done
   is_there e f = ap (λ b. by_tests b is_inside) e ∙ ap (by_tests true) f
 
-module _ (s : Scene) (frame : ℕ) where
+module _ (s : Scene) (j : Journal) (frame : ℕ) where
   abbrev by_frame : Bool → TraceStatus
   by_frame has = if has then status.Done else status.NoFrame
 
-  pub no_steps : nat_lt frame (length s.frames) ≡ false → place_status s (jobs.Steps frame) ≡ status.NoFrame
+  pub no_steps : nat_lt frame (length s.frames) ≡ false → place_status s j (jobs.steps_job frame) ≡ status.NoFrame
   no_steps e = ap by_frame e
 
-  pub are_there : nat_lt frame (length s.frames) ≡ true → place_status s (jobs.Steps frame) ≡ status.Done
+  pub are_there : nat_lt frame (length s.frames) ≡ true → place_status s j (jobs.steps_job frame) ≡ status.Done
   are_there e = ap by_frame e
 
   steps_frame : (b : Bool) → nat_lt frame (length s.frames) ≡ b → by_frame b ≡ status.Done → frame < length s.frames
   steps_frame true is e = grind (arith, nat_tests)
   steps_frame false is e = absurd (cc e)
 
-  pub steps_there : place_status s (jobs.Steps frame) ≡ status.Done → frame < length s.frames
+  pub steps_there : place_status s j (jobs.steps_job frame) ≡ status.Done → frame < length s.frames
   steps_there e = steps_frame (nat_lt frame (length s.frames)) refl e
 
-  pub no_blame : nat_lt frame (length s.frames) ≡ false → place_status s (jobs.Blame frame) ≡ status.NoFrame
+  pub no_blame : nat_lt frame (length s.frames) ≡ false → place_status s j (jobs.blame_job frame) ≡ status.NoFrame
   no_blame e = ap by_frame e
 
-  pub is_blamed : nat_lt frame (length s.frames) ≡ true → place_status s (jobs.Blame frame) ≡ status.Done
+  pub is_blamed : nat_lt frame (length s.frames) ≡ true → place_status s j (jobs.blame_job frame) ≡ status.Done
   is_blamed e = ap by_frame e
 
-  pub blame_there : place_status s (jobs.Blame frame) ≡ status.Done → frame < length s.frames
+  pub blame_there : place_status s j (jobs.blame_job frame) ≡ status.Done → frame < length s.frames
   blame_there e = steps_frame (nat_lt frame (length s.frames)) refl e
+
+module _ (s : Scene) (j : Journal) (p : Place) (name : List ℕ) where
+  abbrev lines_in : Option (List ℕ)
+  lines_in = scene_target_lines s j p.frame name p.x p.y
+
+  abbrev by_lines : Bool → Option (List ℕ) → TraceStatus
+  by_lines has o = if has then lines_status o else status.NoFrame
+
+  pub no_target_frame : nat_lt p.frame (length s.frames) ≡ false → place_status s j (jobs.target_job p name) ≡ status.NoFrame
+  no_target_frame e = ap (λ b. by_lines b lines_in) e
+
+  told_status : (o : Option (List ℕ)) → is_some o ≡ true → lines_status o ≡ status.Done
+  told_status None e = absurd (cc e)
+  told_status (Some lines) e = refl
+
+  none_status : (o : Option (List ℕ)) → is_some o ≡ false → lines_status o ≡ status.NoPixel
+  none_status None e = refl
+  none_status (Some lines) e = absurd (cc e)
+
+  pub target_told : nat_lt p.frame (length s.frames) ≡ true → is_some lines_in ≡ true → place_status s j (jobs.target_job p name) ≡ status.Done
+  target_told e is = ap (λ b. by_lines b lines_in) e ∙ told_status lines_in is
+
+  pub target_none : nat_lt p.frame (length s.frames) ≡ true → is_some lines_in ≡ false → place_status s j (jobs.target_job p name) ≡ status.NoPixel
+  target_none e is = ap (λ b. by_lines b lines_in) e ∙ none_status lines_in is
+
+  -- the line of a pixel that the frame buffer does not have
+  pub pixel_refused : (o : Option Handle) → IsSome o → target_pixel_line p name o ≡ pixel_line p.x p.y
+  pixel_refused None is = absurd (cc is)
+  pixel_refused (Some t) is = refl
+
+  lines_done : (b : Bool) (o : Option (List ℕ)) → nat_lt p.frame (length s.frames) ≡ b → lines_in ≡ o → by_lines b o ≡ status.Done → (p.frame < length s.frames) × (lines : List ℕ) × (lines_in ≡ Some lines)
+  lines_done true (Some lines) is told e = (grind (arith, nat_tests), lines, told)
+  lines_done true None is told e = absurd (cc e)
+  lines_done false o is told e = absurd (cc e)
+
+  pub target_there : place_status s j (jobs.target_job p name) ≡ status.Done → (p.frame < length s.frames) × (lines : List ℕ) × (lines_in ≡ Some lines)
+  target_there e = lines_done (nat_lt p.frame (length s.frames)) lines_in refl refl e
 
 first : (a b : Bool) → by_tests a b ≡ status.Done → a ≡ true
 first true b e = refl
@@ -283,39 +352,58 @@ pub record IsThere (s : Scene) (p : Place) : Type 0 where
   pub column : p.x < s.width
   pub row : p.y < s.height
 
-done_there : (s : Scene) (p : Place) → place_status s (jobs.Pixel p) ≡ status.Done → IsThere s p
-done_there s p e =
+done_there : (s : Scene) (j : Journal) (p : Place) → place_status s j (jobs.pixel_job p) ≡ status.Done → IsThere s p
+done_there s j p e =
     let frame = nat_lt p.frame (length s.frames) in
     let pixel = nat_lt p.x s.width && nat_lt p.y s.height in
     let h = inside p.x s.width p.y s.height (both frame pixel e) in
     record { frame = below p.frame (length s.frames) (first frame pixel e); column = h.0; row = h.1 }
 
-pixel_done : (p : Place) (source : Reading) (sink notes : Putting) (bytes : List ℕ) (s : Scene) (j : Journal) → EndsJob status.Done (jobs.Pixel p) source sink notes → source.before ≡ Some bytes → asked_of bytes ≡ scene_by s j → IsThere s p
+pixel_done : (p : Place) (source : Reading) (sink notes : Putting) (bytes : List ℕ) (s : Scene) (j : Journal) → EndsJob status.Done (jobs.pixel_job p) source sink notes → source.before ≡ Some bytes → asked_of bytes ≡ scene_by s j → IsThere s p
 pixel_done p source sink notes bytes s j (b, r, h) told asked =
-    done_there s p (ap (asked_status (jobs.Pixel p)) (sym asked ∙ ap asked_of (sym (read_told bytes b source told r))) ∙ h.0)
+    done_there s j p (ap (asked_status (jobs.pixel_job p)) (sym asked ∙ ap asked_of (sym (read_told bytes b source told r))) ∙ h.0)
 
 -- a pixel whose history was put is in the pictures
-pub pixel_is_there : (st : TraceStatus) (o : Option Job) (source : Reading) (sink notes : Putting) (bytes : List ℕ) (s : Scene) (j : Journal) (p : Place) → Ends st o source sink notes → st ≡ status.Done → o ≡ Some (jobs.Pixel p)
+pub pixel_is_there : (st : TraceStatus) (o : Option Job) (source : Reading) (sink notes : Putting) (bytes : List ℕ) (s : Scene) (j : Journal) (p : Place) → Ends st o source sink notes → st ≡ status.Done → o ≡ Some (jobs.pixel_job p)
     → source.before ≡ Some bytes → asked_of bytes ≡ scene_by s j → IsThere s p
 pixel_is_there st o source sink notes bytes s j p h done words told asked =
     pixel_done p source sink notes bytes s j (subst (λ (i : Option Job). Ends status.Done i source sink notes) words (subst (λ (t : TraceStatus). Ends t o source sink notes) done h)) told asked
 
-steps_done : (frame : ℕ) (source : Reading) (sink notes : Putting) (bytes : List ℕ) (s : Scene) (j : Journal) → EndsJob status.Done (jobs.Steps frame) source sink notes → source.before ≡ Some bytes → asked_of bytes ≡ scene_by s j → frame < length s.frames
+steps_done : (frame : ℕ) (source : Reading) (sink notes : Putting) (bytes : List ℕ) (s : Scene) (j : Journal) → EndsJob status.Done (jobs.steps_job frame) source sink notes → source.before ≡ Some bytes → asked_of bytes ≡ scene_by s j → frame < length s.frames
 steps_done frame source sink notes bytes s j (b, r, h) told asked =
-    steps_there s frame (ap (asked_status (jobs.Steps frame)) (sym asked ∙ ap asked_of (sym (read_told bytes b source told r))) ∙ h.0)
+    steps_there s j frame (ap (asked_status (jobs.steps_job frame)) (sym asked ∙ ap asked_of (sym (read_told bytes b source told r))) ∙ h.0)
 
 -- a frame whose steps were put is there
-pub frame_is_there : (st : TraceStatus) (o : Option Job) (source : Reading) (sink notes : Putting) (bytes : List ℕ) (s : Scene) (j : Journal) (frame : ℕ) → Ends st o source sink notes → st ≡ status.Done → o ≡ Some (jobs.Steps frame)
+pub frame_is_there : (st : TraceStatus) (o : Option Job) (source : Reading) (sink notes : Putting) (bytes : List ℕ) (s : Scene) (j : Journal) (frame : ℕ) → Ends st o source sink notes → st ≡ status.Done → o ≡ Some (jobs.steps_job frame)
     → source.before ≡ Some bytes → asked_of bytes ≡ scene_by s j → frame < length s.frames
 frame_is_there st o source sink notes bytes s j frame h done words told asked =
     steps_done frame source sink notes bytes s j (subst (λ (i : Option Job). Ends status.Done i source sink notes) words (subst (λ (t : TraceStatus). Ends t o source sink notes) done h)) told asked
 
-blame_done : (frame : ℕ) (source : Reading) (sink notes : Putting) (bytes : List ℕ) (s : Scene) (j : Journal) → EndsJob status.Done (jobs.Blame frame) source sink notes → source.before ≡ Some bytes → asked_of bytes ≡ scene_by s j → frame < length s.frames
+blame_done : (frame : ℕ) (source : Reading) (sink notes : Putting) (bytes : List ℕ) (s : Scene) (j : Journal) → EndsJob status.Done (jobs.blame_job frame) source sink notes → source.before ≡ Some bytes → asked_of bytes ≡ scene_by s j → frame < length s.frames
 blame_done frame source sink notes bytes s j (b, r, h) told asked =
-    blame_there s frame (ap (asked_status (jobs.Blame frame)) (sym asked ∙ ap asked_of (sym (read_told bytes b source told r))) ∙ h.0)
+    blame_there s j frame (ap (asked_status (jobs.blame_job frame)) (sym asked ∙ ap asked_of (sym (read_told bytes b source told r))) ∙ h.0)
 
 -- a frame whose deeds were put as a picture is there
-pub blame_is_there : (st : TraceStatus) (o : Option Job) (source : Reading) (sink notes : Putting) (bytes : List ℕ) (s : Scene) (j : Journal) (frame : ℕ) → Ends st o source sink notes → st ≡ status.Done → o ≡ Some (jobs.Blame frame)
+pub blame_is_there : (st : TraceStatus) (o : Option Job) (source : Reading) (sink notes : Putting) (bytes : List ℕ) (s : Scene) (j : Journal) (frame : ℕ) → Ends st o source sink notes → st ≡ status.Done → o ≡ Some (jobs.blame_job frame)
     → source.before ≡ Some bytes → asked_of bytes ≡ scene_by s j → frame < length s.frames
 blame_is_there st o source sink notes bytes s j frame h done words told asked =
     blame_done frame source sink notes bytes s j (subst (λ (i : Option Job). Ends status.Done i source sink notes) words (subst (λ (t : TraceStatus). Ends t o source sink notes) done h)) told asked
+
+-- a pixel of a frame buffer whose lines were put: the frame is there, the pixel has lines, and the bytes are not too many
+pub record IsTargetThere (bytes : List ℕ) (s : Scene) (j : Journal) (p : Place) (name : List ℕ) : Type 0 where
+  pub frame : p.frame < length s.frames
+  pub text : List ℕ
+  pub told : scene_target_lines s j p.frame name p.x p.y ≡ Some text
+  pub few : length bytes ≤ longest
+
+target_done : (p : Place) (name : List ℕ) (source : Reading) (sink notes : Putting) (bytes : List ℕ) (s : Scene) (j : Journal) → EndsJob status.Done (jobs.target_job p name) source sink notes → source.before ≡ Some bytes → asked_of bytes ≡ scene_by s j
+    → IsTargetThere bytes s j p name
+target_done p name source sink notes bytes s j (b, r, h) told asked =
+    let same : b ≡ bytes = read_told bytes b source told r in
+    let there = target_there s j p name (ap (asked_status (jobs.target_job p name)) (sym asked ∙ ap asked_of (sym same)) ∙ h.0) in
+    record { frame = there.0; text = there.1; told = there.2; few = subst (λ (x : List ℕ). length x ≤ longest) same r.few }
+
+pub target_is_there : (st : TraceStatus) (o : Option Job) (source : Reading) (sink notes : Putting) (bytes : List ℕ) (s : Scene) (j : Journal) (p : Place) (name : List ℕ) → Ends st o source sink notes → st ≡ status.Done → o ≡ Some (jobs.target_job p name)
+    → source.before ≡ Some bytes → asked_of bytes ≡ scene_by s j → IsTargetThere bytes s j p name
+target_is_there st o source sink notes bytes s j p name h done words told asked =
+    target_done p name source sink notes bytes s j (subst (λ (i : Option Job). Ends status.Done i source sink notes) words (subst (λ (t : TraceStatus). Ends t o source sink notes) done h)) told asked

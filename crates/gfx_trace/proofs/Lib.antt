@@ -1,3 +1,5 @@
+pub mod Texts
 pub mod Values
 pub mod Ends
 pub mod Told
+pub mod Targets

@@ -1,16 +1,31 @@
 -- What a run that was done has told.
-use Rattle.std.proofs.Common.{◌≡◌, ◌∙◌, ℕ, zero, suc, ◌<◌, Bool, true, false, List, [], ◌∷◌, length, Option, Some, None, Result, Ok, Err, slice_get, refl, sym, ap, subst, arith}
-use Rattle.std.specs.Prelude.{drop, option_map}
+use Rattle.std.proofs.Common.{◌≡◌, ◌∙◌, ℕ, zero, suc, ◌<◌, ◌≤◌, Bool, true, false, List, [], ◌∷◌, length, Option, Some, None, Result, Ok, Err, slice_get, refl, sym, ap, subst, arith}
+use Rattle.std.specs.Prelude.{drop, if◌then◌else◌, option_map, unwrap_or}
 use Rattle.std.proofs.lemmas.List.{length-map}
-use Rattle.std.proofs.lemmas.Option.{same_Some}
-use Rattle.gfx_model.specs.World.{World, first_world, frame_step}
+use Rattle.std.proofs.lemmas.Option.{none-some, same_Some}
+use Rattle.gfx_model.specs.Words.{Handle}
+use Rattle.gfx_model.specs.World.{World, FrameContent, first_world, frame_step, surface_of}
 use Rattle.scene_model.specs.Scene.{Scene}
 use Rattle.scene_model.specs.Fold.{FramePlan, plans}
 use Rattle.scene_model.specs.Grammar.{Fault, scene_of, front_of, whole_language}
 use Rattle.scene_model.specs.Journal.{Entry, Journal, fault_place, frame_content, serial_from, serial}
 use Rattle.scene_model.specs.JournalText.{journal_of}
 use Rattle.scene_model.proofs.FaultLaws.{fault-law}
-use Rattle.scene_progress.specs.Laws.{PlanCountLaw}
+use Rattle.io_whole.specs.Whole.{longest}
+use Rattle.scene_laws.specs.Readables.{ColorsLaw}
+use Rattle.scene_laws.specs.SceneFrames.{scene_frames}
+use Rattle.scene_progress.specs.Laws.{FrameCountLaw, PlanCountLaw}
+use Rattle.scene_text.proofs.Bounded.{bounded, front_bounded}
+use Rattle.spelling_model.specs.Readable.{IsReadable}
+use Rattle.target_laws.specs.Laws.{SceneTargetLaw, TargetHistoryLaw, TargetLastLaw}
+use Rattle.target_laws.specs.Names.{is_drawn_on, target_named, thing_in}
+use Rattle.target_laws.specs.Targets.{has_pixel, target_history, target_pixel}
+use Rattle.target_laws.specs.Text.{frame_target_lines, scene_target_lines, target_lines, target_lines_at}
+use Rattle.target_scenes.proofs.Tells.{if-drawn}
+use Rattle.target_scenes.specs.Numbered as numbered
+use Rattle.target_scenes.specs.Numbered.{numbered_target_lines}
+use Rattle.trace_laws.specs.Deeds as deeds
+use Rattle.trace_laws.specs.Doers.{doers}
 use Rattle.std.specs.Prelude.{flat_map}
 use Rattle.scene_model.specs.Output.{picture_text}
 use Rattle.trace_laws.specs.Laws.{MomentLaw, ScenePixelLaw, StepLaw}
@@ -21,7 +36,7 @@ use Rattle.trace_lines.specs.Steps.{step_lines}
 use Rattle.scene_tracing.specs.Blame.{blame_at}
 use Rattle.scene_tracing.specs.Steps.{doers_at, steps_at}
 use Rattle.gfx_trace.specs.Asked.{Asked, scene_by, no_scene, no_journal, unless_fault, by_journal, behind_front, alone_or_front, asked_of}
-use Rattle.gfx_trace.specs.Lines.{AreSeen, IsBlamed, IsTold}
+use Rattle.gfx_trace.specs.Lines.{AreSeen, IsBlamed, IsTold, IsToldOf}
 
 -- ---- a journal has a list for each frame
 
@@ -127,3 +142,93 @@ is-blamed many bytes s j k asked frame =
     let planned : length (plans s) ≡ length s.frames = many s in
     let m = begun (first_world s.width s.height) (plans s) j k (omega (arith, planned, frame)) (omega (arith, lists, frame)) in
     record { moment = m.it; begins = m.at; numbers = ap blame_at m.at }
+
+-- ---- a pixel of a frame buffer
+
+-- a scene that bytes ask for is readable
+abbrev IsReadableIn : Scene × Journal → Type 0
+IsReadableIn q = IsReadable q.0
+
+same_readable : (s t : Scene) (j i : Journal) → scene_by t i ≡ scene_by s j → IsReadable t → IsReadable s
+same_readable s t j i is all = subst IsReadableIn (same_Some (t, i) (s, j) (ap pair_of is)) all
+
+taken_readable : (s : Scene) (j : Journal) (t : Scene) (i : Journal) (o : Option ℕ) → IsReadable t → unless_fault t i o ≡ scene_by s j → IsReadable s
+taken_readable s j t i None readable is = same_readable s t j i is readable
+taken_readable s j t i (Some place) readable is = absurd (cc is)
+
+journaled_readable : (s : Scene) (j : Journal) (t : Scene) (r : Result Journal ℕ) → IsReadable t → by_journal t r ≡ scene_by s j → IsReadable s
+journaled_readable s j t (Ok i) readable is = taken_readable s j t i (fault_place (plans t) i) readable is
+journaled_readable s j t (Err place) readable is = absurd (cc is)
+
+behind_readable : (s : Scene) (j : Journal) (bytes : List ℕ) (r : Result (Scene × ℕ) Fault) → length bytes ≤ longest → front_of whole_language bytes ≡ r → behind_front bytes r ≡ scene_by s j → IsReadable s
+behind_readable s j bytes (Ok front) few read is = journaled_readable s j front.0 (journal_of (drop front.1 bytes) (length front.0.frames)) (front_bounded bytes front (omega (arith, few)) read).0 is
+behind_readable s j bytes (Err fault) few read is = absurd (cc is)
+
+alone_readable : (s : Scene) (j : Journal) (bytes : List ℕ) (r : Result Scene Fault) → length bytes ≤ longest → scene_of whole_language bytes ≡ r → alone_or_front bytes r ≡ scene_by s j → IsReadable s
+alone_readable s j bytes (Ok t) few read is = same_readable s t j (serial t) is (bounded bytes t (omega (arith, few)) read).0
+alone_readable s j bytes (Err fault) few read is = behind_readable s j bytes (front_of whole_language bytes) few refl is
+
+-- the laws by which it is told
+pub record TargetTelling : Type 0 where
+  pub history : TargetHistoryLaw
+  pub last : TargetLastLaw
+  pub traced : SceneTargetLaw
+  pub colors : ColorsLaw
+  pub many : FrameCountLaw
+  pub planned : PlanCountLaw
+
+-- where a pixel has lines, the frame buffer is there and has it
+abbrev if-there : (List (List ℕ)) → World → FrameContent → FramePlan → List Entry → (x y : ℕ) → Handle → Bool → Option (List ℕ)
+if-there numbers w f p entries x y t b = if b then Some (numbered_target_lines numbers (doers p entries) (target_pixel (deeds.begun w f) t x y) (target_history w f t x y)) else None
+
+record HasTarget (w : World) (p : FramePlan) (entries : List Entry) (f : FrameContent) (x y : ℕ) (o : Option Handle) : Type 0 where
+  target : Handle
+  is : o ≡ Some target
+  has : has_pixel (surface_of (deeds.begun w f) (Some target)) x y ≡ true
+
+has-pixel : (w : World) (p : FramePlan) (entries : List Entry) (f : FrameContent) (x y : ℕ) (t : Handle) (text : List ℕ) (b : Bool) → has_pixel (surface_of (deeds.begun w f) (Some t)) x y ≡ b
+    → (if b then Some (target_lines (doers p entries) (target_pixel (deeds.begun w f) t x y) (target_history w f t x y)) else None) ≡ Some text → b ≡ true
+has-pixel w p entries f x y t text true is told = refl
+has-pixel w p entries f x y t text false is told = absurd (none-some text told)
+
+has-target : (w : World) (p : FramePlan) (entries : List Entry) (f : FrameContent) (x y : ℕ) (text : List ℕ) (o q : Option Handle) → o ≡ q → frame_target_lines w p entries f x y q ≡ Some text → HasTarget w p entries f x y o
+has-target w p entries f x y text o None is told = absurd (none-some text told)
+has-target w p entries f x y text o (Some t) is told =
+    let b = has_pixel (surface_of (deeds.begun w f) (Some t)) x y in
+    record { target = t; is = is; has = has-pixel w p entries f x y t text b refl told }
+
+pub is-told-of : TargetTelling → (bytes : List ℕ) (s : Scene) (j : Journal) (k : ℕ) (name : List ℕ) (x y : ℕ) (text : List ℕ) → asked_of bytes ≡ scene_by s j → length bytes ≤ longest → k < length s.frames → scene_target_lines s j k name x y ≡ Some text
+    → IsToldOf bytes s j k name x y
+is-told-of laws bytes s j k name x y text asked few frame told =
+    let lists = alone laws.planned s j bytes (scene_of whole_language bytes) asked in
+    let planned : length (plans s) ≡ length s.frames = laws.planned s in
+    let plan = has (plans s) k (omega (arith, planned, frame)) in
+    let entries = has j k (omega (arith, lists, frame)) in
+    let m = begun (first_world s.width s.height) (plans s) j k (omega (arith, planned, frame)) (omega (arith, lists, frame)) in
+    let readable = alone_readable s j bytes (scene_of whole_language bytes) few refl asked in
+    let framed : length (scene_frames s j) ≡ length j = laws.many s j (omega (arith, lists)) in
+    let frame_at = has (scene_frames s j) k (omega (arith, framed, lists, frame)) in
+    let here : frame_target_lines m.it.world plan.it entries.it m.it.content x y (target_named s k name m.it.content.views) ≡ Some text = (λ i. target_lines_at s k name x y (sym m.at i) (sym plan.at i) (sym entries.at i)) ∙ told in
+    let t = has-target m.it.world plan.it entries.it m.it.content x y text (target_named s k name m.it.content.views) (target_named s k name m.it.content.views) refl here in
+    let on = if-drawn (is_drawn_on m.it.content.views) (thing_in s k name) t.target t.is in
+    let traced = laws.traced s j (laws.colors s readable) k frame_at.it m.it t.target frame_at.at m.at on in
+    let numbers : List (List ℕ) = item_lines bytes s k in
+    let lines : numbered.scene_numbered_target_lines numbers s j k name x y ≡ if-there numbers m.it.world m.it.content plan.it entries.it x y t.target true =
+    (λ i. numbered.target_lines_at numbers s k name x y (m.at i) (plan.at i) (entries.at i))
+    ∙ ap (numbered.target_lines_from numbers m.it plan.it entries.it x y) t.is
+    ∙ ap (if-there numbers m.it.world m.it.content plan.it entries.it x y t.target) t.has in
+    record {
+      moment = m.it;
+      plan = plan.it;
+      entries = entries.it;
+      target = t.target;
+      begins = m.at;
+      planned = plan.at;
+      ordered = entries.at;
+      named = t.is;
+      has = t.has;
+      lines = ap (λ (o : Option (List ℕ)). unwrap_or o []) lines;
+      there = traced.there;
+      last = laws.history m.it.world m.it.content t.target x y traced.there;
+      color = laws.last m.it.world m.it.content t.target x y traced.there;
+    }

@@ -1,5 +1,6 @@
 pub mod Io
 pub mod Numbers
+pub mod Jobs
 pub mod Words
 pub mod Asked
 pub mod Refusals

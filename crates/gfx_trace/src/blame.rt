@@ -8,7 +8,7 @@ ghost use Rattle.scene_tracing.specs.Blame.{scene_blame_text};
 ghost use Rattle.gfx_trace.specs.Asked.{asked_of};
 ghost use Rattle.gfx_trace.specs.Ended.{IsAnswered, IsPut};
 ghost use Rattle.gfx_trace.specs.Found.{asked_seen};
-ghost use Rattle.gfx_trace.specs.declared.words.Job.TheVariants as jobs;
+ghost use Rattle.gfx_trace.specs.Jobs as jobs;
 ghost use Rattle.io_whole.specs.Runs.{putting};
 
 use crate::asked::Asked;
@@ -50,7 +50,7 @@ pub(crate) fn do_blame<P: Sink, N: Sink>(
     requires readable { IsReadable (scene_seen asked.now.scene) }
     requires bounded { IsBounded (scene_seen asked.now.scene) }
     // Of each input that asks for this.
-    ensures answered { (bytes : List ℕ) → asked_of bytes ≡ asked_seen asked.now → IsAnswered result (jobs.Blame frame) bytes
+    ensures answered { (bytes : List ℕ) → asked_of bytes ≡ asked_seen asked.now → IsAnswered result (jobs.blame_job frame) bytes
         (putting (P.held sink.old) (P.held sink.new) (P.faults sink.old) (P.faults sink.new))
         (putting (N.held notes.old) (N.held notes.new) (N.faults notes.old) (N.faults notes.new)) }
     ensures sure { (P.sure sink.new ≡ P.sure sink.old) × (N.sure notes.new ≡ N.sure notes.old) }

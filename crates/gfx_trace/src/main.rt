@@ -1,5 +1,6 @@
 //! `gfx_trace pixel F X Y`: what the pixel in column X and row Y of frame F of the scene on standard input goes through, a line for each
-//! clear and each fragment, to standard output. `gfx_trace steps F`: the pictures of frame F before its first deed and after each, to standard
+//! clear and each fragment, to standard output. `gfx_trace pixel F X Y --target NAME`: the same of the frame buffer that the name stands for in the
+//! frame, and a line for each other deed that changes the pixel. `gfx_trace steps F`: the pictures of frame F before its first deed and after each, to standard
 //! output, and a line for each deed, to standard error. `gfx_trace blame F`: a picture whose pixels are numbers in three bytes, to standard
 //! output: of each pixel of frame F that of the deed that gave it its colour last, counted from 1; 0 where none did. A journal may stand behind
 //! the scene; else its items come as on one thread.
@@ -11,6 +12,7 @@
 
 mod asked;
 mod blame;
+mod frame_buffer;
 mod numbers;
 mod refusing;
 mod status;

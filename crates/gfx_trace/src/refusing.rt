@@ -2,7 +2,7 @@
 ghost use Rattle.std.specs.Prelude.{◌≡◌, ◌≤◌, ℕ, List, IfOk};
 ghost use Rattle.scene_model.specs.Output.{journal_refusal_line, scene_line};
 ghost use Rattle.io_whole.specs.Runs.{HasTried, putting};
-ghost use Rattle.gfx_trace.specs.Refusals.{MayRefuse, frame_line, pixel_line};
+ghost use Rattle.gfx_trace.specs.Refusals.{MayRefuse, frame_line, pixel_line, target_front, target_line};
 
 use crate::status::TraceStatus;
 use io_edge::Sink;
@@ -10,7 +10,8 @@ use io_whole::put_all;
 use std::alloc::{AllocError, Global};
 
 /// The line of refused words.
-pub(crate) const USAGE: &[u8] = b"usage: gfx_trace pixel F X Y | steps F | blame F\n";
+pub(crate) const USAGE: &[u8] =
+    b"usage: gfx_trace pixel F X Y [--target NAME] | steps F | blame F\n";
 
 /// The line of an input that is too long.
 pub(crate) const TOO_LONG: &[u8] = b"input is longer than 16777216 bytes\n";
@@ -45,6 +46,24 @@ fn pixel_refused(alloc: Global, x: u32, y: u32) -> Result<Vec<u8>, AllocError>
 {
     let text = format!(in alloc; "there is no pixel {x} {y}\n")?;
     Ok(text.into_bytes())
+}
+
+/// The front of the line of a name on which no view of a frame draws.
+fn target_front(alloc: Global, frame: u32) -> Result<Vec<u8>, AllocError>
+    ensures { IfOk result (λ text. text.items ≡ target_front frame) }
+{
+    let text = format!(in alloc; "no view of frame {frame} draws on ")?;
+    Ok(text.into_bytes())
+}
+
+/// The line of a name on which no view of a frame draws.
+fn target_refused(alloc: Global, frame: u32, name: &[u8]) -> Result<Vec<u8>, AllocError>
+    ensures { IfOk result (λ text. text.items ≡ target_line frame name.now) }
+{
+    let mut text = target_front(alloc, frame)?;
+    text.extend_from_slice(name)?;
+    text.extend_from_slice(b"\n")?;
+    Ok(text)
 }
 
 /// Puts the line of a refusal, as far as the notes take it.
@@ -116,5 +135,20 @@ pub(crate) fn refuse_pixel<N: Sink>(alloc: Global, x: u32, y: u32, notes: &mut N
     ensures no_fewer { N.faults notes.old ≤ N.faults notes.new }
 {
     let text = pixel_refused(alloc, x, y);
+    refuse_with(TraceStatus::NoPixel, text, notes)
+}
+
+/// Refuses a name on which no view of a frame draws.
+pub(crate) fn refuse_target<N: Sink>(
+    alloc: Global,
+    frame: u32,
+    name: &[u8],
+    notes: &mut N,
+) -> TraceStatus
+    ensures refused { MayRefuse TraceStatus.NoPixel result (target_line frame name.now) (putting (N.held notes.old) (N.held notes.new) (N.faults notes.old) (N.faults notes.new)) }
+    ensures sure { N.sure notes.new ≡ N.sure notes.old }
+    ensures no_fewer { N.faults notes.old ≤ N.faults notes.new }
+{
+    let text = target_refused(alloc, frame, name);
     refuse_with(TraceStatus::NoPixel, text, notes)
 }

@@ -10,7 +10,7 @@ ghost use Rattle.scene_playing.specs.Order.{order_seen};
 ghost use Rattle.gfx_trace.specs.Asked.{asked_of};
 ghost use Rattle.gfx_trace.specs.Ended.{AreEnded, IsAnswered, IsNoted};
 ghost use Rattle.gfx_trace.specs.Found.{asked_seen};
-ghost use Rattle.gfx_trace.specs.declared.words.Job.TheVariants as jobs;
+ghost use Rattle.gfx_trace.specs.Jobs as jobs;
 ghost use Rattle.io_whole.specs.Runs.{putting};
 
 use crate::asked::Asked;
@@ -81,7 +81,7 @@ fn end_steps<N: Sink>(
 }
 
 /// The journal that was asked for, where one was.
-fn order_of(asked: &Asked) -> Option<&Journal>
+pub(crate) fn order_of(asked: &Asked) -> Option<&Journal>
     ensures { order_seen result ≡ option_map journal_seen asked.now.journal }
 {
     asked.journal.as_ref()
@@ -100,7 +100,7 @@ pub(crate) fn do_steps<P: Sink + Drop, N: Sink>(
     requires readable { IsReadable (scene_seen asked.now.scene) }
     requires bounded { IsBounded (scene_seen asked.now.scene) }
     requires found { asked_of bytes.now ≡ asked_seen asked.now }
-    ensures answered { IsAnswered result.status (jobs.Steps frame) bytes.now
+    ensures answered { IsAnswered result.status (jobs.steps_job frame) bytes.now
         (putting (P.held sink) (P.held result.sink) (P.faults sink) (P.faults result.sink))
         (putting (N.held notes.old) (N.held notes.new) (N.faults notes.old) (N.faults notes.new)) }
     ensures sure { (P.sure result.sink ≡ P.sure sink) × (N.sure notes.new ≡ N.sure notes.old) }

@@ -9,12 +9,15 @@ ghost use Rattle.scene_tracing.specs.Asked.{IsLawfulOrder, journal_asked};
 ghost use Rattle.gfx_trace.specs.Asked.{asked_of, scene_by};
 ghost use Rattle.gfx_trace.specs.Ended.{AreTaken, Ends, EndsAs, EndsJob, IsAnswered, IsGiven, IsPut, status_of};
 ghost use Rattle.gfx_trace.specs.Found.{asked_seen};
+ghost use Rattle.gfx_trace.specs.Jobs as jobs;
+ghost use Rattle.gfx_trace.specs.Jobs.{job_seen};
 ghost use Rattle.io_whole.specs.Runs.{putting, reading};
-ghost use Rattle.gfx_trace.specs.Lines.{AreSeen, IsBlamed, IsTold, history_text};
+ghost use Rattle.gfx_trace.specs.Lines.{AreSeen, IsBlamed, IsTold, IsToldOf, history_text};
 ghost use Rattle.gfx_trace.specs.Words.{job_of};
 
 use crate::asked::{Asked, AskedFault, read_asked};
 use crate::blame::do_blame;
+use crate::frame_buffer::do_target;
 use crate::refusing::{
     TOO_LONG, USAGE, refuse, refuse_frame, refuse_journal, refuse_pixel, refuse_scene,
 };
@@ -23,12 +26,14 @@ use crate::steps::{do_steps, has_frame};
 use crate::words::{Job, Place, job_of};
 use io_edge::{Sink, Source};
 use io_whole::{InputError, LONGEST_INPUT, put_all, read_all};
-use scene_progress::plan_law;
+use scene_laws::colors_law;
+use scene_progress::{frames_law, plan_law};
 use scene_text::Scene;
 use scene_tracing::{Spot, pixel_lines};
 use std::alloc::Global;
 use std::sync::Wait;
 use std::thread::Threads;
+use target_laws::laws::{scene_target_law, target_history_law, target_last_law};
 use trace_laws::laws::{moment_law, scene_pixel_law, step_law};
 
 /// Puts the lines of a pixel of a frame.
@@ -81,7 +86,7 @@ fn do_pixel<P: Sink, N: Sink>(
     requires bounded { IsBounded (scene_seen asked.now.scene) }
     requires lawful { IsLawfulOrder (scene_seen asked.now.scene) (option_map journal_seen asked.now.journal) }
     requires found { asked_of bytes.now ≡ asked_seen asked.now }
-    ensures answered { IsAnswered result (Job.Pixel place) bytes.now
+    ensures answered { IsAnswered result (jobs.pixel_job place) bytes.now
         (putting (P.held sink.old) (P.held sink.new) (P.faults sink.old) (P.faults sink.new))
         (putting (N.held notes.old) (N.held notes.new) (N.faults notes.old) (N.faults notes.new)) }
     ensures sure { (P.sure sink.new ≡ P.sure sink.old) × (N.sure notes.new ≡ N.sure notes.old) }
@@ -106,7 +111,7 @@ fn do_job<P: Sink + Drop, N: Sink>(
     alloc: Global,
     bytes: &[u8],
     asked: &Asked,
-    job: Job,
+    job: Job<'_>,
     sink: P,
     notes: &mut N,
 ) -> Traced<P>
@@ -115,7 +120,7 @@ fn do_job<P: Sink + Drop, N: Sink>(
     requires bounded { IsBounded (scene_seen asked.now.scene) }
     requires lawful { IsLawfulOrder (scene_seen asked.now.scene) (option_map journal_seen asked.now.journal) }
     requires found { asked_of bytes.now ≡ asked_seen asked.now }
-    ensures answered { IsAnswered result.status job bytes.now
+    ensures answered { IsAnswered result.status (job_seen job.entry) bytes.now
         (putting (P.held sink) (P.held result.sink) (P.faults sink) (P.faults result.sink))
         (putting (N.held notes.old) (N.held notes.new) (N.faults notes.old) (N.faults notes.new)) }
     ensures sure { (P.sure result.sink ≡ P.sure sink) × (N.sure notes.new ≡ N.sure notes.old) }
@@ -125,6 +130,11 @@ fn do_job<P: Sink + Drop, N: Sink>(
         Job::Pixel(place) => {
             let mut sink = sink;
             let status = do_pixel(alloc, bytes, asked, place, &mut sink, notes);
+            Traced { status, sink }
+        }
+        Job::Target { place, name } => {
+            let mut sink = sink;
+            let status = do_target(alloc, bytes, asked, place, name, &mut sink, notes);
             Traced { status, sink }
         }
         Job::Steps { frame } => do_steps(alloc, bytes, asked, frame, sink, notes),
@@ -141,12 +151,12 @@ fn answer<R: Threads + Wait + Sync, P: Sink + Drop, N: Sink>(
     rt: &R,
     alloc: Global,
     bytes: &[u8],
-    job: Job,
+    job: Job<'_>,
     sink: P,
     notes: &mut N,
 ) -> Traced<P>
     requires { length bytes.now ≤ 16777216 }
-    ensures answered { IsAnswered result.status job bytes.now
+    ensures answered { IsAnswered result.status (job_seen job.entry) bytes.now
         (putting (P.held sink) (P.held result.sink) (P.faults sink) (P.faults result.sink))
         (putting (N.held notes.old) (N.held notes.new) (N.faults notes.old) (N.faults notes.new)) }
     ensures sure { (P.sure result.sink ≡ P.sure sink) × (N.sure notes.new ≡ N.sure notes.old) }
@@ -173,12 +183,12 @@ fn answer<R: Threads + Wait + Sync, P: Sink + Drop, N: Sink>(
 fn run_job<R: Threads + Wait + Sync, S: Source, P: Sink + Drop, N: Sink>(
     rt: &R,
     alloc: Global,
-    job: Job,
+    job: Job<'_>,
     source: &mut S,
     sink: P,
     notes: &mut N,
 ) -> Traced<P>
-    ensures ends { EndsJob result.status job
+    ensures ends { EndsJob result.status (job_seen job.entry)
         (reading (S.left source.old) (S.left source.new) (S.faults source.old) (S.faults source.new))
         (putting (P.held sink) (P.held result.sink) (P.faults sink) (P.faults result.sink))
         (putting (N.held notes.old) (N.held notes.new) (N.faults notes.old) (N.faults notes.new)) }
@@ -228,7 +238,9 @@ fn run<R: Threads + Wait + Sync, S: Source, P: Sink + Drop, N: Sink>(
 }
 
 /// Does what the words say. `pixel F X Y` puts a line for each clear and each fragment that the pixel in column X and row Y of frame F of
-/// the scene that the source gives goes through, in order. `steps F` puts the picture before the first deed of frame F and that after each,
+/// the scene that the source gives goes through, in order. `pixel F X Y --target NAME` puts the same of the frame buffer that the name stands
+/// for in the frame, on which one of its views draws, from the frame's creates and updates on, and a line for each other deed that changes the
+/// pixel. `steps F` puts the picture before the first deed of frame F and that after each,
 /// and a line for each deed into the notes. `blame F` puts a picture whose pixels are numbers in three bytes: that of the deed of frame F that
 /// gave the pixel its colour last, counted from 1; 0 where none did. Columns are counted from the left, rows from the top, and all three from 0.
 ///
@@ -273,20 +285,30 @@ pub fn trace<R: Threads + Wait + Sync, S: Source, P: Sink + Drop, N: Sink>(
         → EndsAs (status_of (job_of (map string_bytes words.now)) bytes) result.status }
     // Where a pixel was done, the lines are those from the frame's moment on, and the colour with which they end is that of the scene's picture.
     ensures color { (bytes : List ℕ) (s : model.Scene) (j : Journal) (p : Place)
-        → result.status ≡ TraceStatus.Done → job_of (map string_bytes words.now) ≡ Some (Job.Pixel p) → S.left source.old ≡ Some bytes → asked_of bytes ≡ scene_by s j
+        → result.status ≡ TraceStatus.Done → job_of (map string_bytes words.now) ≡ Some (jobs.pixel_job p) → S.left source.old ≡ Some bytes → asked_of bytes ≡ scene_by s j
         → IsTold bytes s j p.frame p.x p.y }
+    // Where a pixel of a frame buffer was done, the lines are those from the frame's creates and updates on, and the colour with which they end is
+    // the texel of its colour texture after the frame.
+    ensures texel { (bytes : List ℕ) (s : model.Scene) (j : Journal) (p : Place) (name : List ℕ)
+        → result.status ≡ TraceStatus.Done → job_of (map string_bytes words.now) ≡ Some (jobs.target_job p name) → S.left source.old ≡ Some bytes → asked_of bytes ≡ scene_by s j
+        → IsToldOf bytes s j p.frame name p.x p.y }
     // Where steps were done, the pictures are those of the frame's deeds from its moment on, and the last of them is the scene's.
     ensures seen { (bytes : List ℕ) (s : model.Scene) (j : Journal) (frame : ℕ)
-        → result.status ≡ TraceStatus.Done → job_of (map string_bytes words.now) ≡ Some (Job.Steps frame) → S.left source.old ≡ Some bytes → asked_of bytes ≡ scene_by s j
+        → result.status ≡ TraceStatus.Done → job_of (map string_bytes words.now) ≡ Some (jobs.steps_job frame) → S.left source.old ≡ Some bytes → asked_of bytes ≡ scene_by s j
         → AreSeen bytes s j frame }
     // Where pixels were blamed, the numbers are those of the deeds from the frame's moment on.
     ensures blamed { (bytes : List ℕ) (s : model.Scene) (j : Journal) (frame : ℕ)
-        → result.status ≡ TraceStatus.Done → job_of (map string_bytes words.now) ≡ Some (Job.Blame frame) → S.left source.old ≡ Some bytes → asked_of bytes ≡ scene_by s j
+        → result.status ≡ TraceStatus.Done → job_of (map string_bytes words.now) ≡ Some (jobs.blame_job frame) → S.left source.old ≡ Some bytes → asked_of bytes ≡ scene_by s j
         → IsBlamed s j frame }
 {
     moment_law();
     scene_pixel_law();
     step_law();
     plan_law();
+    frames_law();
+    colors_law();
+    target_history_law();
+    target_last_law();
+    scene_target_law();
     run(rt, alloc, words, source, sink, notes)
 }

@@ -97,13 +97,28 @@ pub(crate) enum Way {
     Queries,
     /// By its bytes alone: a scene, of which a frame is looked into.
     Look { frame: u32, look: Look },
+    /// By its words, as this program runs.
+    Program(Program),
+    /// As so many frames of the ring of `gfx_example`, which reads nothing.
+    Ring { frames: u16 },
 }
 
-/// What is wanted of a frame: the pictures of its steps and their lines, or the picture of the deeds to which its pixels are due.
+/// The programs beside the player, each by the call of its library.
+#[derive(Clone, Copy, PartialEq, Eq, Drop)]
+pub(crate) enum Program {
+    Capture,
+    Shares,
+    Check,
+    Diff,
+}
+
+/// What is wanted of a frame: the pictures of its steps and their lines, the picture of the deeds to which its pixels are due, or the lines of a
+/// pixel of the frame buffer whose name is the case's only word.
 #[derive(Clone, Copy, PartialEq, Eq, Drop)]
 pub(crate) enum Look {
     Steps,
     Blame,
+    Target { x: u32, y: u32 },
 }
 
 /// A case: what is run, and what it has to leave, or what it may leave as well.

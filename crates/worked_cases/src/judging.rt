@@ -2,13 +2,13 @@
 ghost use Rattle.std.specs.Prelude.{◌↔◌, IsTrue};
 ghost use Rattle.worked_cases.specs.Same.{AreSame};
 
-/// How a run ended: the number of its status; the line that is refused, counted from 1, or how many entries of a journal stand before its
-/// first fault; and the cause. What a status does not have is 0.
+/// How a run ended: the number of its status; the line that is refused, counted from 1, or how many entries of a journal, frames of a capture
+/// or pictures of streams stand before the first fault; and the cause, of streams the byte where they fail. What a status does not have is 0.
 #[derive(Clone, Copy, Debug, PartialEq, Eq, Drop)]
 pub struct Ending {
     pub status: u8,
     pub at: u32,
-    pub cause: u8,
+    pub cause: u32,
 }
 
 impl Ending {

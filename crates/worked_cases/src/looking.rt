@@ -11,6 +11,7 @@ use io_edge::MemSink;
 use scene_text::{Scene, SceneFault, read};
 use scene_tracing::{StepFault, Stepped, put_scene_steps, scene_blame, scene_step_lines};
 use std::alloc::{AllocError, Global};
+use target_scenes::{TargetPlace, TargetText, target_lines};
 
 // The statuses of `gfx_trace` with which a look may end.
 const NO_SCENE: u8 = 2;
@@ -18,6 +19,8 @@ const NO_SCENE: u8 = 2;
 const PICTURES_FAILED: u8 = 4;
 
 const NO_FRAME: u8 = 9;
+
+const NO_PIXEL: u8 = 10;
 
 fn left(ending: Ending, pictures: Vec<u8>, notes: Vec<u8>) -> Left {
     Left {
@@ -83,6 +86,28 @@ fn steps(
     left_by_steps(alloc, bytes, scene, frame, &stepped)
 }
 
+// The lines of a pixel of the frame buffer of a name, as notes.
+fn target(
+    alloc: Global,
+    bytes: &[u8],
+    scene: &Scene,
+    words: &[String],
+    place: TargetPlace,
+) -> Result<Left, AllocError>
+    requires few { length bytes.now ≤ 16777216 }
+    requires readable { IsReadable (scene_seen scene.now) }
+    requires bounded { IsBounded (scene_seen scene.now) }
+    requires frame { place.frame < length scene.now.frames }
+{
+    let Some(name) = words.first() else {
+        return Ok(left(Ending::plain(NO_PIXEL), Vec::new(alloc), Vec::new(alloc)));
+    };
+    match target_lines(alloc, bytes, scene, None, name.as_bytes(), place)? {
+        TargetText::Lines(lines) => Ok(left(Ending::plain(0), Vec::new(alloc), lines)),
+        _ => Ok(left(Ending::plain(NO_PIXEL), Vec::new(alloc), Vec::new(alloc))),
+    }
+}
+
 // What a look into a scene leaves.
 fn look_at(
     alloc: Global,
@@ -101,6 +126,10 @@ fn look_at(
     }
     match look {
         Look::Blame => blame(alloc, scene, frame),
+        Look::Target { x, y } => {
+            let place = TargetPlace { frame, x, y };
+            target(alloc, bytes, scene, &case.words, place)
+        }
         Look::Steps => {
             let pictures = sink(alloc, &case.trouble.pictures)?;
             steps(alloc, bytes, scene, frame, pictures)
@@ -122,7 +151,7 @@ pub(crate) fn look_into(
             let ending = Ending {
                 status: NO_SCENE,
                 at: line,
-                cause,
+                cause: u32::from(cause),
             };
             Ok(left(ending, Vec::new(alloc), Vec::new(alloc)))
         }

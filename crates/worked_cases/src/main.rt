@@ -1,7 +1,8 @@
 //! `worked_cases`: plays the cases on standard input, and tells of each on standard output whether it left what the case wants.
 //!
-//! A case is a run of the player, or of a script of queries, or a look into a frame of a scene: its words, the bytes that it reads, the calls of its streams that fail, where a gate holds its threads,
-//! and what the run has to leave: a status, how many frames ended, the pictures and the notes. README.md has the forms of the lines.
+//! A case is a run of the player, of a script of queries or of a program beside them, or a look into a frame of a scene: its words, the bytes
+//! that it reads, the calls of its streams that fail, where a gate holds its threads, and what the run has to leave: a status, how many frames
+//! ended, the pictures and the notes. README.md has the forms of the lines.
 //!
 //! Each case has a line: its name and `same`, or its name and what the run left. A line that is none of a case has a line too. The last
 //! line counts the cases and those that left something else.
@@ -12,6 +13,7 @@ mod desk;
 mod gate;
 mod judging;
 mod looking;
+mod programs;
 mod reading;
 mod running;
 

@@ -1,5 +1,5 @@
 // The lines of a case.
-use crate::case::{Case, Look, Takes, Trouble, Wanted, Way};
+use crate::case::{Case, Look, Program, Takes, Trouble, Wanted, Way};
 use crate::gate::Hold;
 use crate::judging::Ending;
 use std::alloc::{AllocError, Global};
@@ -16,15 +16,19 @@ pub(crate) fn read_line(alloc: Global, case: &mut Case, line: &str) -> Result<bo
             },
         )),
         "again" => Ok(put_way(case, Way::Again)),
+        "target" => put_target(alloc, case, rest),
         "queries" => Ok(put_way(case, Way::Queries)),
+        "program" => Ok(put_program(case, rest)),
         "text" => Ok(put_text(case)),
         "line" => put_line(&mut case.text, 1, rest),
         "lines" => put_lines(case, rest),
         "bytes" => put_bytes(&mut case.text, rest),
+        "repeat" => put_fill(alloc, &mut case.text, rest),
         "leaves" => Ok(put_nothing(case.current())),
         "or" => Ok(put_other(alloc, case)),
         "pixels" => put_bytes(&mut case.current().pictures, rest),
-        "fill" => put_fill(&mut case.current().pictures, rest),
+        "fill" => put_fill(alloc, &mut case.current().pictures, rest),
+        "output" => put_line(&mut case.current().pictures, 1, rest),
         "note" => put_line(&mut case.current().notes, 1, rest),
         _ => {
             let mut numbers = Vec::new(alloc);
@@ -36,12 +40,17 @@ pub(crate) fn read_line(alloc: Global, case: &mut Case, line: &str) -> Result<bo
     }
 }
 
+// A word as it is written in a case: two quotes are the word without letters.
+fn word_of(word: &str) -> &str {
+    if word == "\"\"" { "" } else { word }
+}
+
 // The words of a run, each between blanks.
 fn put_words(alloc: Global, case: &mut Case, rest: &str) -> Result<bool, AllocError> {
     case.way = Way::Words;
     case.words.clear();
     for word in rest.split(' ').filter(|word| !word.is_empty()) {
-        case.words.push(word.to_string(alloc)?)?;
+        case.words.push(word_of(word).to_string(alloc)?)?;
     }
     Ok(true)
 }
@@ -49,6 +58,24 @@ fn put_words(alloc: Global, case: &mut Case, rest: &str) -> Result<bool, AllocEr
 fn put_way(case: &mut Case, way: Way) -> bool {
     case.way = way;
     true
+}
+
+// `program NAME`: the words are those of the program gfx_NAME.
+fn put_program(case: &mut Case, name: &str) -> bool {
+    match program_of(name) {
+        Some(program) => put_way(case, Way::Program(program)),
+        None => false,
+    }
+}
+
+fn program_of(name: &str) -> Option<Program> {
+    match name {
+        "capture" => Some(Program::Capture),
+        "shares" => Some(Program::Shares),
+        "check" => Some(Program::Check),
+        "diff" => Some(Program::Diff),
+        _ => None,
+    }
 }
 
 // What is read begins anew.
@@ -113,16 +140,18 @@ fn put_bytes(bytes: &mut Vec<u8>, digits: &str) -> Result<bool, AllocError> {
     Ok(high.is_none())
 }
 
-// `fill N HEX`: the same bytes so often.
-fn put_fill(bytes: &mut Vec<u8>, rest: &str) -> Result<bool, AllocError> {
+// `fill N HEX` and `repeat N HEX`: the same bytes so often.
+fn put_fill(alloc: Global, bytes: &mut Vec<u8>, rest: &str) -> Result<bool, AllocError> {
     let (times, digits) = rest.split_once(' ').unwrap_or((rest, ""));
     let Ok(times) = times.parse::<u32>() else {
         return Ok(false);
     };
+    let mut unit = Vec::new(alloc);
+    if !put_bytes(&mut unit, digits)? {
+        return Ok(false);
+    }
     for _ in 0..times {
-        if !put_bytes(bytes, digits)? {
-            return Ok(false);
-        }
+        bytes.extend_from_slice(&unit)?;
     }
     Ok(true)
 }
@@ -135,6 +164,33 @@ fn put_numbers(numbers: &mut Vec<u32>, rest: &str) -> Result<bool, AllocError> {
         }
     }
     Ok(true)
+}
+
+// A pixel of a frame that is looked into.
+fn put_spot(case: &mut Case, numbers: &[u32]) -> bool {
+    match numbers {
+        [frame, x, y] => put_way(
+            case,
+            Way::Look {
+                frame: *frame,
+                look: Look::Target { x: *x, y: *y },
+            },
+        ),
+        _ => false,
+    }
+}
+
+// `target NAME F X Y`: a pixel of the frame buffer of a name, which is the case's only word.
+fn put_target(alloc: Global, case: &mut Case, rest: &str) -> Result<bool, AllocError> {
+    let (name, places) = rest.split_once(' ').unwrap_or((rest, ""));
+    let mut numbers = Vec::new(alloc);
+    if !put_numbers(&mut numbers, places)? {
+        return Ok(false);
+    }
+    if !put_words(alloc, case, name)? {
+        return Ok(false);
+    }
+    Ok(put_spot(case, &numbers))
 }
 
 // The lines of numbers.
@@ -157,6 +213,7 @@ fn put_counts(
         "items" => Ok(put_items(&mut case.trouble, numbers)),
         "steps" => Ok(put_look(case, Look::Steps, numbers)),
         "blame" => Ok(put_look(case, Look::Blame, numbers)),
+        "ring" => Ok(put_ring(case, numbers)),
         _ => Ok(false),
     }
 }
@@ -178,7 +235,7 @@ fn ending_of(numbers: &[u32]) -> Option<Ending> {
         [status, at, cause] => Some(Ending {
             status: narrow(*status),
             at: *at,
-            cause: narrow(*cause),
+            cause: *cause,
         }),
         _ => None,
     }
@@ -286,6 +343,17 @@ fn put_look(case: &mut Case, look: Look, numbers: &[u32]) -> bool {
                 look,
             },
         ),
+        _ => false,
+    }
+}
+
+// `ring N`: so many frames of the ring, at most 65,535.
+fn put_ring(case: &mut Case, numbers: &[u32]) -> bool {
+    match numbers {
+        [frames] => {
+            let frames = u16::try_from(*frames).unwrap_or(u16::MAX);
+            put_way(case, Way::Ring { frames })
+        }
         _ => false,
     }
 }

@@ -3,6 +3,7 @@ use crate::case::{Case, Takes, Trouble, Way};
 use crate::gate::CaseGate;
 use crate::judging::{Ending, Outcome, is_same};
 use crate::looking::look_into;
+use crate::programs::{run_program, turn_ring};
 use gfx_query::{QueryStatus, run_queries};
 use io_edge::{MemSink, MemSource};
 use scene_player::{Played, Status, play, play_bytes_here};
@@ -36,7 +37,7 @@ impl Left {
 
 fn ending_of(status: Status) -> Ending {
     let (at, cause) = match status {
-        Status::Scene { line, cause } => (line, cause),
+        Status::Scene { line, cause } => (line, u32::from(cause)),
         Status::Journal { place } => (place, 0),
         _ => (0, 0),
     };
@@ -65,7 +66,7 @@ pub(crate) fn sink(alloc: Global, takes: &Takes) -> Result<MemSink, AllocError> 
 }
 
 // The sinks of the pictures and of the notes.
-fn sinks(alloc: Global, trouble: &Trouble) -> Result<(MemSink, MemSink), AllocError> {
+pub(crate) fn sinks(alloc: Global, trouble: &Trouble) -> Result<(MemSink, MemSink), AllocError> {
     let notes = sink(alloc, &trouble.notes)?;
     match sink(alloc, &trouble.pictures) {
         Ok(pictures) => Ok((pictures, notes)),
@@ -151,6 +152,8 @@ fn run<R: Threads + Wait + Sync>(rt: &R, alloc: Global, case: &Case) -> Result<L
         Way::Here { with_journal } => run_here(alloc, case, with_journal),
         Way::Queries => run_script(alloc, case),
         Way::Look { frame, look } => look_into(alloc, case, frame, look),
+        Way::Program(program) => run_program(rt, alloc, case, program),
+        Way::Ring { frames } => turn_ring(rt, alloc, case, frames),
         Way::Words | Way::Again => run_at_gate(rt, alloc, case),
     }
 }

@@ -1,5 +1,5 @@
-use Rattle.gfx_trace.proofs.Ends.{ends_as, pixel_is_there, frame_is_there, blame_is_there}
-use Rattle.gfx_trace.proofs.Told.{is-told, are-seen, is-blamed}
+use Rattle.gfx_trace.proofs.Ends.{ends_as, pixel_is_there, target_is_there, frame_is_there, blame_is_there}
+use Rattle.gfx_trace.proofs.Told.{is-told, is-told-of, are-seen, is-blamed}
 use Rattle.gfx_trace.proofs.tracing.trace.Goals as goal
 
 pub returns-clause-refused : goal.returns-clause-refused
@@ -22,3 +22,17 @@ pub returns-clause-blamed : goal.returns-clause-blamed
 returns-clause-blamed g c bytes s j frame done words told asked =
     let there = blame_is_there c.run.result.status _ _ _ _ bytes s j frame c.run.ensures.ends done words told asked in
     is-blamed c.plan_law.ensures.count bytes s j frame asked there
+
+pub returns-clause-texel : goal.returns-clause-texel
+returns-clause-texel g c bytes s j p name done words told asked =
+    let there = target_is_there c.run.result.status _ _ _ _ bytes s j p name c.run.ensures.ends done words told asked in
+    is-told-of
+    (record {
+      history = c.target_history_law.ensures;
+      last = c.target_last_law.ensures;
+      traced = c.scene_target_law.ensures;
+      colors = c.colors_law.ensures;
+      many = c.frames_law.ensures.count;
+      planned = c.plan_law.ensures.count;
+    })
+    bytes s j p.frame name p.x p.y there.text asked there.few there.frame there.told

@@ -1,9 +1,0 @@
-use Rattle.std.proofs.Common.{ap, ◌∙◌}
-use Rattle.scene_text.specs.Seen.{scene_seen}
-use Rattle.gfx_shares.specs.Lines.{pairs_from}
-use Rattle.gfx_shares.specs.Listed.{pairs_seen}
-use Rattle.gfx_shares.proofs.sharing.pair_lines.Goals as goal
-
-pub returns : goal.returns
-returns g c =
-    c.in_ok-lines.ensures ∙ ap (λ ls. pairs_from c.args.bytes.now (scene_seen c.args.scene.now) 0 (pairs_seen ls)) c.as_slice.ensures.value ∙ ap (pairs_from c.args.bytes.now (scene_seen c.args.scene.now) 0) c.in_ok-lists.ensures.pairs
