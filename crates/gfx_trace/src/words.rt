@@ -108,26 +108,21 @@ fn plain_job<'w>(word: &str, frame: &str, x: &str, y: &str) -> Option<Job<'w>>
     pixel_job(frame, x, y)
 }
 
-/// What four words and those behind them ask for.
-fn spot_job<'w>(word: &str, frame: &str, x: &str, y: &str, rest: &'w [String]) -> Option<Job<'w>>
-    ensures { option_map job_seen result ≡ job_of (word.now ∷ frame.now ∷ x.now ∷ y.now ∷ map string_bytes rest.now) }
-{
-    match rest {
-        [] => plain_job(word, frame, x, y),
-        [option, name] => named_job(word, frame, x, y, option.as_str(), name.as_str()),
-        _ => None,
-    }
-}
-
 /// What the words ask for: `pixel F X Y`, `pixel F X Y --target NAME`, `steps F` or `blame F`.
 pub(crate) fn job_of(words: &[String]) -> Option<Job<'_>>
     ensures { option_map job_seen result ≡ job_of (map string_bytes words.now) }
 {
     match words {
         [word, frame] => frame_job(word.as_str(), frame.as_str()),
-        [word, frame, x, y, rest @ ..] => {
-            spot_job(word.as_str(), frame.as_str(), x.as_str(), y.as_str(), rest)
-        }
+        [word, frame, x, y] => plain_job(word.as_str(), frame.as_str(), x.as_str(), y.as_str()),
+        [word, frame, x, y, option, name] => named_job(
+            word.as_str(),
+            frame.as_str(),
+            x.as_str(),
+            y.as_str(),
+            option.as_str(),
+            name.as_str(),
+        ),
         _ => None,
     }
 }
