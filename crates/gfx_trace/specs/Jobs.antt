@@ -14,6 +14,6 @@ pub data Job : Type 0 where
 -- the same of the code
 abbrev pub job_seen : code.Job → Job
 job_seen (variants.Pixel p) = pixel_job p
-job_seen (variants.Target p name) = target_job p name.now
+job_seen (variants.Target named) = target_job named.place named.name.now
 job_seen (variants.Steps frame) = steps_job frame
 job_seen (variants.Blame frame) = blame_job frame

@@ -51,7 +51,7 @@ target_history_text bytes s j frame name x y = unwrap_or (scene_numbered_target_
 
 -- the frame has its moment, its plan and its entries, and the name stands for a frame buffer in it on which a view draws; the lines are those of
 -- what the pixel goes through from the frame's creates and updates on; the pixel after it is that after the frame, and the colour with
--- which it ends is the texel of the frame buffer's colour texture then
+-- which it ends is the texel of the frame buffer's colour texture then, if that is there
 pub record IsToldOf (bytes : List ℕ) (s : Scene) (j : Journal) (frame : ℕ) (name : List ℕ) (x y : ℕ) : Type 0 where
   pub moment : Moment
   pub plan : FramePlan

@@ -1,8 +1,8 @@
 // The history of a pixel of a frame buffer.
-ghost use Rattle.std.specs.Prelude.{◌≡◌, ◌<◌, ◌≤◌, length, option_map};
+ghost use Rattle.std.specs.Prelude.{◌≡◌, ◌<◌, ◌≤◌, length};
 ghost use Rattle.spelling_model.specs.Readable.{IsReadable};
 ghost use Rattle.scene_text.specs.Bounds.{IsBounded};
-ghost use Rattle.scene_text.specs.Seen.{journal_seen, scene_seen};
+ghost use Rattle.scene_text.specs.Seen.{scene_seen};
 ghost use Rattle.gfx_trace.specs.Asked.{asked_of};
 ghost use Rattle.gfx_trace.specs.Ended.{IsAnswered, IsPut};
 ghost use Rattle.gfx_trace.specs.Found.{asked_seen};
@@ -13,7 +13,7 @@ use crate::asked::Asked;
 use crate::refusing::{refuse_frame, refuse_pixel, refuse_target};
 use crate::status::TraceStatus;
 use crate::steps::{has_frame, order_of};
-use crate::words::Place;
+use crate::words::NamedPlace;
 use io_edge::Sink;
 use io_whole::put_all;
 use std::alloc::Global;
@@ -37,8 +37,7 @@ fn put_target<P: Sink, N: Sink>(
     alloc: Global,
     bytes: &[u8],
     asked: &Asked,
-    place: Place,
-    name: &[u8],
+    named: NamedPlace<'_>,
     sink: &mut P,
     notes: &mut N,
 ) -> TraceStatus
@@ -46,13 +45,14 @@ fn put_target<P: Sink, N: Sink>(
     requires readable { IsReadable (scene_seen asked.now.scene) }
     requires bounded { IsBounded (scene_seen asked.now.scene) }
     requires found { asked_of bytes.now ≡ asked_seen asked.now }
-    requires frame { place.frame < length asked.now.scene.frames }
-    ensures answered { IsAnswered result (jobs.target_job place name.now) bytes.now
+    requires frame { named.place.frame < length asked.now.scene.frames }
+    ensures answered { IsAnswered result (jobs.target_job named.entry.place named.entry.name.now) bytes.now
         (putting (P.held sink.old) (P.held sink.new) (P.faults sink.old) (P.faults sink.new))
         (putting (N.held notes.old) (N.held notes.new) (N.faults notes.old) (N.faults notes.new)) }
     ensures sure { (P.sure sink.new ≡ P.sure sink.old) × (N.sure notes.new ≡ N.sure notes.old) }
     ensures no_fewer { (P.faults sink.old ≤ P.faults sink.new) × (N.faults notes.old ≤ N.faults notes.new) }
 {
+    let NamedPlace { place, name } = named;
     let spot = TargetPlace {
         frame: place.frame,
         x: place.x,
@@ -71,8 +71,7 @@ pub(crate) fn do_target<P: Sink, N: Sink>(
     alloc: Global,
     bytes: &[u8],
     asked: &Asked,
-    place: Place,
-    name: &[u8],
+    named: NamedPlace<'_>,
     sink: &mut P,
     notes: &mut N,
 ) -> TraceStatus
@@ -80,14 +79,14 @@ pub(crate) fn do_target<P: Sink, N: Sink>(
     requires readable { IsReadable (scene_seen asked.now.scene) }
     requires bounded { IsBounded (scene_seen asked.now.scene) }
     requires found { asked_of bytes.now ≡ asked_seen asked.now }
-    ensures answered { IsAnswered result (jobs.target_job place name.now) bytes.now
+    ensures answered { IsAnswered result (jobs.target_job named.entry.place named.entry.name.now) bytes.now
         (putting (P.held sink.old) (P.held sink.new) (P.faults sink.old) (P.faults sink.new))
         (putting (N.held notes.old) (N.held notes.new) (N.faults notes.old) (N.faults notes.new)) }
     ensures sure { (P.sure sink.new ≡ P.sure sink.old) × (N.sure notes.new ≡ N.sure notes.old) }
     ensures no_fewer { (P.faults sink.old ≤ P.faults sink.new) × (N.faults notes.old ≤ N.faults notes.new) }
 {
-    if !has_frame(&asked.scene, place.frame) {
-        return refuse_frame(alloc, place.frame, notes);
+    if !has_frame(&asked.scene, named.place.frame) {
+        return refuse_frame(alloc, named.place.frame, notes);
     }
-    put_target(alloc, bytes, asked, place, name, sink, notes)
+    put_target(alloc, bytes, asked, named, sink, notes)
 }

@@ -22,7 +22,7 @@ mod words;
 
 pub use crate::status::{TraceStatus, Traced};
 pub use crate::tracing::trace;
-pub use crate::words::{Job, Place};
+pub use crate::words::{Job, NamedPlace, Place};
 use io_edge::{StdSink, StdSource};
 use std::alloc::{Alloc, Global};
 use std::env::{self, Env};

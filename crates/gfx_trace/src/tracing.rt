@@ -132,9 +132,9 @@ fn do_job<P: Sink + Drop, N: Sink>(
             let status = do_pixel(alloc, bytes, asked, place, &mut sink, notes);
             Traced { status, sink }
         }
-        Job::Target { place, name } => {
+        Job::Target(named) => {
             let mut sink = sink;
-            let status = do_target(alloc, bytes, asked, place, name, &mut sink, notes);
+            let status = do_target(alloc, bytes, asked, named, &mut sink, notes);
             Traced { status, sink }
         }
         Job::Steps { frame } => do_steps(alloc, bytes, asked, frame, sink, notes),

@@ -13,13 +13,20 @@ pub struct Place {
     pub y: u32,
 }
 
+/// A pixel of a frame of the frame buffer that a name stands for in it.
+#[derive(Clone, Copy, Debug, PartialEq, Eq, Drop)]
+pub struct NamedPlace<'w> {
+    pub place: Place,
+    pub name: &'w [u8],
+}
+
 /// What the words ask for.
 #[derive(Clone, Copy, Debug, PartialEq, Eq, Drop)]
 pub enum Job<'w> {
     /// What a pixel goes through in a frame.
     Pixel(Place),
     /// What a pixel of the frame buffer of a name goes through in a frame.
-    Target { place: Place, name: &'w [u8] },
+    Target(NamedPlace<'w>),
     /// The pictures of a frame's steps.
     Steps { frame: u32 },
     /// To which deed of a frame each pixel is due.
@@ -43,10 +50,10 @@ fn target_job<'w>(frame: &str, x: &str, y: &str, name: &'w str) -> Option<Job<'w
     let frame = number_of(frame.as_bytes())?;
     let x = number_of(x.as_bytes())?;
     let y = number_of(y.as_bytes())?;
-    Some(Job::Target {
+    Some(Job::Target(NamedPlace {
         place: Place { frame, x, y },
         name: name.as_bytes(),
-    })
+    }))
 }
 
 /// The steps of a frame, where the word is a number.
@@ -108,26 +115,21 @@ fn plain_job<'w>(word: &str, frame: &str, x: &str, y: &str) -> Option<Job<'w>>
     pixel_job(frame, x, y)
 }
 
-/// What four words and those behind them ask for.
-fn spot_job<'w>(word: &str, frame: &str, x: &str, y: &str, rest: &'w [String]) -> Option<Job<'w>>
-    ensures { option_map job_seen result ≡ job_of (word.now ∷ frame.now ∷ x.now ∷ y.now ∷ map string_bytes rest.now) }
-{
-    match rest {
-        [] => plain_job(word, frame, x, y),
-        [option, name] => named_job(word, frame, x, y, option.as_str(), name.as_str()),
-        _ => None,
-    }
-}
-
 /// What the words ask for: `pixel F X Y`, `pixel F X Y --target NAME`, `steps F` or `blame F`.
 pub(crate) fn job_of(words: &[String]) -> Option<Job<'_>>
     ensures { option_map job_seen result ≡ job_of (map string_bytes words.now) }
 {
     match words {
         [word, frame] => frame_job(word.as_str(), frame.as_str()),
-        [word, frame, x, y, rest @ ..] => {
-            spot_job(word.as_str(), frame.as_str(), x.as_str(), y.as_str(), rest)
-        }
+        [word, frame, x, y] => plain_job(word.as_str(), frame.as_str(), x.as_str(), y.as_str()),
+        [word, frame, x, y, option, name] => named_job(
+            word.as_str(),
+            frame.as_str(),
+            x.as_str(),
+            y.as_str(),
+            option.as_str(),
+            name.as_str(),
+        ),
         _ => None,
     }
 }

@@ -11,7 +11,7 @@ use Rattle.gfx_trace.proofs.frame_buffer.do_target.Goals as goal
 
 pub returns-then-not-has_frame-clause-answered : goal.returns-then-not-has_frame-clause-answered
 returns-then-not-has_frame-clause-answered g c =
-    let job = jobs.target_job c.args.place c.args.name.now in
+    let job = jobs.target_job c.args.named.place c.args.named.name.now in
     let is : asked_status job (asked_of c.args.bytes.now) ≡ status.NoFrame =
-    ap (asked_status job) c.requires.found ∙ no_target_frame (scene_seen c.args.asked.now.scene) (journal_asked (scene_seen c.args.asked.now.scene) (option_map journal_seen c.args.asked.now.journal)) c.args.place c.args.name.now (sym c.has_frame.ensures ∙ c.if-not-has_frame.true) in
+    ap (asked_status job) c.requires.found ∙ no_target_frame (scene_seen c.args.asked.now.scene) (journal_asked (scene_seen c.args.asked.now.scene) (option_map journal_seen c.args.asked.now.journal)) c.args.named.place c.args.named.name.now (sym c.has_frame.ensures ∙ c.if-not-has_frame.true) in
     refused_answered status.NoFrame c.refuse_frame.result job c.args.bytes.now _ _ _ tt is refl refl c.refuse_frame.ensures.refused
