@@ -24,36 +24,48 @@ def journal_of(taken):
 
 class Pixel:
     TEXT = """A line for each clear and for each triangle's fragment that met the pixel, in order, with what became of it. Colours are red, green,
-blue and alpha in hexadecimal; depths go from 0 (near) to 16777215.
+blue and alpha in hexadecimal; depths go from 0 (near) to 16777215. With --target the pixel is one of the frame buffer's colour texture; a blit
+into its textures, and another frame buffer that shares one, have a line where they change it.
 
-  tools/gfx pixel examples/mirror.scene 0 200 200"""
+  tools/gfx pixel examples/mirror.scene 0 200 200
+  tools/gfx pixel examples/targets.scene 0 80 60 --target canvas"""
 
     @staticmethod
     def takes(words):
         frame_words(words)
         words.add_argument("x", type=whole(0, 2047), metavar="X", help="the column, from 0 at the left")
         words.add_argument("y", type=whole(0, 2047), metavar="Y", help="the row, from 0 at the top")
+        words.add_argument("--target", metavar="NAME", help="of the frame buffer that NAME stands for at the frame's end, on which a view of the frame draws; without it of the picture")
 
     @staticmethod
     def run(taken):
         scene = whole_scene(taken.scene)
-        strokes = pixel_history(scene, taken.frame, taken.x, taken.y, journal_of(taken))
-        print(f"{scene.path}, frame {taken.frame}, column {taken.x}, row {taken.y}")
-        for line in history_lines(scene, strokes):
+        strokes = pixel_history(scene, taken.frame, taken.x, taken.y, journal_of(taken), taken.target)
+        of = "" if taken.target is None else f", frame buffer {taken.target}"
+        print(f"{scene.path}, frame {taken.frame}{of}, column {taken.x}, row {taken.y}")
+        for line in history_lines(scene, strokes, taken.target):
             print(line)
 
 
-def history_lines(scene, strokes):
-    """A history in words; clears that change nothing are left out."""
+def history_lines(scene, strokes, target=None):
+    """A history in words, of a pixel of the picture or of the frame buffer TARGET; clears that change nothing are left out."""
     strokes = [stroke for stroke in strokes if stroke.fate != "cleared" or stroke.was != stroke.now]
     if not strokes:
         return ["  nothing touches this pixel in this frame"]
     heads = [stroke.doer.told(scene) + ("" if stroke.triangle is None else f", triangle {stroke.triangle}") for stroke in strokes]
     width = min(80, max(map(len, heads)))
     states = states_of(scene, strokes)
-    colors = ["" if stroke.color is None else f"{stroke.color}: " for stroke in strokes]
-    lines = [f"  {head:{width}}  {color}{stroke.why(states.get(stroke.doer.line))}" for head, color, stroke in zip(heads, colors, strokes)]
-    return lines + [f"  in the picture: {strokes[-1].now[0][:6]}"]
+    lines = [f"  {head:{width}}  {painted(scene, stroke)}{stroke.why(states.get(stroke.doer.line))}" for head, stroke in zip(heads, strokes)]
+    last = strokes[-1].now[0]
+    return lines + [f"  in the picture: {last[:6]}" if target is None else f"  in the colour texture: {last}"]
+
+
+def painted(scene, stroke):
+    """What stands before a stroke's words: the colour of a fragment, or by which way another deed came here."""
+    if stroke.color is not None:
+        return f"{stroke.color}: "
+    is_other = stroke.fate == "changed" and not stroke.doer.is_blit(scene)
+    return "through another frame buffer: " if is_other else ""
 
 
 def states_of(scene, strokes):

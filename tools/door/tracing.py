@@ -9,15 +9,15 @@ from door.states import told_depth, told_stencil
 
 DOER = r"(?: view (\d+))?(?: encoder (\d+) item (\d+))?(?: line (\d+))?"
 STEP = re.compile(r"step (\d+)" + DOER + "$")
-CLEARED = re.compile(r"deed (\d+)" + DOER + r" clear was (\S+) (\d+) (\d+) is (\S+) (\d+) (\d+) (\w+)$")
-FRAGMENT = re.compile(r"deed (\d+)" + DOER + r" triangle (\d+) color (\S+) depth (\d+) was (\S+) (\d+) (\d+) is (\S+) (\d+) (\d+) (\w+)$")
+PIXEL = r"(\S+)(?: (\d+) (\d+))?"
+STROKE = re.compile(r"deed (\d+)" + DOER + r"(?: clear| triangle (\d+) color (\S+) depth (\d+))? was " + PIXEL + " is " + PIXEL + r" (\w+)$")
 
 
 class Doer:
     """Who does something in a frame: a view's clear, or an item of an encoder, with its line where it is told."""
 
     def __init__(self, view, encoder, item, line):
-        self.view, self.encoder, self.item, self.line = (None if it is None else int(it) for it in (view, encoder, item, line))
+        self.view, self.encoder, self.item, self.line = map(number, (view, encoder, item, line))
 
     def told(self, scene, changes=True):
         """It in words; a clear that changes nothing is the beginning of its view."""
@@ -28,9 +28,14 @@ class Doer:
             return f"view {self.view}, {by}item {self.item}"
         return f"{by}{scene.place_in_text(self.line)}: {scene.shown(self.line, 60)}"
 
+    def is_blit(self, scene):
+        """Whether it is a blit, by its line."""
+        return self.line is not None and scene.lines[self.line - 1].startswith(b"blit ")
+
 
 class Stroke:
-    """What one clear or one fragment did to a pixel. Values are (colour as eight hexadecimal digits, depth, stencil)."""
+    """What one clear, one fragment or another deed did to a pixel. Values are (colour as eight hexadecimal digits, depth, stencil); of a frame
+    buffer without depth the last two are None."""
 
     def __init__(self, deed, doer, triangle, color, depth, was, now, fate):
         self.deed, self.doer, self.triangle, self.color, self.depth = deed, doer, triangle, color, depth
@@ -38,7 +43,7 @@ class Stroke:
 
     def why(self, state=None):
         """What became of it, in words; STATE is that of its draw."""
-        if self.fate in ("cleared", "stored"):
+        if self.fate in ("cleared", "stored", "changed"):
             return f"{self.was[0]} becomes {self.now[0]}" + self.beside()
         if self.fate == "depth":
             test = f"`{told_depth(state['state'])}` " if state else ""
@@ -63,15 +68,26 @@ def run_trace(scene, words, journal, run):
     path, text, words = debugger("gfx_trace"), scene.text + (journal or b""), [str(word) for word in words]
     status, said = run(path, words, text)
     if status == 1 and path != second("gfx_trace"):
-        status, said = run(second("gfx_trace", f"has no word {words[0]}"), words, text)
+        lacking = "flag --target" if "--target" in words else f"word {words[0]}"
+        status, said = run(second("gfx_trace", f"has no {lacking}"), words, text)
     if status == 9:
         raise Stop(f"{scene.path} has no frame {words[1]}; it has {scene.frames}, counted from 0")
     if status == 10:
-        raise Stop(f"{scene.path} has no pixel in column {words[2]}, row {words[3]}; its pictures have {scene.size[0]} by {scene.size[1]}")
+        raise Stop(no_pixel(scene, words, said))
     if status == 2 and not said:
         dropped_lines(scene)  # says what is wrong with the text, which the program does not
     judge(scene, "gfx_trace", status, said)
     return said
+
+
+def no_pixel(scene, words, said):
+    """Why there is no such pixel; SAID is the line of the program."""
+    frame, x, y, *target = words[1:]
+    if not target:
+        return f"{scene.path} has no pixel in column {x}, row {y}; its pictures have {scene.size[0]} by {scene.size[1]}"
+    if said.startswith("no view "):
+        return f"in frame {frame} of {scene.path} no view draws on {target[1]}; `view V target NAME` gives a view the frame buffer NAME"
+    return f"{target[1]} has no pixel in column {x}, row {y}; a frame buffer has the sides of its colour texture"
 
 
 def with_lines(scene, frame, doers):
@@ -101,10 +117,11 @@ def item_lines(scene, frame):
     return found
 
 
-def pixel_history(scene, frame, x, y, journal=None):
-    """The strokes of a pixel in a frame, in order."""
+def pixel_history(scene, frame, x, y, journal=None, target=None):
+    """The strokes of a pixel in a frame, in order: of the picture, or of the frame buffer TARGET."""
+    words = ["pixel", frame, x, y] + ([] if target is None else ["--target", target])
     with tempfile.TemporaryFile() as out:
-        run_trace(scene, ["pixel", frame, x, y], journal, lambda *run: run_over(*run, out))
+        run_trace(scene, words, journal, lambda *run: run_over(*run, out))
         out.seek(0)
         lines = out.read().decode("ascii", "replace").splitlines()
     strokes = [stroke_of(line) for line in lines]
@@ -114,15 +131,22 @@ def pixel_history(scene, frame, x, y, journal=None):
 
 def stroke_of(line):
     """A line of a history."""
-    cleared, fragment = CLEARED.match(line), FRAGMENT.match(line)
-    found = cleared or fragment
+    found = STROKE.match(line)
     if not found:
         raise Stop(f"gfx_trace wrote a line that is not understood: {line[:80]}")
     deed, doer = int(found[1]), Doer(*found.groups()[1:5])
-    rest = found.groups()[5:]
-    triangle, color, depth = (int(rest[0]), rest[1], int(rest[2])) if fragment else (None, None, None)
-    was, now, fate = rest[-7:-4], rest[-4:-1], rest[-1]
-    return Stroke(deed, doer, triangle, color, depth, (was[0], int(was[1]), int(was[2])), (now[0], int(now[1]), int(now[2])), fate)
+    triangle, color, depth, *values, fate = found.groups()[5:]
+    return Stroke(deed, doer, number(triangle), color, number(depth), value(*values[:3]), value(*values[3:]), fate)
+
+
+def number(text):
+    """A number, or None where none stands."""
+    return None if text is None else int(text)
+
+
+def value(color, depth, stencil):
+    """What a pixel has."""
+    return color, number(depth), number(stencil)
 
 
 def changes_of(before, after):
