@@ -1,16 +1,15 @@
 -- Two draws onto the back buffer that cover no pixel in common may be made in either order.
 use Rattle.std.proofs.Common.{◌≡◌, ℕ, ◌+◌, Bool, true, false, ◌||◌, cond, List, [], ◌∷◌, Option, Some, None, refl, sym, ap, ◌∙◌, zero, suc, ◌<◌, ◌≤◌, length, subst, arith}
-use Rattle.std.specs.Prelude.{◌&&◌, ◌*◌, ◌/◌, ◌%◌, ◌^◌, not, if◌then◌else◌, fold}
+use Rattle.std.specs.Prelude.{◌&&◌, ◌*◌, ◌/◌, ◌%◌, if◌then◌else◌, fold}
 use Rattle.std.specs.List.{list_any}
 use Rattle.std.proofs.Math.Nat.{mod-lt, mul_comm, zero-mul, div-lt_iff_lt-mul}
 use Rattle.gfx_model.specs.Number.{map_from}
-use Rattle.gfx_model.specs.Words.{Handle, int, solid, vertex_color, textured, textured_color, depth_test_of, writes_depth, on_stencil_fail, on_depth_fail, on_pass}
-use Rattle.gfx_model.specs.Vertex.{Color}
-use Rattle.gfx_model.specs.Raster.{Texels, Rect, covers, fragment_at, view_rect}
-use Rattle.gfx_model.specs.Pixel.{Pixel, Shaded, passes_stencil, passes_depth, stencil_by, stored_color, step_with_depth, pixel_step}
+use Rattle.gfx_model.specs.Words.{Handle, int, solid, vertex_color, textured, textured_color}
+use Rattle.gfx_model.specs.Raster.{Rect, covers, view_rect}
+use Rattle.gfx_model.specs.Pixel.{Pixel}
 use Rattle.gfx_model.specs.Views.{View}
-use Rattle.gfx_model.specs.World.{pixels_of, surface_with, on_each_pixel, World, Surface, Draw, Item, draw_item, touch_item, blit_item, Paint, Facing, painted, is_in_cut, covered_step, facing_step, after_facing, Content, layout_content, vertex_content, index_content, texture_content, frame_buffer_content, program_content, uniform_content, content_of, set_uniform, target_color, is_serial, texels_of, texels_unless_target, bound_handle, sampled_stage, stage_name, newest_value, sampled_texels, paint_sample, paint_product, facings_of, paint_of, drawn, drawn_on, painted_by, draw_on, on_surface, do_item}
-use Rattle.pass_laws.proofs.Pixels.{Fits, Keeps, each_twice, tested_keeps}
+use Rattle.gfx_model.specs.World.{pixels_of, surface_with, on_each_pixel, World, Surface, Draw, Item, draw_item, touch_item, blit_item, Paint, Facing, is_in_cut, covered_step, after_facing, Content, layout_content, vertex_content, index_content, texture_content, frame_buffer_content, program_content, uniform_content, content_of, set_uniform, target_color, is_serial, texels_of, texels_unless_target, bound_handle, sampled_stage, stage_name, newest_value, sampled_texels, paint_sample, paint_product, facings_of, paint_of, drawn, drawn_on, painted_by, draw_on, on_surface, do_item}
+use Rattle.pass_laws.proofs.Pixels.{Keeps, each_twice, tested_keeps}
 use Rattle.pass_laws.proofs.Steps.{facings_keep}
 use Rattle.cover_laws.specs.Covered.{back_rect, covers_pixel, MayPass}
 use Rattle.cover_laws.proofs.Worlds.{IsWithin, within_sized, joined_short, same_facings}
