@@ -14,3 +14,4 @@ mod Places
 mod TargetLaws
 mod Needs
 mod Copies
+pub mod LentLaws
