@@ -9,9 +9,8 @@ mod Fetches
 mod Folds
 mod Fronts
 mod Parts
-mod PassLaws
+pub mod PassLaws
 mod Places
 mod TargetLaws
 mod Needs
 mod Copies
-pub mod LentLaws
