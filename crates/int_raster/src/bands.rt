@@ -25,14 +25,37 @@ fn draw_flat_listed(rows: &Rows, list: &DrawList<'_>, index: usize, colors: &mut
     }
 }
 
-/// Makes the draws of a list on a band without depth.
-pub(crate) fn draw_flat_list(rows: &Rows, list: &DrawList<'_>, colors: &mut [[u8; 4]])
+/// Makes the draws of a list on a strip without depth.
+fn draw_flat_strip(rows: &Rows, list: &DrawList<'_>, colors: &mut [[u8; 4]])
     requires { length colors.old ≡ rows.now.width * rows.now.count }
     ensures { colors.new ≡ flat_drawn rows.now.width rows.now.top colors.old list.now }
 {
     for index in 0..list.len() {
         draw_flat_listed(rows, list, index, colors);
     }
+}
+
+/// Makes the draws of a list on a band without depth, strip by strip.
+fn flat_strips(rows: &Rows, list: &DrawList<'_>, strips: u32, colors: &mut [[u8; 4]])
+    requires { length colors.old ≡ rows.now.width * rows.now.count }
+    ensures { colors.new ≡ flat_drawn rows.now.width rows.now.top colors.old list.now }
+{
+    if strips < 2 {
+        draw_flat_strip(rows, list, colors);
+        return;
+    }
+    let (upper, lower) = rows.cut(1, strips);
+    let (above, under) = colors.split_at_mut(upper.width as usize * upper.count as usize);
+    draw_flat_strip(&upper, list, above);
+    flat_strips(&lower, list, strips - 1, under);
+}
+
+/// Makes the draws of a list on a band without depth.
+pub(crate) fn draw_flat_list(rows: &Rows, list: &DrawList<'_>, colors: &mut [[u8; 4]])
+    requires { length colors.old ≡ rows.now.width * rows.now.count }
+    ensures { colors.new ≡ flat_drawn rows.now.width rows.now.top colors.old list.now }
+{
+    flat_strips(rows, list, list.strips(rows), colors);
 }
 
 /// Makes a draw of a list on a band with depth, where it meets the band's rows.
@@ -54,8 +77,8 @@ fn draw_deep_listed(
     }
 }
 
-/// Makes the draws of a list on a band with depth.
-pub(crate) fn draw_deep_list(
+/// Makes the draws of a list on a strip with depth.
+fn draw_deep_strip(
     rows: &Rows,
     list: &DrawList<'_>,
     colors: &mut [[u8; 4]],
@@ -69,6 +92,44 @@ pub(crate) fn draw_deep_list(
         draw_deep_listed(rows, list, index, colors, depths);
         tell_texels(depths);
     }
+}
+
+/// Makes the draws of a list on a band with depth, strip by strip.
+fn deep_strips(
+    rows: &Rows,
+    list: &DrawList<'_>,
+    strips: u32,
+    colors: &mut [[u8; 4]],
+    depths: &mut [[u8; 4]],
+)
+    requires whole { length colors.old ≡ rows.now.width * rows.now.count }
+    requires same { length depths.old ≡ length colors.old }
+    ensures { deep colors.new depths.new ≡ deep_drawn rows.now.width rows.now.top (deep colors.old depths.old) list.now }
+{
+    if strips < 2 {
+        draw_deep_strip(rows, list, colors, depths);
+        return;
+    }
+    let (upper, lower) = rows.cut(1, strips);
+    let middle = upper.width as usize * upper.count as usize;
+    let (above, under) = colors.split_at_mut(middle);
+    let (near, far) = depths.split_at_mut(middle);
+    draw_deep_strip(&upper, list, above, near);
+    deep_strips(&lower, list, strips - 1, under, far);
+}
+
+/// Makes the draws of a list on a band with depth.
+pub(crate) fn draw_deep_list(
+    rows: &Rows,
+    list: &DrawList<'_>,
+    colors: &mut [[u8; 4]],
+    depths: &mut [[u8; 4]],
+)
+    requires whole { length colors.old ≡ rows.now.width * rows.now.count }
+    requires same { length depths.old ≡ length colors.old }
+    ensures { deep colors.new depths.new ≡ deep_drawn rows.now.width rows.now.top (deep colors.old depths.old) list.now }
+{
+    deep_strips(rows, list, list.strips(rows), colors, depths);
 }
 
 /// Makes the draws of a list on a band without depth, in several bands side by side: the last by this thread, and each other

@@ -1,6 +1,6 @@
 use Rattle.std.proofs.Common.{◌≡◌, take}
 use Rattle.int_raster.specs.Bands.{deep, deep_drawn}
-use Rattle.int_raster.proofs.bands.draw_deep_list.Given as goal
+use Rattle.int_raster.proofs.bands.draw_deep_strip.Given as goal
 
 -- the draws before the index are made
 abbrev pub invariant-loop-index : goal.invariant-loop-index
