@@ -113,52 +113,74 @@ from_the_top f = (λ i x y p. let row : y ≡ 0 + y = omega arith in f x (row i)
 abbrev pub surface_made : {D : Type 0} → (D → ℕ → ℕ → Pixel → Pixel) → Surface → List D → Surface
 surface_made step s ds = fold (λ x d. on_each_pixel (step d) x) s ds
 
-pub flat_surface : {D : Type 0} (step : D → ℕ → ℕ → Pixel → Pixel) (w h : ℕ) (cs : List Color) (ds : List D) →
+flat_steps : {D : Type 0} (step : D → ℕ → ℕ → Pixel → Pixel) (w h : ℕ) (cs : List Color) (ds : List D) →
     surface_made step (record { color = record { width = w; height = h; texels = cs }; depth = None }) ds
     ≡ record { color = record { width = w; height = h; texels = flat_made step w 0 cs ds }; depth = None }
-flat_surface step w h cs [] = refl
-flat_surface step w h cs (d ∷ ds) =
-    flat_surface step w h (flat_after w (step d) cs) ds
+flat_steps step w h cs [] = refl
+flat_steps step w h cs (d ∷ ds) =
+    flat_steps step w h (flat_after w (step d) cs) ds
     ∙ (λ i. record { color = record { width = w; height = h; texels = flat_made step w 0 (flat_after w (from_the_top (step d) i) cs) ds }; depth = None })
 
-pub deep_surface : {D : Type 0} (step : D → ℕ → ℕ → Pixel → Pixel) (w h v k : ℕ) (b : Deep) (ds : List D) →
+deep_steps : {D : Type 0} (step : D → ℕ → ℕ → Pixel → Pixel) (w h v k : ℕ) (b : Deep) (ds : List D) →
     surface_made step (record { color = record { width = w; height = h; texels = b.colors }; depth = Some (record { width = v; height = k; texels = b.depths }) }) ds
     ≡ record { color = record { width = w; height = h; texels = (deep_made step w 0 b ds).colors }; depth = Some (record { width = v; height = k; texels = (deep_made step w 0 b ds).depths }) }
-deep_surface step w h v k b [] = refl
-deep_surface step w h v k b (d ∷ ds) =
-    deep_surface step w h v k (deep_after w (step d) b) ds
+deep_steps step w h v k b [] = refl
+deep_steps step w h v k b (d ∷ ds) =
+    deep_steps step w h v k (deep_after w (step d) b) ds
     ∙ (λ i. let s = deep_made step w 0 (deep_after w (from_the_top (step d) i) b) ds in record { color = record { width = w; height = h; texels = s.colors }; depth = Some (record { width = v; height = k; texels = s.depths }) })
+
+-- draws on a whole surface
+pub flat_surface : (w h : ℕ) (cs : List Color) (ds : List PreparedDraw) →
+    fold drawn_prepared (record { color = record { width = w; height = h; texels = cs }; depth = None }) ds
+    ≡ record { color = record { width = w; height = h; texels = flat_drawn w 0 cs ds }; depth = None }
+flat_surface w h cs ds = flat_steps prepared_step w h cs ds
+
+pub deep_surface : (w h v k : ℕ) (b : Deep) (ds : List PreparedDraw) →
+    fold drawn_prepared (record { color = record { width = w; height = h; texels = b.colors }; depth = Some (record { width = v; height = k; texels = b.depths }) }) ds
+    ≡ record { color = record { width = w; height = h; texels = (deep_drawn w 0 b ds).colors }; depth = Some (record { width = v; height = k; texels = (deep_drawn w 0 b ds).depths }) }
+deep_surface w h v k b ds = deep_steps prepared_step w h v k b ds
 
 -- wipes, and draws after them, on a whole surface
 pub flat_whole : (w h : ℕ) (cs : List Color) (ws : List Wiping) (ds : List PreparedDraw) →
     fold drawn_prepared (fold wiped (record { color = record { width = w; height = h; texels = cs }; depth = None }) ws) ds
     ≡ record { color = record { width = w; height = h; texels = flat_drawn w 0 (flat_wiped w 0 cs ws) ds }; depth = None }
 flat_whole w h cs ws ds =
-    ap (λ s. fold drawn_prepared s ds) (flat_surface wiped_step w h cs ws) ∙ flat_surface prepared_step w h (flat_wiped w 0 cs ws) ds
+    ap (λ s. fold drawn_prepared s ds) (flat_steps wiped_step w h cs ws) ∙ flat_surface w h (flat_wiped w 0 cs ws) ds
 
 pub deep_whole : (w h v k : ℕ) (b : Deep) (ws : List Wiping) (ds : List PreparedDraw) →
     fold drawn_prepared (fold wiped (record { color = record { width = w; height = h; texels = b.colors }; depth = Some (record { width = v; height = k; texels = b.depths }) }) ws) ds
     ≡ record { color = record { width = w; height = h; texels = (deep_drawn w 0 (deep_wiped w 0 b ws) ds).colors }; depth = Some (record { width = v; height = k; texels = (deep_drawn w 0 (deep_wiped w 0 b ws) ds).depths }) }
 deep_whole w h v k b ws ds =
-    ap (λ s. fold drawn_prepared s ds) (deep_surface wiped_step w h v k b ws) ∙ deep_surface prepared_step w h v k (deep_wiped w 0 b ws) ds
+    ap (λ s. fold drawn_prepared s ds) (deep_steps wiped_step w h v k b ws) ∙ deep_surface w h v k (deep_wiped w 0 b ws) ds
 
 -- ---- two parts that were changed apart
 
-pub flat_joined : (w top n : ℕ) (u v r t : ℕ) (a b cs : List Color) (ws : List Wiping) (ds : List PreparedDraw) {x y : List Color} →
+pub flat_wiped_joined : (w top n : ℕ) (u v r t : ℕ) (a b cs : List Color) (ws : List Wiping) (ds : List PreparedDraw) {x y : List Color} →
     x ≡ flat_drawn u r (flat_wiped u r a ws) ds → y ≡ flat_drawn v t (flat_wiped v t b ws) ds → u ≡ w → v ≡ w → r ≡ top → t ≡ top + n → a ++ b ≡ cs → 0 < w → length a ≡ w * n →
     x ++ y ≡ flat_drawn w top (flat_wiped w top cs ws) ds
-flat_joined w top n u v r t a b cs ws ds front back eu ev er et whole pw l =
+flat_wiped_joined w top n u v r t a b cs ws ds front back eu ev er et whole pw l =
     (λ i. front i ++ back i)
     ∙ (λ i. flat_drawn (eu i) (er i) (flat_wiped (eu i) (er i) a ws) ds ++ flat_drawn (ev i) (et i) (flat_wiped (ev i) (et i) b ws) ds)
     ∙ sym (flat_stack prepared_step w top n (flat_wiped w top a ws) (flat_wiped w (top + n) b ws) ds pw (length_made wiped_step w top a ws ∙ l))
     ∙ ap (λ ps. flat_drawn w top ps ds) (sym (flat_stack wiped_step w top n a b ws pw l) ∙ ap (λ ps. flat_wiped w top ps ws) whole)
 
-pub deep_joined : (w top n : ℕ) (u v r t : ℕ) (s p : Deep) (cs zs : List Color) (ws : List Wiping) (ds : List PreparedDraw) {x y z q : List Color} →
+pub deep_wiped_joined : (w top n : ℕ) (u v r t : ℕ) (s p : Deep) (cs zs : List Color) (ws : List Wiping) (ds : List PreparedDraw) {x y z q : List Color} →
     deep x z ≡ deep_drawn u r (deep_wiped u r s ws) ds → deep y q ≡ deep_drawn v t (deep_wiped v t p ws) ds → u ≡ w → v ≡ w → r ≡ top → t ≡ top + n → s.colors ++ p.colors ≡ cs → s.depths ++ p.depths ≡ zs → 0 < w → length s.colors ≡ w * n → length s.depths ≡ length s.colors →
     deep (x ++ y) (z ++ q) ≡ deep_drawn w top (deep_wiped w top (deep cs zs) ws) ds
-deep_joined w top n u v r t s p cs zs ws ds front back eu ev er et whole deeps pw l same =
+deep_wiped_joined w top n u v r t s p cs zs ws ds front back eu ev er et whole deeps pw l same =
     let lengths = lengths_made wiped_step w top s ws same in
     (λ i. stack (front i) (back i))
     ∙ (λ i. stack (deep_drawn (eu i) (er i) (deep_wiped (eu i) (er i) s ws) ds) (deep_drawn (ev i) (et i) (deep_wiped (ev i) (et i) p ws) ds))
     ∙ sym (deep_stack prepared_step w top n (deep_wiped w top s ws) (deep_wiped w (top + n) p ws) ds pw (lengths.0 ∙ l) (lengths.1 ∙ sym lengths.0))
     ∙ ap (λ b. deep_drawn w top b ds) (sym (deep_stack wiped_step w top n s p ws pw l same) ∙ (λ i. deep_wiped w top (deep (whole i) (deeps i)) ws))
+
+-- the same without wipes
+pub flat_joined : (w top n : ℕ) (u v r t : ℕ) (a b cs : List Color) (ds : List PreparedDraw) {x y : List Color} →
+    x ≡ flat_drawn u r a ds → y ≡ flat_drawn v t b ds → u ≡ w → v ≡ w → r ≡ top → t ≡ top + n → a ++ b ≡ cs → 0 < w → length a ≡ w * n →
+    x ++ y ≡ flat_drawn w top cs ds
+flat_joined w top n u v r t a b cs ds front back eu ev er et whole pw l = flat_wiped_joined w top n u v r t a b cs [] ds front back eu ev er et whole pw l
+
+pub deep_joined : (w top n : ℕ) (u v r t : ℕ) (s p : Deep) (cs zs : List Color) (ds : List PreparedDraw) {x y z q : List Color} →
+    deep x z ≡ deep_drawn u r s ds → deep y q ≡ deep_drawn v t p ds → u ≡ w → v ≡ w → r ≡ top → t ≡ top + n → s.colors ++ p.colors ≡ cs → s.depths ++ p.depths ≡ zs → 0 < w → length s.colors ≡ w * n → length s.depths ≡ length s.colors →
+    deep (x ++ y) (z ++ q) ≡ deep_drawn w top (deep cs zs) ds
+deep_joined w top n u v r t s p cs zs ds front back eu ev er et whole deeps pw l same = deep_wiped_joined w top n u v r t s p cs zs [] ds front back eu ev er et whole deeps pw l same

@@ -1,7 +1,9 @@
 -- Bands of which rectangles are cleared.
-use Rattle.std.proofs.Common.{◌≡◌, ℕ, ◌+◌, ◌*◌, ◌/◌, ◌%◌, ◌^◌, ◌<◌, ◌≤◌, Bool, true, false, if◌then◌else◌, List, [], ◌∷◌, map, length, slice_index_or, slice_set, Some, refl, ap, sym, ◌∙◌, arith}
+use Rattle.std.proofs.Common.{◌≡◌, ℕ, ◌+◌, ◌*◌, ◌/◌, ◌%◌, ◌^◌, ◌<◌, ◌≤◌, Bool, true, false, if◌then◌else◌, List, [], ◌∷◌, map, length, slice_index_or, slice_set, bit_and, Some, refl, ap, sym, ◌∙◌, arith}
 use Rattle.std.proofs.lemmas.List.{length-map, map-set}
 use Rattle.std.proofs.Math.ListN.{get_or-map}
+use Rattle.std.proofs.lemmas.Nat.{and_mask}
+use Rattle.std.proofs.lemmas.Nat.Bits.{and_high_mask}
 use Rattle.gfx_model.specs.Number.{map_from, is_bit_set}
 use Rattle.gfx_model.specs.Vertex.{Color}
 use Rattle.gfx_model.specs.Views.{Clear}
@@ -31,6 +33,43 @@ word_stays c word e f = rw (e, f) (omega arith)
 pub words_stay : (wi : Wiping) (w top : ℕ) (words : List ℕ) → is_bit_set wi.clear.flags 1 ≡ false → is_bit_set wi.clear.flags 2 ≡ false → words ≡ map_from (by_place w (below top (wiped_word wi))) 0 words
 words_stay wi w top words e f =
     sym (map_from-none (by_place w (below top (wiped_word wi))) 0 words (λ k v b. if_same (contains wi.cut ((0 + k) % w) (top + (0 + k) / w)) (cleared_word wi.clear v) v (word_stays wi.clear v e f)))
+
+-- ---- what a mask leaves of a depth word, and a number that comes to it
+
+-- depth and stencil are set
+pub set_both : (c : Clear) (w : ℕ) → is_bit_set c.flags 1 ≡ true → is_bit_set c.flags 2 ≡ true → bit_and w 0 + (c.depth + c.stencil * 16777216) ≡ cleared_word c w
+set_both c w e f =
+    let none : bit_and w 0 ≡ w % 1 = and_mask w 0 in
+    rw (e, f) (omega (arith, none))
+
+-- the depth is set, the stencil stays
+pub set_depth : (c : Clear) (w : ℕ) → w < 2 ^ 32 → is_bit_set c.flags 1 ≡ true → is_bit_set c.flags 2 ≡ false → bit_and w 4278190080 + c.depth ≡ cleared_word c w
+set_depth c w h e f =
+    let high : bit_and w 4278190080 ≡ w / 16777216 * 16777216 = and_high_mask 32 24 (omega arith) w h in
+    rw (e, f) (omega (arith, high))
+
+-- the stencil is set, the depth stays
+pub set_stencil : (c : Clear) (w : ℕ) → is_bit_set c.flags 1 ≡ false → is_bit_set c.flags 2 ≡ true → bit_and w 16777215 + c.stencil * 16777216 ≡ cleared_word c w
+set_stencil c w e f =
+    let low : bit_and w 16777215 ≡ w % 16777216 = and_mask w 24 in
+    rw (e, f) (omega (arith, low))
+
+-- both stay
+pub set_none : (c : Clear) (w : ℕ) → w < 2 ^ 32 → is_bit_set c.flags 1 ≡ false → is_bit_set c.flags 2 ≡ false → bit_and w 4294967295 + 0 ≡ cleared_word c w
+set_none c w h e f =
+    let all : bit_and w 4294967295 ≡ w % 4294967296 = and_mask w 32 in
+    rw (e, f) (omega (arith, all, h))
+
+if_below : (b : Bool) (u v most : ℕ) → u ≤ most → v ≤ most → (if b then u else v) ≤ most
+if_below true u v most p q = p
+if_below false u v most p q = q
+
+-- a cleared word is a word
+pub cleared_fits : (c : Clear) (w n : ℕ) → n ≡ cleared_word c w → w < 2 ^ 32 → c.depth ≤ 16777215 → c.stencil ≤ 255 → n < 2 ^ 32
+cleared_fits c w n is h few small =
+    let depth = if_below (is_bit_set c.flags 1) c.depth (w % 2 ^ 24) 16777215 few (omega arith) in
+    let stencil = if_below (is_bit_set c.flags 2) c.stencil (w / 2 ^ 24) 255 small (omega (arith, h)) in
+    omega (arith, is, depth, stencil)
 
 -- one depth word more
 pub word_more : (f : ℕ → ℕ → ℕ → ℕ) (start y first x : ℕ) (old now : List Color) (z : Color) →

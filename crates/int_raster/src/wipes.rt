@@ -1,5 +1,5 @@
 // Rectangles of a surface that are cleared before its draws.
-ghost use Rattle.std.specs.Prelude.{◌≡◌, ◌≤◌, ◌<◌, ◌+◌, ◌*◌, ◌^◌, ◌&&◌, ℕ, true, length, map, nat_le, nat_lt, option_map};
+ghost use Rattle.std.specs.Prelude.{◌≡◌, ◌≤◌, ◌<◌, ◌+◌, ◌*◌, ◌^◌, ◌&&◌, ℕ, true, bit_and, length, map, nat_le, nat_lt, option_map};
 ghost use Rattle.gfx_model.specs.Number.{is_bit_set, map_from, u32_at};
 ghost use Rattle.gfx_model.specs.Raster.{contains};
 ghost use Rattle.gfx_model.specs.World.{cleared_word};
@@ -24,19 +24,24 @@ impl Wipe {
     {
         self.flags >> bit & 1 == 1
     }
+}
 
-    /// The bits of a depth word that stay.
-    fn keep(&self) -> u32 {
-        let depth: u32 = if self.has(1) { 0 } else { 0xff_ffff };
-        let stencil: u32 = if self.has(2) { 0 } else { 0xff00_0000 };
-        depth | stencil
-    }
-
-    /// The bits of a depth word that are set.
-    fn set(&self) -> u32 {
-        let depth = if self.has(1) { self.depth } else { 0 };
-        let stencil = if self.has(2) { u32::from(self.stencil) << 24 } else { 0 };
-        depth | stencil
+/// The bits of a depth word that stay, and what is added to them.
+fn parts_of(wipe: &Wipe) -> (u32, u32)
+    ensures fits { (word : ℕ) → word < 2 ^ 32 → bit_and word result.0 + result.1 < 2 ^ 32 }
+    ensures cleared { (word : ℕ) → word < 2 ^ 32 → bit_and word result.0 + result.1 ≡ cleared_word (wipe_seen wipe.now).clear word }
+{
+    let stencil = u32::from(wipe.stencil) * 0x100_0000;
+    if wipe.has(1) {
+        if wipe.has(2) {
+            (0, wipe.depth + stencil)
+        } else {
+            (0xff00_0000, wipe.depth)
+        }
+    } else if wipe.has(2) {
+        (0x00ff_ffff, stencil)
+    } else {
+        (0xffff_ffff, 0)
     }
 }
 
@@ -109,12 +114,11 @@ fn wipe_span(depths: &mut [[u8; 4]], span: &Span, wipe: &Wipe)
     requires inside { span.now.start + span.now.after ≤ length depths.old }
     ensures { map word_in depths.new ≡ map_from (spanned (in_row span.now.start span.now.y (λ x y word. cleared_word (wipe_seen wipe.now).clear word)) (span.now.start + span.now.first) (span.now.start + span.now.after)) 0 (map word_in depths.old) }
 {
-    let keep = wipe.keep();
-    let set = wipe.set();
+    let (keep, set) = parts_of(wipe);
     for x in span.first..span.after {
         let at = span.start + x as usize;
         let word = u32::from_le_bytes(depths[at]);
-        depths[at] = (word & keep | set).to_le_bytes();
+        depths[at] = ((word & keep) + set).to_le_bytes();
     }
 }
 

@@ -13,7 +13,7 @@ use Rattle.store_laws.specs.ByIndex.{Stores, with_buffers, with_values, on_targe
 use Rattle.store_laws.specs.Listed.{Drawing, painted_in, drawn_in, values_after, IsApartTarget}
 use Rattle.store_laws.proofs.ListLaws.{again, list_after, nothing_done, out_same}
 use Rattle.store_laws.proofs.SideLaws.{KeepsSides, map_sides, clear_sides}
-use Rattle.pass_laws.specs.Passed.{Turn, clear_turn, after_turn, all_drawn, all_values, all_cleared, all_listed, ClearsBefore, AllClearBefore, IsPass}
+use Rattle.pass_laws.specs.Passed.{Turn, clear_turn, after_turn, all_drawn, all_values, all_cleared, all_listed, all_passed, ClearsBefore, AllClearBefore, IsPass}
 use Rattle.pass_laws.proofs.Steps.{painted_after}
 
 -- ---- clears before draws
@@ -140,8 +140,8 @@ from_surface target h b f (e ∷ es) k a same plain =
 nothing_keeps : KeepsSides (λ s. s)
 nothing_keeps = record { wide = λ s. refl; high = λ s. refl; deep = λ s. refl }
 
-pub pass_stands : (target : Option Handle) (h : Stores) (es : List Turn) → IsPass target es → IsApartTarget h target → fold after_turn h es ≡ all_listed target h es es
-pass_stands target h es is a =
+pub passes_are : (target : Option Handle) (h : Stores) (es : List Turn) → IsPass target es → IsApartTarget h target → fold after_turn h es ≡ all_passed target h es es
+passes_are target h es is a =
     ap (λ x. fold after_turn x es) (sym (nothing_done h target a))
     ∙ from_surface target h h.buffers (λ s. s) es nothing_keeps a is.same is.plain
     ∙ (λ i. on_target (with_buffers h (all_values h.buffers es)) target (λ s. (turns_are (textures_out target h.textures) h.programs (record { buffers = h.buffers; surface = s }) es is.before i).surface))
@@ -161,6 +161,65 @@ clears_are target h f (e ∷ es) k a same =
     ap (λ x. fold clear_turn x es) (one_clear target h f e k a same.0)
     ∙ clears_are target h (λ s. clear_surface e.view (f s)) es (both_keep f (clear_surface e.view) k (clear_sides e.view)) a same.1
 
+clears_keep : (f : Surface → Surface) (es : List Turn) → KeepsSides f → KeepsSides (λ s. all_cleared (f s) es)
+clears_keep f [] k = k
+clears_keep f (e ∷ es) k = clears_keep (λ s. clear_surface e.view (f s)) es (both_keep f (clear_surface e.view) k (clear_sides e.view))
+
+-- ---- the draws by themselves
+
+draws_keep : (out : Textures) (programs : List (Option ProgramKind)) (b : Buffers) (f : Surface → Surface) (es : List Turn) → KeepsSides f
+    → KeepsSides (λ s. (all_drawn out programs (record { buffers = b; surface = f s }) es).surface)
+draws_keep out programs b f [] k = k
+draws_keep out programs b f (e ∷ es) k = subst (λ (d : Surface → Drawing). KeepsSides (λ s. (all_drawn out programs (d s) es).surface)) turn (draws_keep out programs c g es (items_keep out programs e.view b f e.items k))
+  where
+    c : Buffers
+    c = fold values_after b e.items
+
+    after : Surface → Drawing
+    after s = fold (drawn_in out programs e.view) (record { buffers = b; surface = f s }) e.items
+
+    g : Surface → Surface
+    g s = (after s).surface
+
+    with_values_of : Surface → Drawing
+    with_values_of s = record { buffers = c; surface = g s }
+
+    turn : with_values_of ≡ after
+    turn = λ i s. record { buffers = sym (values_drawn out programs e.view (record { buffers = b; surface = f s }) e.items) i; surface = g s }
+
+programs_same : (h : Stores) (target : Option Handle) (f : Surface → Surface) → (on_target h target f).programs ≡ h.programs
+programs_same h None f = refl
+programs_same h (Some t) f = refl
+
+buffers_same : (h : Stores) (target : Option Handle) (f : Surface → Surface) → (on_target h target f).buffers ≡ h.buffers
+buffers_same h None f = refl
+buffers_same h (Some t) f = refl
+
+-- a list on a target that is cleared is the clears and the list on the target taken out once
+listed_is : (target : Option Handle) (h : Stores) (es : List Turn) → IsApartTarget h target → all_listed target (on_target h target (λ s. all_cleared s es)) es ≡ all_passed target h es es
+listed_is target h es a =
+    (λ i. with_buffers (on_target (on_target h target f) target (λ s. (all_drawn (out_same h target f kf a i) (programs_same h target f i) (record { buffers = buffers_same h target f i; surface = s }) es).surface))
+    (all_values (buffers_same h target f i) es))
+    ∙ ap (λ x. with_buffers x (all_values h.buffers es)) (again h target f g kf kg a)
+  where
+    f : Surface → Surface
+    f s = all_cleared s es
+
+    g : Surface → Surface
+    g s = (all_drawn (textures_out target h.textures) h.programs (record { buffers = h.buffers; surface = s }) es).surface
+
+    kf : KeepsSides f
+    kf = clears_keep (λ s. s) es nothing_keeps
+
+    kg : KeepsSides g
+    kg = draws_keep (textures_out target h.textures) h.programs h.buffers (λ s. s) es nothing_keeps
+
 pub clears_stand : (target : Option Handle) (h : Stores) (es : List Turn) → AllByRecursion (λ e. e.view.target ≡ target) es → IsApartTarget h target
     → fold clear_turn h es ≡ on_target h target (λ s. all_cleared s es)
 clears_stand target h es same a = ap (λ x. fold clear_turn x es) (sym (nothing_done h target a)) ∙ clears_are target h (λ s. s) es nothing_keeps a same
+
+pub pass_stands : (target : Option Handle) (h : Stores) (es : List Turn) → IsPass target es → IsApartTarget h target → fold after_turn h es ≡ all_listed target (fold clear_turn h es) es
+pass_stands target h es is a =
+    passes_are target h es is a
+    ∙ sym (listed_is target h es a)
+    ∙ ap (λ x. all_listed target x es) (sym (clears_stand target h es is.same a))

@@ -2,7 +2,7 @@
 ghost use Rattle.std.specs.Prelude.{◌≡◌, [], Some, None, fold, map, option_map, IfOk, OnOk, OnErr};
 ghost use Rattle.int_raster.specs.Seen.{surface_seen};
 ghost use Rattle.texture_store.specs.Seen.{sides_seen};
-ghost use Rattle.pass_laws.specs.Passed.{all_cleared, all_drawn, all_listed};
+ghost use Rattle.pass_laws.specs.Passed.{all_cleared, all_drawn, all_passed};
 ghost use Rattle.store_laws.specs.ByIndex.{on_target};
 ghost use Rattle.int_raster.specs.Drawing.{drawn_prepared};
 ghost use Rattle.render_stores.specs.Seen.{stores_seen};
@@ -94,7 +94,7 @@ fn draw_target<D: Rasterizer>(
     pass: Pass<'_>,
     room: &mut DrawingRoom,
 ) -> Result<(), AllocError>
-    ensures drawn { OnOk result (stores_seen stores.new ≡ all_listed (Some target) (stores_seen stores.old) (map turn_seen pass.cleared.now) (map turn_seen pass.drawn.now)) }
+    ensures drawn { OnOk result (stores_seen stores.new ≡ all_passed (Some target) (stores_seen stores.old) (map turn_seen pass.cleared.now) (map turn_seen pass.drawn.now)) }
     ensures begun { OnErr result (HaveGiven (all_items (map turn_seen pass.drawn.now)) (on_target (stores_seen stores.old) (Some target) (λ s. all_cleared s (map turn_seen pass.cleared.now))) (stores_seen stores.new)) }
 {
     match stores.textures.take_target(target.index()) {
@@ -133,7 +133,7 @@ fn draw_back<D: Rasterizer>(
     pass: Pass<'_>,
     room: &mut DrawingRoom,
 ) -> Result<(), AllocError>
-    ensures drawn { OnOk result (stores_seen stores.new ≡ all_listed None (stores_seen stores.old) (map turn_seen pass.cleared.now) (map turn_seen pass.drawn.now)) }
+    ensures drawn { OnOk result (stores_seen stores.new ≡ all_passed None (stores_seen stores.old) (map turn_seen pass.cleared.now) (map turn_seen pass.drawn.now)) }
     ensures begun { OnErr result (HaveGiven (all_items (map turn_seen pass.drawn.now)) (on_target (stores_seen stores.old) None (λ s. all_cleared s (map turn_seen pass.cleared.now))) (stores_seen stores.new)) }
 {
     let things = Things {
@@ -161,7 +161,7 @@ pub(crate) fn draw_listed<D: Rasterizer>(
     pass: Pass<'_>,
     room: &mut DrawingRoom,
 ) -> Result<(), AllocError>
-    ensures drawn { OnOk result (stores_seen stores.new ≡ all_listed target (stores_seen stores.old) (map turn_seen pass.cleared.now) (map turn_seen pass.drawn.now)) }
+    ensures drawn { OnOk result (stores_seen stores.new ≡ all_passed target (stores_seen stores.old) (map turn_seen pass.cleared.now) (map turn_seen pass.drawn.now)) }
     ensures begun { OnErr result (HaveGiven (all_items (map turn_seen pass.drawn.now)) (on_target (stores_seen stores.old) target (λ s. all_cleared s (map turn_seen pass.cleared.now))) (stores_seen stores.new)) }
 {
     match target {

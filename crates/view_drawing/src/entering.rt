@@ -16,6 +16,7 @@ use crate::targets::clear_target;
 use crate::view_parts::{Pass, ViewPart};
 use frame_record::{Frame, OrderedItem, PlacedBlit};
 use int_raster::Rasterizer;
+use pass_laws::clears_law;
 use render_stores::RenderStores;
 use std::alloc::AllocError;
 use store_laws::list_law;
@@ -34,6 +35,7 @@ pub(crate) fn draw_items<D: Rasterizer>(
 {
     stores.textures.tell_facts();
     list_law();
+    clears_law();
     let views = [*part];
     let pass = Pass {
         cleared: &[],

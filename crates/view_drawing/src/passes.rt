@@ -12,16 +12,26 @@ use crate::apart::clears_before;
 use crate::drawing::draw_listed;
 use crate::entering::enter_view;
 use crate::room::DrawingRoom;
+use crate::targets::clear_target;
 use crate::view_parts::{Pass, ViewPart};
 use gfx_words::Handle;
 use int_raster::Rasterizer;
-use pass_laws::{clears_law, pass_law};
+use pass_laws::{clears_law, one_pass_law};
 use render_stores::RenderStores;
 use std::alloc::AllocError;
 use view_table::View;
 
 // A view is tested against each other of its pass.
 const MOST_VIEWS: usize = 64;
+
+/// Clears the views in order.
+pub(crate) fn clear_views(stores: &mut RenderStores, views: &[ViewPart<'_>])
+    ensures { stores_seen stores.new ≡ fold clear_turn (stores_seen stores.old) (map turn_seen views.now) }
+{
+    for one in views {
+        clear_target(stores, one.view);
+    }
+}
 
 /// Enters the views of a pass: clears them all, and makes their draws in one list.
 fn enter_pass<D: Rasterizer>(
@@ -36,7 +46,7 @@ fn enter_pass<D: Rasterizer>(
     ensures begun { OnErr result (HaveGiven (all_items (map turn_seen views.now)) (fold clear_turn (stores_seen stores.old) (map turn_seen views.now)) (stores_seen stores.new)) }
 {
     stores.textures.tell_facts();
-    pass_law();
+    one_pass_law();
     clears_law();
     let pass = Pass {
         cleared: views,

@@ -9,7 +9,7 @@ use Rattle.pass_laws.specs.Passed.{all_cleared, all_drawn}
 use Rattle.render_stores.specs.Seen.{stores_seen}
 use Rattle.view_drawing.specs.Passes.{all_items, turn_seen}
 use Rattle.view_drawing.proofs.TargetLaws.{surface_with}
-use Rattle.view_drawing.proofs.DrawnLaws.{listed_taken, given_on_target}
+use Rattle.view_drawing.proofs.DrawnLaws.{passed_taken, given_on_cleared}
 use Rattle.view_drawing.proofs.drawing.draw_target.Goals as goal
 
 pub returns-in-Some-clause-drawn : goal.returns-in-Some-clause-drawn
@@ -24,7 +24,7 @@ returns-in-Some-clause-drawn g c =
     let there : target_texels h.textures t.index ≡ Some p =
     sym (ap (target_texels h.textures) c.index.ensures.same) ∙ sym c.take_target.ensures.taken ∙ ap (option_map target_seen) c.in-Some.is in
     on_ok_weaker c.draw_surface-done.result
-    (λ e. listed_taken h cs ts c.draw_surface-done.new.buffers s t p c.put_target.new.self there
+    (λ e. passed_taken h cs ts c.draw_surface-done.new.buffers s t p c.put_target.new.self there
     (sym (λ j. all_drawn (left j) h.programs (record { buffers = h.buffers; surface = all_cleared (record { color = texels_seen (c.new-surface.ensures.color j); depth = option_map texels_seen (c.new-surface.ensures.depth j) }) cs }) ts) ∙ e)
     (c.put_target.ensures ∙ (λ j. target_back (c.index-in-Some.ensures.same j) s.color s.depth (left j))))
     c.draw_surface-done.ensures.drawn
@@ -42,7 +42,7 @@ returns-in-Some-clause-begun g c =
     sym (ap (target_texels h.textures) c.index.ensures.same) ∙ sym c.take_target.ensures.taken ∙ ap (option_map target_seen) c.in-Some.is in
     let same : surface_seen c.new-surface.result ≡ surface_with p = (λ j. record { color = texels_seen (c.new-surface.ensures.color j); depth = option_map texels_seen (c.new-surface.ensures.depth j) }) in
     on_err_weaker c.draw_surface-done.result
-    (λ e. given_on_target h cs items t p s c.draw_surface-done.new.buffers c.put_target.new.self there
+    (λ e. given_on_cleared h cs items t p s c.draw_surface-done.new.buffers c.put_target.new.self there
     (e.0 ∙ ap (λ x. all_cleared x cs) same)
     (c.put_target.ensures ∙ (λ j. target_back (c.index-in-Some.ensures.same j) s.color s.depth (left j))) e.1)
     c.draw_surface-done.ensures.begun

@@ -12,7 +12,7 @@ returns-clause-entered g c =
     let h = stores_seen c.args.stores.now in
     let ts = map turn_seen c.args.views.now in
     on_ok_weaker c.draw_listed.result
-    (λ e. e ∙ sym (c.pass_law.ensures target h ts c.requires (apart_target h target c.tell_facts.ensures)))
+    (λ e. e ∙ sym (c.one_pass_law.ensures target h ts c.requires (apart_target h target c.tell_facts.ensures)))
     c.draw_listed.ensures.drawn
 
 pub returns-clause-begun : goal.returns-clause-begun
