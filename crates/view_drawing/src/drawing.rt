@@ -35,7 +35,8 @@ fn list_of<'x>(
     Ok(list)
 }
 
-/// Clears a surface for views, and makes the draws of a list on it. Where there is no memory for what the clears take, they are made before.
+/// Clears a surface for views, and makes the draws of a list on it. Where there is no memory for a list of the clears, they are made
+/// before.
 fn draw_cleared<D: Rasterizer>(
     rasterizer: &mut D,
     surface: &mut Surface,
@@ -56,8 +57,8 @@ fn draw_cleared<D: Rasterizer>(
     }
 }
 
-/// Clears a surface of the things' sides, makes the draws of a pass on it, and gives their values. Where memory is wanting for a draw, it is
-/// cleared, the values of the items up to that draw are given, and nothing is drawn.
+/// Clears a surface of the things' sides, makes the draws of a pass on it, and gives their values. Where memory is wanting for a draw,
+/// it is cleared, the values of the items up to that draw are given, and nothing is drawn.
 fn draw_surface<D: Rasterizer>(
     rasterizer: &mut D,
     surface: &mut Surface,

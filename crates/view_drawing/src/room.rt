@@ -6,8 +6,8 @@ use std::alloc::Global;
 use std::mem::replace;
 use tri_cover::{ScreenVertex, Setup};
 
-/// Room for the clears of a pass, for the vertices and triangles of a draw, and for all triangles of a pass. It is kept from view to view and from frame to
-/// frame, and grows to what the largest view needs.
+/// Room for the clears of a pass, for the vertices and triangles of a draw, and for all triangles of a pass. It is kept from view
+/// to view and from frame to frame, and grows to what the largest view needs.
 #[derive(Drop)]
 pub struct DrawingRoom {
     pub(crate) alloc: Global,

@@ -1,4 +1,4 @@
-use Rattle.std.proofs.Common.{[], tt, sym, subst, ◌∙◌}
+use Rattle.std.proofs.Common.{[], sym, subst, ◌∙◌}
 use Rattle.std.proofs.lemmas.List.{append-nil}
 use Rattle.std.proofs.lemmas.Result.{on_ok_weaker, on_err_weaker}
 use Rattle.render_stores.specs.Seen.{stores_seen}
