@@ -58,12 +58,7 @@ fn draw_deep_listed(
 }
 
 /// Makes the draws of a list on a strip with depth.
-fn draw_deep_list(
-    rows: &Rows,
-    list: &DrawList<'_>,
-    colors: &mut [[u8; 4]],
-    depths: &mut [[u8; 4]],
-)
+fn draw_deep_list(rows: &Rows, list: &DrawList<'_>, colors: &mut [[u8; 4]], depths: &mut [[u8; 4]])
     requires whole { length colors.old ≡ rows.now.width * rows.now.count }
     requires same { length depths.old ≡ length colors.old }
     ensures { deep colors.new depths.new ≡ deep_drawn rows.now.width rows.now.top (deep colors.old depths.old) list.now }

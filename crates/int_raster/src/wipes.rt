@@ -31,7 +31,7 @@ fn parts_of(wipe: &Wipe) -> (u32, u32)
     ensures fits { (word : ℕ) → word < 2 ^ 32 → bit_and word result.0 + result.1 < 2 ^ 32 }
     ensures cleared { (word : ℕ) → word < 2 ^ 32 → bit_and word result.0 + result.1 ≡ cleared_word (wipe_seen wipe.now).clear word }
 {
-    let stencil = u32::from(wipe.stencil) * 0x100_0000;
+    let stencil = wipe.stencil as u32 * 0x100_0000;
     if wipe.has(1) {
         if wipe.has(2) {
             (0, wipe.depth + stencil)
@@ -171,12 +171,7 @@ fn wipe_both(rows: &Rows, wipe: &Wipe, colors: &mut [[u8; 4]], depths: &mut [[u8
 }
 
 /// Makes wipes on a band with depth, in their order.
-pub(crate) fn wipe_deep(
-    rows: &Rows,
-    wipes: &[Wipe],
-    colors: &mut [[u8; 4]],
-    depths: &mut [[u8; 4]],
-)
+pub(crate) fn wipe_deep(rows: &Rows, wipes: &[Wipe], colors: &mut [[u8; 4]], depths: &mut [[u8; 4]])
     requires whole { length colors.old ≡ rows.now.width * rows.now.count }
     requires same { length depths.old ≡ length colors.old }
     ensures { deep colors.new depths.new ≡ deep_wiped rows.now.width rows.now.top (deep colors.old depths.old) (wipes_seen wipes.now) }
