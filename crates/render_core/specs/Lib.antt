@@ -1,3 +1,4 @@
+pub mod Begun
 pub mod Counted
 pub mod Ended
 pub mod Laws
@@ -10,3 +11,4 @@ pub mod Run
 pub mod Runs
 pub mod Seen
 pub mod Shown
+pub mod ViewParts
