@@ -4,6 +4,7 @@ use Rattle.std.proofs.lemmas.Option.{none-some}
 use Rattle.std.specs.Option.{option_and_then}
 use Rattle.std.specs.Prelude.{fold, take}
 use Rattle.std.specs.List.{cons_option}
+use Rattle.gfx_model.specs.Words.{program_kind, uniform_kind, first_place, greatest}
 use Rattle.gfx_model.specs.World.{World, Content, layout_content, vertex_content, index_content, texture_content, frame_buffer_content, program_content, uniform_content, Item, Draw, draw_item, FrameContent, Surface, begin_frame, frame_step, first_world, vertex_range, index_range}
 use Rattle.store_model.specs.Slots.{at}
 use Rattle.store_laws.specs.Standing.{Holding, held_in, StandsIn, serial_at, serials, thing_at}
@@ -55,7 +56,7 @@ run-says place h w gone fs cs s (next_frame {later = later} {f = g} {fs = more} 
 -- ---- its draws
 
 -- what stands at a place of programs is one
-program-at : (n : ℕ) (c : Content) (p : ℕ) → StandsIn c p → 3264 ≤ p → p < 3520 → program_in (n, c) ≡ None → ⊥
+program-at : (n : ℕ) (c : Content) (p : ℕ) → StandsIn c p → first_place program_kind ≤ p → p < first_place uniform_kind → program_in (n, c) ≡ None → ⊥
 program-at n (layout_content l) p s low high e = (let b = s.1 in omega (arith, b, low))
 program-at n (vertex_content l bytes) p s low high e = (let b = s.1 in omega (arith, b, low))
 program-at n (index_content bytes) p s low high e = (let b = s.1 in omega (arith, b, low))
@@ -65,13 +66,13 @@ program-at n (program_content k) p s low high e = none-some k (sym e)
 program-at n (uniform_content name v) p s low high e = (let a = s.0 in omega (arith, a, high))
 
 -- a program that is named is in the stores
-program-there : (place : ℕ → ℕ) (h : Stores) (w : World) (index serial : ℕ) → StandsFor place h w → index < 256 → serial_at place (serials w.things) (3264 + index) ≡ Some serial → at h.programs index ≡ None → ⊥
-program-there place h w index serial stands lt is none = go (thing_at place w.things (3264 + index)) refl
+program-there : (place : ℕ → ℕ) (h : Stores) (w : World) (index serial : ℕ) → StandsFor place h w → index < greatest program_kind → serial_at place (serials w.things) (first_place program_kind + index) ≡ Some serial → at h.programs index ≡ None → ⊥
+program-there place h w index serial stands lt is none = go (thing_at place w.things (first_place program_kind + index)) refl
   where
-    go : (o : Option (ℕ × Content)) → thing_at place w.things (3264 + index) ≡ o → ⊥
-    go None e = none-some serial (sym (ap (option_map (λ (t : ℕ × Content). t.0)) e) ∙ serial_found place w.things (3264 + index) ∙ is)
+    go : (o : Option (ℕ × Content)) → thing_at place w.things (first_place program_kind + index) ≡ o → ⊥
+    go None e = none-some serial (sym (ap (option_map (λ (t : ℕ × Content). t.0)) e) ∙ serial_found place w.things (first_place program_kind + index) ∙ is)
     go (Some t) e =
-        program-at t.0 t.1 (3264 + index) (subst (λ (p : ℕ). StandsIn t.1 p) (found_place place w.things (3264 + index) t e) (stand_found place w.things (3264 + index) t stands.stand e)) (omega arith) (omega (arith, lt))
+        program-at t.0 t.1 (first_place program_kind + index) (subst (λ (p : ℕ). StandsIn t.1 p) (found_place place w.things (first_place program_kind + index) t e) (stand_found place w.things (first_place program_kind + index) t stands.stand e)) (omega arith) (omega (arith, lt))
         (sym (ap (option_and_then program_in) e) ∙ sym (stands.programs.each index lt) ∙ none)
 
 shaped : (place : ℕ → ℕ) (h : Stores) (w : World) (f : FrameData) (content : FrameContent) (d : Draw) → content.items ≡ draw_item d ∷ [] → Begins place h w f content
@@ -90,7 +91,7 @@ shaped place h w f content d is b =
       vertices = vertices_same place there held (begun_by h f) (begin_frame content.gone content.changes w) d.vertices keeps names.2;
       indices = indices_same place there held (begun_by h f) (begin_frame content.gone content.changes w) d.indices keeps names.3;
       program = program-there place (begun_by h f) (begin_frame content.gone content.changes w) d.program.index d.program.serial keeps.stands names.0.0
-          (here_of place there held (begun_by h f) (begin_frame content.gone content.changes w) (3264 + d.program.index) d.program.serial keeps names.0.1);
+          (here_of place there held (begun_by h f) (begin_frame content.gone content.changes w) (first_place program_kind + d.program.index) d.program.serial keeps names.0.1);
     }
 
 -- ---- the scene

@@ -17,7 +17,7 @@ use Rattle.cover_laws.proofs.Arranged.{Beside, same, swapped, filter_beside}
 use Rattle.cover_laws.proofs.Drawing.{Meet, ordered_beside}
 use Rattle.cover_laws.proofs.Worlds.{IsSized, IsWithin, within_self, within_sized, clear_within, items_within}
 use Rattle.cover_laws.proofs.Passing.{items_pass}
-use Rattle.cover_laws.proofs.PlansFit.{all_plans_fit}
+use Rattle.scene_model.proofs.PlansFit.{all-plans-fit}
 
 parts : (a b : Bool) → (a && b) ≡ true → (a ≡ true) × (b ≡ true)
 parts true b e = (refl, e)
@@ -264,4 +264,4 @@ pictures_same (p ∷ ps) (xs ∷ j) (ys ∷ k) w sized harmless hj hk l fit =
     ∙ ap (λ u. u.back.color ∷ pictures_from u ps k) step
 
 pub cover-law : CoverLaw
-cover-law s j k harmless hj hk = pictures_same (plans s) j k (first_world s.width s.height) (let long = length-replicate (s.width * s.height) no_color in omega (arith, long)) harmless hj.0 hk.0 (hj.1 ∙ sym hk.1) (all_plans_fit s)
+cover-law s j k harmless hj hk = pictures_same (plans s) j k (first_world s.width s.height) (let long = length-replicate (s.width * s.height) no_color in omega (arith, long)) harmless hj.0 hk.0 (hj.1 ∙ sym hk.1) (all-plans-fit s)

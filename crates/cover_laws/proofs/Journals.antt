@@ -1,5 +1,5 @@
 -- A scene is harmless by each journal, where it is by one.
-use Rattle.std.proofs.Common.{◌≡◌, ℕ, ◌+◌, ◌*◌, ◌<◌, ◌≤◌, Bool, true, false, not, ◌&&◌, ◌==◌, cond, List, [], ◌∷◌, ◌++◌, map, filter, fold, length, Option, refl, sym, ap, subst, ◌∙◌, arith}
+use Rattle.std.proofs.Common.{◌≡◌, ℕ, ◌*◌, ◌<◌, ◌≤◌, Bool, true, false, not, ◌&&◌, ◌==◌, cond, List, [], ◌∷◌, ◌++◌, filter, fold, length, Option, refl, sym, ap, subst, ◌∙◌, arith}
 use Rattle.std.specs.Prelude.{option_map}
 use Rattle.std.specs.List.{list_any}
 use Rattle.std.proofs.lemmas.List.{map-append, length-map, length-replicate}
@@ -12,7 +12,7 @@ use Rattle.scene_model.specs.Scene.{Scene}
 use Rattle.scene_model.specs.Fold.{FramePlan, plans}
 use Rattle.scene_model.specs.Journal.{Entry, Journal, IsLawful, frame_content}
 use Rattle.cover_laws.specs.Covered.{back_rect, covers_pixel, AreApart, MayPass}
-use Rattle.cover_laws.specs.Laws.{AreHarmless, IsHarmless, AnyJournalLaw, no_items, BareLaw}
+use Rattle.cover_laws.specs.Laws.{AreHarmless, AnyJournalLaw, no_items, BareLaw}
 use Rattle.cover_laws.proofs.Worlds.{shape, shapes, same_facings, changed_shapes, IsSized, IsWithin, within_self}
 use Rattle.cover_laws.proofs.Frames.{views_within, frame_sized, cover-law}
 

@@ -3,6 +3,5 @@ mod Arranged
 mod Drawing
 mod Worlds
 mod Passing
-mod PlansFit
 mod Frames
 mod Journals

@@ -1,54 +1,18 @@
 -- Two draws onto the back buffer that cover no pixel in common may be made in either order.
 use Rattle.std.proofs.Common.{◌≡◌, ℕ, ◌+◌, Bool, true, false, ◌||◌, cond, List, [], ◌∷◌, Option, Some, None, refl, sym, ap, ◌∙◌, zero, suc, ◌<◌, ◌≤◌, length, subst, arith}
-use Rattle.std.specs.Prelude.{◌&&◌, ◌*◌, ◌/◌, ◌%◌, ◌^◌, not, if◌then◌else◌, fold}
+use Rattle.std.specs.Prelude.{◌&&◌, ◌*◌, ◌/◌, ◌%◌, if◌then◌else◌, fold}
 use Rattle.std.specs.List.{list_any}
 use Rattle.std.proofs.Math.Nat.{mod-lt, mul_comm, zero-mul, div-lt_iff_lt-mul}
 use Rattle.gfx_model.specs.Number.{map_from}
-use Rattle.gfx_model.specs.Words.{Handle, int, solid, vertex_color, textured, textured_color, depth_test_of, writes_depth, on_stencil_fail, on_depth_fail, on_pass}
-use Rattle.gfx_model.specs.Vertex.{Color}
-use Rattle.gfx_model.specs.Raster.{Texels, Rect, covers, fragment_at, view_rect}
-use Rattle.gfx_model.specs.Pixel.{Pixel, Shaded, passes_stencil, passes_depth, stencil_by, stored_color, step_with_depth, pixel_step}
+use Rattle.gfx_model.specs.Words.{Handle, int, solid, vertex_color, textured, textured_color}
+use Rattle.gfx_model.specs.Raster.{Rect, covers, view_rect}
+use Rattle.gfx_model.specs.Pixel.{Pixel}
 use Rattle.gfx_model.specs.Views.{View}
-use Rattle.gfx_model.specs.World.{pixels_of, surface_with, on_each_pixel, World, Surface, Draw, Item, draw_item, touch_item, blit_item, Paint, Facing, painted, is_in_cut, covered_step, facing_step, after_facing, Content, layout_content, vertex_content, index_content, texture_content, frame_buffer_content, program_content, uniform_content, content_of, set_uniform, target_color, is_serial, texels_of, texels_unless_target, bound_handle, sampled_stage, stage_name, newest_value, sampled_texels, paint_sample, paint_product, facings_of, paint_of, drawn, drawn_on, painted_by, draw_on, on_surface, do_item}
-use Rattle.pass_laws.proofs.Pixels.{Fits, Keeps, each_twice, tested_keeps}
+use Rattle.gfx_model.specs.World.{pixels_of, surface_with, on_each_pixel, World, Surface, Draw, Item, draw_item, touch_item, blit_item, Paint, Facing, is_in_cut, covered_step, after_facing, Content, layout_content, vertex_content, index_content, texture_content, frame_buffer_content, program_content, uniform_content, content_of, set_uniform, target_color, is_serial, texels_of, texels_unless_target, bound_handle, sampled_stage, stage_name, newest_value, sampled_texels, paint_sample, paint_product, facings_of, paint_of, drawn, drawn_on, painted_by, draw_on, on_surface, do_item}
+use Rattle.pass_laws.proofs.Pixels.{Keeps, each_twice, tested_keeps}
+use Rattle.pass_laws.proofs.Steps.{facings_keep}
 use Rattle.cover_laws.specs.Covered.{back_rect, covers_pixel, MayPass}
 use Rattle.cover_laws.proofs.Worlds.{IsWithin, within_sized, joined_short, same_facings}
-
--- ---- what keeps depth words
-
-abbrev HasWord : Pixel → Type 0
-HasWord p = (w : ℕ) × (p.depth ≡ Some w)
-
-either : (b : Bool) (p q : Pixel) → HasWord p → HasWord q → HasWord (if b then p else q)
-either true p q a b = a
-either false p q a b = b
-
-deep_step : (color : Color) (depth stencil : ℕ) (shaded : Shaded) (state word : ℕ) → HasWord (step_with_depth color depth stencil shaded state word)
-deep_step color depth stencil shaded state word =
-    either (not (passes_stencil word stencil))
-    (record { color = color; depth = Some (depth + 2 ^ 24 * stencil_by word (on_stencil_fail word) stencil) })
-    (if not (passes_depth (depth_test_of state) shaded.depth depth)
-    then record { color = color; depth = Some (depth + 2 ^ 24 * stencil_by word (on_depth_fail word) stencil) }
-    else record { color = stored_color state shaded.color color; depth = Some ((if writes_depth state then shaded.depth else depth) + 2 ^ 24 * stencil_by word (on_pass word) stencil) })
-    (depth + 2 ^ 24 * stencil_by word (on_stencil_fail word) stencil, refl)
-    (either (not (passes_depth (depth_test_of state) shaded.depth depth))
-    (record { color = color; depth = Some (depth + 2 ^ 24 * stencil_by word (on_depth_fail word) stencil) })
-    (record { color = stored_color state shaded.color color; depth = Some ((if writes_depth state then shaded.depth else depth) + 2 ^ 24 * stencil_by word (on_pass word) stencil) })
-    (depth + 2 ^ 24 * stencil_by word (on_depth_fail word) stencil, refl)
-    ((if writes_depth state then shaded.depth else depth) + 2 ^ 24 * stencil_by word (on_pass word) stencil, refl))
-
-step_keeps : (p : Pixel) (shaded : Shaded) (state word : ℕ) (o : Option Texels) → Fits o p → Fits o (pixel_step p shaded state word)
-step_keeps p shaded state word None f = ap (λ z. (pixel_step (record { color = p.color; depth = z }) shaded state word).depth) f
-step_keeps p shaded state word (Some d) f =
-    let has = deep_step p.color (f.0 % 2 ^ 24) (f.0 / 2 ^ 24) shaded state word in
-    (has.0, ap (λ z. (pixel_step (record { color = p.color; depth = z }) shaded state word).depth) f.1 ∙ has.1)
-
-facings_keep : (state : ℕ) (paint : Paint) (x y : ℕ) (p : Pixel) (facings : List Facing) (o : Option Texels) → Fits o p → Fits o (fold (facing_step state paint x y) p facings)
-facings_keep state paint x y p [] o f = f
-facings_keep state paint x y p (t ∷ ts) o f =
-    facings_keep state paint x y (facing_step state paint x y p t) ts o
-    (tested_keeps (covers t.triangle x y) (covered_step state paint t x y p) p o
-    (step_keeps p (record { color = painted paint (fragment_at t.triangle x y); depth = (fragment_at t.triangle x y).depth }) state t.stencil o f) f)
 
 -- ---- a pixel that a draw does not cover
 

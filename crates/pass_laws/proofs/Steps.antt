@@ -15,7 +15,7 @@ use Rattle.pass_laws.proofs.Pixels.{Fits, Keeps, each_apart, tested_apart, teste
 
 -- ---- what keeps depth words
 
-clear_keeps : (c : Clear) (p : Pixel) (o : Option Texels) → Fits o p → Fits o (cleared c p)
+pub clear_keeps : (c : Clear) (p : Pixel) (o : Option Texels) → Fits o p → Fits o (cleared c p)
 clear_keeps c p None f = ap (cleared_depth c) f
 clear_keeps c p (Some d) f = (cleared_word c f.0, ap (cleared_depth c) f.1)
 
@@ -46,7 +46,7 @@ step_keeps p shaded state word (Some d) f =
     let has = deep_step p.color (f.0 % 2 ^ 24) (f.0 / 2 ^ 24) shaded state word in
     (has.0, ap (λ z. (pixel_step (record { color = p.color; depth = z }) shaded state word).depth) f.1 ∙ has.1)
 
-facings_keep : (state : ℕ) (paint : Paint) (x y : ℕ) (p : Pixel) (facings : List Facing) (o : Option Texels) → Fits o p → Fits o (fold (facing_step state paint x y) p facings)
+pub facings_keep : (state : ℕ) (paint : Paint) (x y : ℕ) (p : Pixel) (facings : List Facing) (o : Option Texels) → Fits o p → Fits o (fold (facing_step state paint x y) p facings)
 facings_keep state paint x y p [] o f = f
 facings_keep state paint x y p (t ∷ ts) o f =
     facings_keep state paint x y (facing_step state paint x y p t) ts o

@@ -21,61 +21,17 @@ use Rattle.store_laws.proofs.MadeLaws.{made_all}
 use Rattle.trace_laws.specs.Deeds.{Deed, clear_deed, item_deed, after_deed, deeds_of_view, deeds, begun}
 use Rattle.trace_laws.specs.History.{Stroke, fragments_from, drawn_strokes, item_strokes}
 use Rattle.trace_laws.specs.ByIndex.{stores_after, deeds_in, begun_in, drawn_strokes_in, item_strokes_in}
+use Rattle.trace_laws.proofs.Indexed.{DeedNames, DeedsName, views-name, deed-one, item-same}
 use Rattle.target_laws.specs.Targets.{pixel_on, has_pixel, draws_on, left_pixel, target_pixel, strokes_on, TargetStroke, own_stroke, target_strokes, TargetMade, target_history_from}
 use Rattle.target_laws.specs.ByIndex.{surface_at, strokes_on_in, target_strokes_in, target_history_in}
 use Rattle.target_laws.specs.Laws.{IsTarget, TargetIndexedLaw}
 use Rattle.target_laws.proofs.Own.{with_back}
-
--- ---- what deeds name
-
-abbrev DeedNames : (ℕ → ℕ) → List ℕ → List Holding → Deed → Type 0
-DeedNames place there held (clear_deed view) = TargetNames place there view.target
-DeedNames place there held (item_deed view i) = TargetNames place there view.target × ItemNames place there held i
-
-abbrev DeedsName : (ℕ → ℕ) → List ℕ → List Holding → List Deed → Type 0
-DeedsName place there held ds = AllByRecursion (DeedNames place there held) ds
 
 -- stores with a surface in place of the back buffer
 abbrev back_in : Surface → Stores → Stores
 back_in s h = record h { back = s }
 
 module _ (place : ℕ → ℕ) (there : List ℕ) (held : List Holding) where
-  names-kept : (p : Item → Bool) (items : List Item) → ItemsName place there held items → ItemsName place there held (filter p items)
-  names-kept p [] n = tt
-  names-kept p (i ∷ items) n = step (p i) (names-kept p items n.1)
-    where
-      step : (b : Bool) → ItemsName place there held (filter p items) → ItemsName place there held (cond b (i ∷ filter p items) (filter p items))
-      step true h = (n.0, h)
-      step false h = h
-
-  names-append : (xs ys : List Item) → ItemsName place there held xs → ItemsName place there held ys → ItemsName place there held (xs ++ ys)
-  names-append [] ys n m = m
-  names-append (x ∷ xs) ys n m = (n.0, names-append xs ys n.1 m)
-
-  items-name : (view : View) (items : List Item) → TargetNames place there view.target → ItemsName place there held items → DeedsName place there held (map (item_deed view) items)
-  items-name view [] t n = tt
-  items-name view (i ∷ items) t n = ((t, n.0), items-name view items t n.1)
-
-  deeds-append : (xs ys : List Deed) → DeedsName place there held xs → DeedsName place there held ys → DeedsName place there held (xs ++ ys)
-  deeds-append [] ys n m = m
-  deeds-append (x ∷ xs) ys n m = (n.0, deeds-append xs ys n.1 m)
-
-  views-name : (f : FrameContent) (drawn : List Item) (vs : List ℕ) → ((v : ℕ) → TargetNames place there (view_at f.views v).target) → ItemsName place there held f.items → ItemsName place there held drawn
-      → DeedsName place there held (flat_map (deeds_of_view f drawn) vs)
-  views-name f drawn [] t n m = tt
-  views-name f drawn (v ∷ vs) t n m =
-      let view : View = view_at f.views v in
-      let own : List Item = filter (is_of_view v) (filter is_blit f.items ++ drawn) in
-      deeds-append (deeds_of_view f drawn v) (flat_map (deeds_of_view f drawn) vs)
-      (t v, items-name view own (t v) (names-kept (is_of_view v) (filter is_blit f.items ++ drawn) (names-append (filter is_blit f.items) drawn (names-kept is_blit f.items n) m)))
-      (views-name f drawn vs t n m)
-
-  -- ---- a deed
-
-  deed-one : AllHold place there held → (h : Stores) (w : World) (d : Deed) → Keeps place there held h w → DeedNames place there held d → Keeps place there held (stores_after h d) (after_deed w d)
-  deed-one a h w (clear_deed view) k n = clear_one place there held h w view a n k
-  deed-one a h w (item_deed view i) k n = do_all place there held view (i ∷ []) h w a n.0 k (n.1, tt)
-
   -- the same with a surface in place of the back buffer
   back-keeps : (s : Surface) (h : Stores) (w : World) → Keeps place there held h w → Keeps place there held (back_in s h) (with_back s w)
   back-keeps s h w k = record {
@@ -84,32 +40,10 @@ module _ (place : ℕ → ℕ) (there : List ℕ) (held : List Holding) where
     holds = k.holds;
   }
 
-  drawn-same : (h : Stores) (w : World) (view : View) (d : Draw) (x y : ℕ) (o p : Option Paint) → h.back ≡ w.back → vertices_at h.buffers d.vertices ≡ vertex_range w d.vertices → indices_at h.buffers d.indices ≡ index_range w d.indices → o ≡ p
-      → drawn_strokes_in h view d x y o ≡ drawn_strokes w view d x y p
-  drawn-same h w view d x y o p back vertices indices paint = ap (drawn_strokes_in h view d x y) paint ∙ go p
-    where
-      go : (q : Option Paint) → drawn_strokes_in h view d x y q ≡ drawn_strokes w view d x y q
-      go None = refl
-      go (Some q) = λ i.
-          let rect = view_rect view.rect (back i).color.width (back i).color.height in
-          if is_in_cut view rect d x y then fragments_from 0 d.state q x y (filter_map (placed_facing view rect d) (triangles_of (primitive_of d.state) (draw_vertices (vertices i) (indices i)))) else []
-
-  item-same : AllHold place there held → (h : Stores) (w : World) (view : View) (x y : ℕ) (i : Item) → TargetNames place there view.target → Keeps place there held h w → ItemNames place there held i
-      → item_strokes_in h view x y i ≡ item_strokes w view x y i
-  item-same a h w view x y (draw_item d) t k n =
-      let u : Stores = with_buffers h (with_values h.buffers d.values) in
-      let v : World = fold set_uniform w d.values in
-      let given : Keeps place there held u v = set_all place there held d.values h w k n.1 in
-      drawn-same u v view d x y (paint_at u.buffers (textures_out view.target u.textures) d (at u.programs d.program.index)) (paint_of v view d (content_of v d.program)) given.stands.back
-      (vertices_same place there held u v d.vertices given n.2) (indices_same place there held u v d.indices given n.3)
-      (paint_same place there held u v view d given a t n.0 n.4)
-  item-same a h w view x y (touch_item t) tn k n = refl
-  item-same a h w view x y (blit_item b) tn k n = refl
-
   on-same : AllHold place there held → (o : Option Surface) (h : Stores) (w : World) (x y : ℕ) (d : Deed) → Keeps place there held h w → DeedNames place there held d → strokes_on_in o x y h d ≡ strokes_on o x y w d
   on-same a None h w x y d k n = refl
   on-same a (Some s) h w x y (clear_deed view) k n = refl
-  on-same a (Some s) h w x y (item_deed view i) k n = item-same a (back_in s h) (with_back s w) view x y i n.0 (back-keeps s h w k) n.1
+  on-same a (Some s) h w x y (item_deed view i) k n = item-same place there held a (back_in s h) (with_back s w) view x y i n.0 (back-keeps s h w k) n.1
 
   -- ---- a frame buffer
 
@@ -151,7 +85,7 @@ module _ (place : ℕ → ℕ) (there : List ℕ) (held : List Holding) where
     strokes-same : (h : Stores) (w : World) (x y : ℕ) (d : Deed) → Keeps place there held h w → DeedNames place there held d → target_strokes_in t x y h d ≡ target_strokes t x y w d
     strokes-same h w x y d k n =
         let now : surface_at h t ≡ surface_of w (Some t) = surface-same h w k in
-        let next : surface_at (stores_after h d) t ≡ surface_of (after_deed w d) (Some t) = surface-same (stores_after h d) (after_deed w d) (deed-one a h w d k n) in
+        let next : surface_at (stores_after h d) t ≡ surface_of (after_deed w d) (Some t) = surface-same (stores_after h d) (after_deed w d) (deed-one place there held a h w d k n) in
         (λ i. if draws_on t d && has_pixel (now i) x y then map (λ s. own_stroke s) (strokes_on_in (now i) x y h d) else left_pixel (pixel_on (now i) x y) (pixel_on (next i) x y))
         ∙ ap (λ (ss : List Stroke). if draws_on t d && has_pixel (surface_of w (Some t)) x y then map (λ s. own_stroke s) ss else left_pixel (target_pixel w t x y) (target_pixel (after_deed w d) t x y)) (on-same a (surface_of w (Some t)) h w x y d k n)
 
@@ -159,7 +93,7 @@ module _ (place : ℕ → ℕ) (there : List ℕ) (held : List Holding) where
     history-same x y m [] h w k n = refl
     history-same x y m (d ∷ ds) h w k n =
         ap (λ (ss : List TargetStroke). map (λ s. record { deed = m; stroke = s }) ss ++ target_history_in t x y (m + 1) (stores_after h d) ds) (strokes-same h w x y d k n.0)
-        ∙ ap (λ (ms : List TargetMade). map (λ s. record { deed = m; stroke = s }) (target_strokes t x y w d) ++ ms) (history-same x y (m + 1) ds (stores_after h d) (after_deed w d) (deed-one a h w d k n.0) n.1)
+        ∙ ap (λ (ms : List TargetMade). map (λ s. record { deed = m; stroke = s }) (target_strokes t x y w d) ++ ms) (history-same x y (m + 1) ds (stores_after h d) (after_deed w d) (deed-one place there held a h w d k n.0) n.1)
 
 -- ---- the frame by index
 

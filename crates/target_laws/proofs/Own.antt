@@ -9,63 +9,13 @@ use Rattle.gfx_model.specs.Number.{map_from}
 use Rattle.gfx_model.specs.Pixel.{Pixel, Shaded, passes_stencil, passes_depth, stencil_by, stored_color, step_with_depth, pixel_step}
 use Rattle.gfx_model.specs.Views.{View, Clear}
 use Rattle.gfx_model.specs.World.{Surface, World, Content, layout_content, vertex_content, index_content, texture_content, frame_buffer_content, program_content, uniform_content, content_in, change_thing, texels_of, with_texels, with_depth_texels, with_attached, attached_surface, surface_of_parts, Draw, VertexSet, no_vertices, stored_vertices, transient_vertices, IndexSet, no_indices, stored_indices, transient_indices, vertex_range, index_range, draw_vertices, Paint, paint_of, painted, Facing, placed_facing, covered_step, facing_step, after_facing, facings_of, is_in_cut, cleared, cleared_depth, cleared_word, on_each_pixel, pixels_of, depth_bytes, with_texel_list}
-use Rattle.pass_laws.proofs.Pixels.{Fits, Keeps}
+use Rattle.pass_laws.proofs.Pixels.{Keeps, tested_keeps}
+use Rattle.pass_laws.proofs.Steps.{clear_keeps, facings_keep}
 use Rattle.trace_laws.specs.History.{Stroke, clear_stroke, after_stroke, fragment_of, fragments_from, drawn_strokes, clear_strokes, pixel_at}
 use Rattle.trace_laws.specs.Laws.{HasPixel}
 use Rattle.trace_laws.proofs.Pixels.{pixel-changed, has-changed}
+use Rattle.trace_laws.proofs.Histories.{strokes-cond, fragments-fold}
 use Rattle.target_laws.proofs.Things.{texels-changed, texels-beside}
-
--- ---- what keeps depth words
-
-either-fits : (b : Bool) (q p : Pixel) (o : Option Texels) → Fits o q → Fits o p → Fits o (cond b q p)
-either-fits true q p o fq fp = fq
-either-fits false q p o fq fp = fp
-
-clear-fits : (c : Clear) (p : Pixel) (o : Option Texels) → Fits o p → Fits o (cleared c p)
-clear-fits c p None f = ap (cleared_depth c) f
-clear-fits c p (Some d) f = (cleared_word c f.0, ap (cleared_depth c) f.1)
-
-abbrev HasWord : Pixel → Type 0
-HasWord p = (w : ℕ) × (p.depth ≡ Some w)
-
-deep-step : (color : Color) (depth stencil : ℕ) (shaded : Shaded) (state word : ℕ) → HasWord (step_with_depth color depth stencil shaded state word)
-deep-step color depth stencil shaded state word = go (not (passes_stencil word stencil)) (not (passes_depth (depth_test_of state) shaded.depth depth))
-  where
-    go : (a b : Bool)
-        → HasWord (cond a (record { color = color; depth = Some (depth + 2 ^ 24 * stencil_by word (on_stencil_fail word) stencil) })
-        (cond b (record { color = color; depth = Some (depth + 2 ^ 24 * stencil_by word (on_depth_fail word) stencil) })
-        (record { color = stored_color state shaded.color color; depth = Some ((if writes_depth state then shaded.depth else depth) + 2 ^ 24 * stencil_by word (on_pass word) stencil) })))
-    go true b = (depth + 2 ^ 24 * stencil_by word (on_stencil_fail word) stencil, refl)
-    go false true = (depth + 2 ^ 24 * stencil_by word (on_depth_fail word) stencil, refl)
-    go false false = ((if writes_depth state then shaded.depth else depth) + 2 ^ 24 * stencil_by word (on_pass word) stencil, refl)
-
-step-fits : (p : Pixel) (shaded : Shaded) (state word : ℕ) (o : Option Texels) → Fits o p → Fits o (pixel_step p shaded state word)
-step-fits p shaded state word None f = ap (λ z. (pixel_step (record { color = p.color; depth = z }) shaded state word).depth) f
-step-fits p shaded state word (Some d) f =
-    let has = deep-step p.color (f.0 % 2 ^ 24) (f.0 / 2 ^ 24) shaded state word in
-    (has.0, ap (λ z. (pixel_step (record { color = p.color; depth = z }) shaded state word).depth) f.1 ∙ has.1)
-
-facings-fit : (state : ℕ) (paint : Paint) (x y : ℕ) (p : Pixel) (fs : List Facing) (o : Option Texels) → Fits o p → Fits o (fold (facing_step state paint x y) p fs)
-facings-fit state paint x y p [] o f = f
-facings-fit state paint x y p (t ∷ ts) o f =
-    facings-fit state paint x y (facing_step state paint x y p t) ts o
-    (either-fits (covers t.triangle x y) (covered_step state paint t x y p) p o
-    (step-fits p (record { color = painted paint (fragment_at t.triangle x y); depth = (fragment_at t.triangle x y).depth }) state t.stencil o f) f)
-
--- ---- strokes
-
-strokes-cond : (b : Bool) (p : Pixel) (ss : List Stroke) → fold after_stroke p (cond b ss []) ≡ cond b (fold after_stroke p ss) p
-strokes-cond true p ss = refl
-strokes-cond false p ss = refl
-
-fragments-fold : (n state : ℕ) (paint : Paint) (x y : ℕ) (p : Pixel) (fs : List Facing) → fold after_stroke p (fragments_from n state paint x y fs) ≡ fold (facing_step state paint x y) p fs
-fragments-fold n state paint x y p [] = refl
-fragments-fold n state paint x y p (f ∷ fs) = go (covers f.triangle x y) (λ q. fragments-fold (n + 1) state paint x y q fs)
-  where
-    go : (b : Bool) → ((q : Pixel) → fold after_stroke q (fragments_from (n + 1) state paint x y fs) ≡ fold (facing_step state paint x y) q fs)
-        → fold after_stroke p (cond b (fragment_of n state paint x y f ∷ fragments_from (n + 1) state paint x y fs) (fragments_from (n + 1) state paint x y fs)) ≡ fold (facing_step state paint x y) (cond b (covered_step state paint f x y p) p) fs
-    go true h = h (covered_step state paint f x y p)
-    go false h = h p
 
 -- the world with a surface in place of the back buffer
 abbrev pub with_back : Surface → World → World
@@ -82,7 +32,7 @@ clear_change view s a b p = if contains (view_rect view.rect s.color.width s.col
 
 pub clear-strokes : (w : World) (view : View) (s : Surface) (x y : ℕ) → HasPixel s x y → Strokes s x y (clear_strokes (with_back s w) view x y) (clear_change view s)
 clear-strokes w view s x y has =
-    let keeps : Keeps (clear_change view s) = λ a b p o f. either-fits (contains (view_rect view.rect s.color.width s.color.height) a b) (cleared view.clear p) p o (clear-fits view.clear p o f) f in
+    let keeps : Keeps (clear_change view s) = λ a b p o f. tested_keeps (contains (view_rect view.rect s.color.width s.color.height) a b) (cleared view.clear p) p o (clear_keeps view.clear p o f) f in
     record {
       goes = strokes-cond (contains (view_rect view.rect s.color.width s.color.height) x y) (pixel_at s x y) (clear_stroke view.clear ∷ []) ∙ sym (pixel-changed (clear_change view s) keeps s x y has);
       has = has-changed (clear_change view s) keeps s x y has;
@@ -131,7 +81,7 @@ draw-strokes w view d paint s x y has =
     let rect : Rect = view_rect view.rect s.color.width s.color.height in
     let fs : List Facing = facings_of w view rect d in
     let change : ℕ → ℕ → Pixel → Pixel = draw_change view d paint fs s in
-    let keeps : Keeps change = λ a b p o f. either-fits (is_in_cut view rect d a b) (fold (after_facing d paint a b) p fs) p o (facings-fit d.state paint a b p fs o f) f in
+    let keeps : Keeps change = λ a b p o f. tested_keeps (is_in_cut view rect d a b) (fold (after_facing d paint a b) p fs) p o (facings_keep d.state paint a b p fs o f) f in
     let same : facings_of (with_back s w) view rect d ≡ fs = facings-back w s view rect d in
     record {
       goes = ap (λ gs. fold after_stroke (pixel_at s x y) (cond (is_in_cut view rect d x y) (fragments_from 0 d.state paint x y gs) [])) same

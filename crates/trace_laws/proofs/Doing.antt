@@ -1,17 +1,17 @@
 -- The doers' deeds are those of the frame.
-use Rattle.std.proofs.Common.{◌≡◌, ◌≢◌, ◌∙◌, ℕ, zero, suc, ◌+◌, ◌==◌, Bool, true, false, cond, List, [], ◌∷◌, ◌++◌, map, filter, Option, Some, None, is_some, refl, sym, ap, subst, arith, eq-eqb, ne_eqb}
+use Rattle.std.proofs.Common.{◌≡◌, ◌∙◌, ℕ, zero, suc, ◌+◌, Bool, true, false, cond, List, [], ◌∷◌, ◌++◌, map, filter, Option, Some, None, is_some, refl, sym, ap, subst, arith, eq-eqb, ne_eqb}
 use Rattle.std.specs.Prelude.{◌||◌, filter_map, flat_map, option_map, option_and_then, unwrap_or, slice_get}
 use Rattle.std.specs.List.{AllByRecursion, cons_option}
 use Rattle.std.proofs.lemmas.List.Elements.{filter_map-append}
 use Rattle.gfx_model.specs.Number.{map_from}
-use Rattle.gfx_model.specs.Views.{View, Views, view_at}
-use Rattle.gfx_model.specs.World.{Item, is_blit, is_of_view, Numbered, numbered, ordered, entered_views, FrameContent}
+use Rattle.gfx_model.specs.Views.{View, view_at}
+use Rattle.gfx_model.specs.World.{Item, is_blit, is_of_view, Numbered, numbered, ordered, entered_views}
 use Rattle.gfx_model.specs.Frames.{Entry, Recorded, items_by, item_of_entry, draw_order, is_ordered}
 use Rattle.gfx_model.proofs.FrameLaws.{ordered_items}
 use Rattle.scene_model.specs.Fold.{Accepted, FramePlan}
 use Rattle.scene_model.specs.Journal.{item_of, frame_content}
-use Rattle.trace_laws.specs.Deeds.{Deed, clear_deed, item_deed, deeds_of_view, deeds}
-use Rattle.trace_laws.specs.Doers.{Doer, clear_doer, item_doer, recorded_of, has_such, doers_of_view, doers, deed_of, DoersLaw}
+use Rattle.trace_laws.specs.Deeds.{Deed, clear_deed, item_deed, deeds_of_view}
+use Rattle.trace_laws.specs.Doers.{item_doer, recorded_of, has_such, doers_of_view, deed_of, DoersLaw}
 
 -- ---- the items of entries
 

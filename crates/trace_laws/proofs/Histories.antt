@@ -1,63 +1,26 @@
 -- A pixel of the back buffer after what it goes through.
-use Rattle.std.proofs.Common.{◌≡◌, ◌∙◌, ℕ, zero, suc, ◌+◌, ◌<◌, Bool, true, false, cond, List, [], ◌∷◌, ◌++◌, map, length, slice_index_or, Option, Some, None, refl, sym, ap, subst, arith}
-use Rattle.std.specs.Prelude.{◌*◌, ◌/◌, ◌%◌, ◌^◌, not, if◌then◌else◌, fold, take}
-use Rattle.gfx_model.specs.Words.{Handle, depth_test_of, writes_depth, on_stencil_fail, on_depth_fail, on_pass}
-use Rattle.gfx_model.specs.Vertex.{Color}
-use Rattle.gfx_model.specs.Raster.{Texels, Rect, contains, covers, fragment_at, view_rect, no_color}
-use Rattle.gfx_model.specs.Pixel.{Pixel, Shaded, passes_stencil, passes_depth, stencil_by, stored_color, step_with_depth, pixel_step}
-use Rattle.gfx_model.specs.Views.{View, Clear}
-use Rattle.gfx_model.specs.World.{Surface, World, Content, Draw, Item, draw_item, touch_item, blit_item, UniformSet, set_uniform, Blit, copied, texels_of, content_of, Paint, painted, Facing, covered_step, facing_step, after_facing, facings_of, is_in_cut, drawn_on, painted_by, paint_of, cleared, cleared_depth, cleared_word, clear_surface, surface_of, with_changed, on_surface, do_item, FrameContent, frame_step}
-use Rattle.trace_laws.specs.Deeds.{Deed, clear_deed, item_deed, after_deed, deeds, begun, after_first}
-use Rattle.trace_laws.specs.History.{Stroke, clear_stroke, fragment_stroke, after_stroke, fragment_of, fragments_from, drawn_strokes, draw_strokes, item_strokes, clear_strokes, on_back, strokes_of, Made, history_from, after_history, pixel_at}
+use Rattle.std.proofs.Common.{◌≡◌, ◌∙◌, ℕ, ◌+◌, Bool, true, false, cond, List, [], ◌∷◌, map, Option, Some, None, refl, sym, ap, subst}
+use Rattle.std.specs.Prelude.{fold, take}
+use Rattle.gfx_model.specs.Words.{Handle}
+use Rattle.gfx_model.specs.Raster.{Texels, Rect, contains, covers, view_rect}
+use Rattle.gfx_model.specs.Pixel.{Pixel}
+use Rattle.gfx_model.specs.Views.{View}
+use Rattle.gfx_model.specs.World.{Surface, World, Draw, Item, draw_item, touch_item, blit_item, UniformSet, set_uniform, Blit, copied, texels_of, content_of, Paint, Facing, covered_step, facing_step, after_facing, facings_of, is_in_cut, drawn_on, painted_by, paint_of, cleared, clear_surface, surface_of, with_changed, on_surface, do_item, FrameContent, frame_step}
+use Rattle.trace_laws.specs.Deeds.{Deed, clear_deed, item_deed, after_deed, deeds, begun}
+use Rattle.trace_laws.specs.History.{Stroke, clear_stroke, after_stroke, fragment_of, fragments_from, drawn_strokes, item_strokes, clear_strokes, on_back, strokes_of, Made, history_from, after_history, pixel_at}
 use Rattle.trace_laws.specs.Laws.{HasPixel, HistoryLaw, LeastLaw, LastLaw}
 use Rattle.trace_laws.proofs.Steps.{fold-append, steps-law}
-use Rattle.pass_laws.proofs.Pixels.{Fits, Keeps}
+use Rattle.pass_laws.proofs.Pixels.{Keeps, tested_keeps}
+use Rattle.pass_laws.proofs.Steps.{clear_keeps, facings_keep}
 use Rattle.trace_laws.proofs.Pixels.{pixel-changed, has-changed, pixel-color}
-
--- ---- what keeps depth words
-
-either-fits : (b : Bool) (q p : Pixel) (o : Option Texels) → Fits o q → Fits o p → Fits o (cond b q p)
-either-fits true q p o fq fp = fq
-either-fits false q p o fq fp = fp
-
-clear-fits : (c : Clear) (p : Pixel) (o : Option Texels) → Fits o p → Fits o (cleared c p)
-clear-fits c p None f = ap (cleared_depth c) f
-clear-fits c p (Some d) f = (cleared_word c f.0, ap (cleared_depth c) f.1)
-
-abbrev HasWord : Pixel → Type 0
-HasWord p = (w : ℕ) × (p.depth ≡ Some w)
-
-deep-step : (color : Color) (depth stencil : ℕ) (shaded : Shaded) (state word : ℕ) → HasWord (step_with_depth color depth stencil shaded state word)
-deep-step color depth stencil shaded state word = go (not (passes_stencil word stencil)) (not (passes_depth (depth_test_of state) shaded.depth depth))
-  where
-    go : (a b : Bool)
-        → HasWord (cond a (record { color = color; depth = Some (depth + 2 ^ 24 * stencil_by word (on_stencil_fail word) stencil) })
-        (cond b (record { color = color; depth = Some (depth + 2 ^ 24 * stencil_by word (on_depth_fail word) stencil) })
-        (record { color = stored_color state shaded.color color; depth = Some ((if writes_depth state then shaded.depth else depth) + 2 ^ 24 * stencil_by word (on_pass word) stencil) })))
-    go true b = (depth + 2 ^ 24 * stencil_by word (on_stencil_fail word) stencil, refl)
-    go false true = (depth + 2 ^ 24 * stencil_by word (on_depth_fail word) stencil, refl)
-    go false false = ((if writes_depth state then shaded.depth else depth) + 2 ^ 24 * stencil_by word (on_pass word) stencil, refl)
-
-step-fits : (p : Pixel) (shaded : Shaded) (state word : ℕ) (o : Option Texels) → Fits o p → Fits o (pixel_step p shaded state word)
-step-fits p shaded state word None f = ap (λ z. (pixel_step (record { color = p.color; depth = z }) shaded state word).depth) f
-step-fits p shaded state word (Some d) f =
-    let has = deep-step p.color (f.0 % 2 ^ 24) (f.0 / 2 ^ 24) shaded state word in
-    (has.0, ap (λ z. (pixel_step (record { color = p.color; depth = z }) shaded state word).depth) f.1 ∙ has.1)
-
-facings-fit : (state : ℕ) (paint : Paint) (x y : ℕ) (p : Pixel) (fs : List Facing) (o : Option Texels) → Fits o p → Fits o (fold (facing_step state paint x y) p fs)
-facings-fit state paint x y p [] o f = f
-facings-fit state paint x y p (t ∷ ts) o f =
-    facings-fit state paint x y (facing_step state paint x y p t) ts o
-    (either-fits (covers t.triangle x y) (covered_step state paint t x y p) p o
-    (step-fits p (record { color = painted paint (fragment_at t.triangle x y); depth = (fragment_at t.triangle x y).depth }) state t.stencil o f) f)
 
 -- ---- strokes
 
-strokes-cond : (b : Bool) (p : Pixel) (ss : List Stroke) → fold after_stroke p (cond b ss []) ≡ cond b (fold after_stroke p ss) p
+pub strokes-cond : (b : Bool) (p : Pixel) (ss : List Stroke) → fold after_stroke p (cond b ss []) ≡ cond b (fold after_stroke p ss) p
 strokes-cond true p ss = refl
 strokes-cond false p ss = refl
 
-fragments-fold : (n state : ℕ) (paint : Paint) (x y : ℕ) (p : Pixel) (fs : List Facing) → fold after_stroke p (fragments_from n state paint x y fs) ≡ fold (facing_step state paint x y) p fs
+pub fragments-fold : (n state : ℕ) (paint : Paint) (x y : ℕ) (p : Pixel) (fs : List Facing) → fold after_stroke p (fragments_from n state paint x y fs) ≡ fold (facing_step state paint x y) p fs
 fragments-fold n state paint x y p [] = refl
 fragments-fold n state paint x y p (f ∷ fs) = go (covers f.triangle x y) (λ q. fragments-fold (n + 1) state paint x y q fs)
   where
@@ -97,7 +60,7 @@ module _ (x y : ℕ) where
   clear-goes w view None has =
       let s : Surface = w.back in
       let change : ℕ → ℕ → Pixel → Pixel = λ a b p. cond (contains (view_rect view.rect s.color.width s.color.height) a b) (cleared view.clear p) p in
-      let keeps : Keeps change = λ a b p o f. either-fits (contains (view_rect view.rect s.color.width s.color.height) a b) (cleared view.clear p) p o (clear-fits view.clear p o f) f in
+      let keeps : Keeps change = λ a b p o f. tested_keeps (contains (view_rect view.rect s.color.width s.color.height) a b) (cleared view.clear p) p o (clear_keeps view.clear p o f) f in
       record {
         goes = strokes-cond (contains (view_rect view.rect s.color.width s.color.height) x y) (pixel_at s x y) (clear_stroke view.clear ∷ []) ∙ sym (pixel-changed change keeps s x y has);
         has = has-changed change keeps s x y has;
@@ -112,7 +75,7 @@ module _ (x y : ℕ) where
       let rect : Rect = view_rect view.rect s.color.width s.color.height in
       let fs : List Facing = facings_of w view rect d in
       let change : ℕ → ℕ → Pixel → Pixel = λ a b p. cond (is_in_cut view rect d a b) (fold (after_facing d paint a b) p fs) p in
-      let keeps : Keeps change = λ a b p o f. either-fits (is_in_cut view rect d a b) (fold (after_facing d paint a b) p fs) p o (facings-fit d.state paint a b p fs o f) f in
+      let keeps : Keeps change = λ a b p o f. tested_keeps (is_in_cut view rect d a b) (fold (after_facing d paint a b) p fs) p o (facings_keep d.state paint a b p fs o f) f in
       record {
         goes = strokes-cond (is_in_cut view rect d x y) (pixel_at s x y) (fragments_from 0 d.state paint x y fs)
             ∙ ap (λ q. cond (is_in_cut view rect d x y) q (pixel_at s x y)) (fragments-fold 0 d.state paint x y (pixel_at s x y) fs)

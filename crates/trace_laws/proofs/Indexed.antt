@@ -1,31 +1,31 @@
 -- The deeds and histories by index are the definition's.
-use Rattle.std.proofs.Common.{◌≡◌, ◌∙◌, ℕ, ◌+◌, Bool, true, false, cond, List, [], ◌∷◌, ◌++◌, map, Option, Some, None, refl, sym, ap, subst}
+use Rattle.std.proofs.Common.{◌≡◌, ◌∙◌, ℕ, ◌+◌, Bool, true, false, cond, List, [], ◌∷◌, ◌++◌, map, Option, Some, None, refl, ap, subst}
 use Rattle.std.specs.Prelude.{if◌then◌else◌, filter, filter_map, flat_map, fold}
 use Rattle.std.specs.List.{AllByRecursion}
-use Rattle.gfx_model.specs.Words.{Handle, primitive_of, program_kind, first_place, greatest}
-use Rattle.gfx_model.specs.Vertex.{VertexRange, IndexRange, triangles_of}
+use Rattle.gfx_model.specs.Words.{primitive_of}
+use Rattle.gfx_model.specs.Vertex.{triangles_of}
 use Rattle.gfx_model.specs.Raster.{contains, view_rect}
 use Rattle.gfx_model.specs.Views.{View, Views, view_at}
-use Rattle.gfx_model.specs.World.{World, Surface, Draw, Item, draw_item, touch_item, blit_item, is_blit, is_of_view, set_uniform, Paint, paint_of, content_of, is_in_cut, placed_facing, draw_vertices, vertex_range, index_range, on_surface, clear_surface, do_item, FrameContent, ordered, entered_views, begin_frame}
+use Rattle.gfx_model.specs.World.{World, Surface, Draw, Item, draw_item, touch_item, blit_item, is_blit, is_of_view, set_uniform, Paint, paint_of, content_of, is_in_cut, placed_facing, draw_vertices, vertex_range, index_range, clear_surface, FrameContent, ordered, entered_views}
 use Rattle.store_model.specs.Slots.{at}
 use Rattle.store_laws.specs.Standing.{Holding, held_in}
-use Rattle.store_laws.specs.ByIndex.{Stores, FrameData, with_buffers, with_values, textures_out, vertices_at, indices_at, paint_at, on_target, do_by_index, all_commanded, entered_by_index, enter_by_index, drawn_by_index}
-use Rattle.store_laws.specs.Says.{StandsFor, Says, left, there_in, begun_things, AllHold, TargetNames, ItemNames, ItemsName}
+use Rattle.store_laws.specs.ByIndex.{Stores, with_buffers, with_values, textures_out, vertices_at, indices_at, paint_at, on_target, do_by_index, entered_by_index, enter_by_index}
+use Rattle.store_laws.specs.Says.{left, there_in, begun_things, AllHold, TargetNames, ItemNames, ItemsName}
 use Rattle.store_laws.proofs.LookLaws.{Keeps, set_all, vertices_same, indices_same}
 use Rattle.store_laws.proofs.DrawLaws.{clear_one, paint_same, do_all}
 use Rattle.store_laws.proofs.MadeLaws.{made_all}
-use Rattle.trace_laws.specs.Deeds.{Deed, clear_deed, item_deed, after_deed, deeds_of_view, deeds, begun, worlds_after, step_pictures}
-use Rattle.trace_laws.specs.History.{Stroke, clear_stroke, fragments_from, drawn_strokes, draw_strokes, item_strokes, clear_strokes, on_back, strokes_of, Made, history_from, pixel_history}
-use Rattle.trace_laws.specs.ByIndex.{stores_after, deeds_in_view, deeds_in, begun_in, stores_after_each, drawn_strokes_in, draw_strokes_in, item_strokes_in, clear_strokes_in, strokes_in, history_in, IsTraced, IndexedLaw}
+use Rattle.trace_laws.specs.Deeds.{Deed, clear_deed, item_deed, after_deed, deeds_of_view, deeds, begun, worlds_after}
+use Rattle.trace_laws.specs.History.{Stroke, clear_stroke, fragments_from, drawn_strokes, item_strokes, on_back, strokes_of, Made, history_from}
+use Rattle.trace_laws.specs.ByIndex.{stores_after, deeds_in_view, deeds_in, begun_in, stores_after_each, drawn_strokes_in, item_strokes_in, strokes_in, history_in, IndexedLaw}
 use Rattle.trace_laws.proofs.Steps.{fold-append}
 
 -- ---- what deeds name
 
-abbrev DeedNames : (ℕ → ℕ) → List ℕ → List Holding → Deed → Type 0
+abbrev pub DeedNames : (ℕ → ℕ) → List ℕ → List Holding → Deed → Type 0
 DeedNames place there held (clear_deed view) = TargetNames place there view.target
 DeedNames place there held (item_deed view i) = TargetNames place there view.target × ItemNames place there held i
 
-abbrev DeedsName : (ℕ → ℕ) → List ℕ → List Holding → List Deed → Type 0
+abbrev pub DeedsName : (ℕ → ℕ) → List ℕ → List Holding → List Deed → Type 0
 DeedsName place there held ds = AllByRecursion (DeedNames place there held) ds
 
 module _ (place : ℕ → ℕ) (there : List ℕ) (held : List Holding) where
@@ -49,7 +49,7 @@ module _ (place : ℕ → ℕ) (there : List ℕ) (held : List Holding) where
   deeds-append [] ys n m = m
   deeds-append (x ∷ xs) ys n m = (n.0, deeds-append xs ys n.1 m)
 
-  views-name : (f : FrameContent) (drawn : List Item) (vs : List ℕ) → ((v : ℕ) → TargetNames place there (view_at f.views v).target) → ItemsName place there held f.items → ItemsName place there held drawn
+  pub views-name : (f : FrameContent) (drawn : List Item) (vs : List ℕ) → ((v : ℕ) → TargetNames place there (view_at f.views v).target) → ItemsName place there held f.items → ItemsName place there held drawn
       → DeedsName place there held (flat_map (deeds_of_view f drawn) vs)
   views-name f drawn [] t n m = tt
   views-name f drawn (v ∷ vs) t n m =
@@ -61,7 +61,7 @@ module _ (place : ℕ → ℕ) (there : List ℕ) (held : List Holding) where
 
   -- ---- a deed
 
-  deed-one : AllHold place there held → (h : Stores) (w : World) (d : Deed) → Keeps place there held h w → DeedNames place there held d → Keeps place there held (stores_after h d) (after_deed w d)
+  pub deed-one : AllHold place there held → (h : Stores) (w : World) (d : Deed) → Keeps place there held h w → DeedNames place there held d → Keeps place there held (stores_after h d) (after_deed w d)
   deed-one a h w (clear_deed view) k n = clear_one place there held h w view a n k
   deed-one a h w (item_deed view i) k n = do_all place there held view (i ∷ []) h w a n.0 k (n.1, tt)
 
@@ -75,7 +75,7 @@ module _ (place : ℕ → ℕ) (there : List ℕ) (held : List Holding) where
           let rect = view_rect view.rect (back i).color.width (back i).color.height in
           if is_in_cut view rect d x y then fragments_from 0 d.state q x y (filter_map (placed_facing view rect d) (triangles_of (primitive_of d.state) (draw_vertices (vertices i) (indices i)))) else []
 
-  item-same : AllHold place there held → (h : Stores) (w : World) (view : View) (x y : ℕ) (i : Item) → TargetNames place there view.target → Keeps place there held h w → ItemNames place there held i
+  pub item-same : AllHold place there held → (h : Stores) (w : World) (view : View) (x y : ℕ) (i : Item) → TargetNames place there view.target → Keeps place there held h w → ItemNames place there held i
       → item_strokes_in h view x y i ≡ item_strokes w view x y i
   item-same a h w view x y (draw_item d) t k n =
       let u : Stores = with_buffers h (with_values h.buffers d.values) in

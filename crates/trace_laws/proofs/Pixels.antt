@@ -1,13 +1,12 @@
 -- A pixel of a surface whose pixels are changed each by itself.
-use Rattle.std.proofs.Common.{◌≡◌, ◌∙◌, ℕ, zero, suc, ◌+◌, ◌<◌, Bool, true, false, cond, List, [], ◌∷◌, map, length, slice_index_or, Option, Some, None, refl, sym, ap, subst, arith}
-use Rattle.std.specs.Prelude.{◌*◌, ◌/◌, ◌%◌, option_map}
-use Rattle.std.specs.List.{AllByRecursion}
+use Rattle.std.proofs.Common.{◌≡◌, ◌∙◌, ℕ, zero, suc, ◌+◌, ◌<◌, List, [], ◌∷◌, length, slice_index_or, Option, Some, None, refl, sym, ap, subst, arith}
+use Rattle.std.specs.Prelude.{◌*◌, ◌/◌, ◌%◌}
 use Rattle.std.proofs.lemmas.Nat.{mod-mul-add, div-mul-add}
 use Rattle.gfx_model.specs.Number.{u32_at, zip_with, map_from}
 use Rattle.gfx_model.specs.Vertex.{Color}
 use Rattle.gfx_model.specs.Raster.{Texels, no_color}
 use Rattle.gfx_model.specs.Pixel.{Pixel}
-use Rattle.gfx_model.specs.World.{Surface, depth_texel, depth_bytes, joined_pixels, pixels_of, with_texel_list, surface_with, on_each_pixel}
+use Rattle.gfx_model.specs.World.{Surface, joined_pixels, pixels_of, on_each_pixel}
 use Rattle.pass_laws.proofs.Pixels.{Keeps, joined_back, fits_joined, fits_changed}
 use Rattle.trace_laws.specs.History.{no_pixel, pixel_at}
 use Rattle.trace_laws.specs.Laws.{HasPixel}

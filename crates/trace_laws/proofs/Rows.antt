@@ -1,12 +1,12 @@
 -- Worked rows by computation: the bytes of a scene, and the lines of a pixel's history.
-use Rattle.std.specs.Prelude.{◌≡◌, ℕ, List, [], ◌∷◌, ◌++◌, map, flat_map, take, Result, Ok, Err, refl, codes}
+use Rattle.std.specs.Prelude.{◌≡◌, ℕ, List, [], ◌∷◌, map, flat_map, take, Result, Ok, Err, refl, codes}
 use Rattle.std.specs.Fmt.{digits}
-use Rattle.gfx_model.specs.World.{World, first_world, frame_step}
+use Rattle.gfx_model.specs.World.{World, first_world}
 use Rattle.scene_model.specs.Scene.{Scene}
 use Rattle.scene_model.specs.Field.{i32_number, word_in, hex_value, hex_byte, skip_piece, attribute_piece, part_field}
 use Rattle.scene_model.specs.Fold.{FramePlan, plans}
 use Rattle.scene_model.specs.Grammar.{Fault, scene_of, whole_language, after_word, after_resource, after_encoder_line}
-use Rattle.scene_model.specs.Journal.{Entry, Journal, serial, frame_content}
+use Rattle.scene_model.specs.Journal.{Journal, serial, frame_content}
 use Rattle.trace_laws.specs.Text.{scene_pixel_lines}
 use Rattle.trace_laws.specs.Deeds.{step_pictures}
 

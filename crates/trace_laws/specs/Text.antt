@@ -1,6 +1,5 @@
 -- The lines of a pixel's history.
-use Rattle.std.specs.Prelude.{ℕ, ◌+◌, ◌/◌, ◌%◌, ◌^◌, nat_lt, if◌then◌else◌, List, [], ◌∷◌, ◌++◌, flat_map, Option, Some, None, slice_get, slice_index_or, decimal, codes}
-use Rattle.gfx_model.specs.Vertex.{Color}
+use Rattle.std.specs.Prelude.{ℕ, ◌/◌, ◌%◌, ◌^◌, List, [], ◌∷◌, ◌++◌, Option, Some, None, slice_get, slice_index_or, decimal, codes}
 use Rattle.gfx_model.specs.Pixel.{Pixel}
 use Rattle.gfx_model.specs.Frames.{Entry}
 use Rattle.gfx_model.specs.World.{World, first_world, frame_step}

@@ -9,7 +9,7 @@ mod Fetches
 mod Folds
 mod Fronts
 mod Parts
-mod PassLaws
+pub mod PassLaws
 mod Places
 mod TargetLaws
 mod Needs

@@ -9,3 +9,5 @@ pub mod Sampled
 pub mod Shapes
 pub mod Memory
 pub mod Still
+pub mod Lent
+pub mod Begun

@@ -18,7 +18,7 @@ use int_raster::Paint;
 use texture_store::TextureStore;
 
 /// The texture that is bound to a stage, if there is such a stage and it is not empty.
-fn bound(textures: &[Option<Handle>; 2], stage: i32) -> Option<Handle>
+pub(crate) fn bound(textures: &[Option<Handle>; 2], stage: i32) -> Option<Handle>
     ensures { result ≡ bound_handle textures.now stage }
 {
     match stage {

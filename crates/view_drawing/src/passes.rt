@@ -25,7 +25,7 @@ use view_table::View;
 const MOST_VIEWS: usize = 64;
 
 /// Clears the views in order.
-fn clear_views(stores: &mut RenderStores, views: &[ViewPart<'_>])
+pub(crate) fn clear_views(stores: &mut RenderStores, views: &[ViewPart<'_>])
     ensures { stores_seen stores.new ≡ fold clear_turn (stores_seen stores.old) (map turn_seen views.now) }
 {
     for one in views {
@@ -67,7 +67,7 @@ fn joins(first: &View, before: &[ViewPart<'_>], next: &ViewPart<'_>) -> bool
 }
 
 /// How many of the views are drawn at one go, the first of which is given; none, where that has blits.
-fn length_of_pass(first: &View, views: &[ViewPart<'_>]) -> usize
+pub(crate) fn length_of_pass(first: &View, views: &[ViewPart<'_>]) -> usize
     requires plain { AllByRecursion IsPlain (map part_seen views.now) }
     ensures length { result ≤ length views.now }
     ensures pass { IsPass (view_seen first.now).target (map turn_seen (take result views.now)) }
