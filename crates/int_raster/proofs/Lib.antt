@@ -3,6 +3,7 @@ pub mod Raster
 pub mod Along
 pub mod Wholes
 pub mod Stacks
+pub mod Wiped
 pub mod Samples
 pub mod Ramped
 pub mod Tested

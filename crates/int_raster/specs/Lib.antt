@@ -4,6 +4,7 @@ pub mod Places
 pub mod Painted
 pub mod Tiled
 pub mod Rules
+pub mod Wiping
 pub mod Bands
 pub mod Sharing
 pub mod Listing

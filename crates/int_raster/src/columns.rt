@@ -14,7 +14,7 @@ use tri_cover::Setup;
 
 /// The end of a side that begins at a place, within a limit.
 #[inline(always)]
-fn end_within(start: u16, side: u16, limit: u16) -> u16
+pub(crate) fn end_within(start: u16, side: u16, limit: u16) -> u16
     ensures { result ≡ min (start + side) limit }
 {
     (start as u32 + side as u32).min(limit as u32) as u16

@@ -1,20 +1,22 @@
-// Lists of draws on a surface.
+// Wipes and lists of draws on a surface.
 ghost use Rattle.std.specs.Prelude.{◌≡◌, ◌≤◌, fold, length, option_map};
 ghost use Rattle.int_raster.specs.Drawing.{drawn_prepared};
 ghost use Rattle.int_raster.specs.Seen.{surface_seen, sides_seen};
+ghost use Rattle.int_raster.specs.Wiping.{wiped, wipes_seen};
 
-use crate::bands::{deep_bands, draw_deep_list, draw_flat_list, flat_bands};
+use crate::bands::{deep_band, deep_bands, flat_band, flat_bands};
 use crate::lists::DrawList;
 use crate::rows::Rows;
 use crate::surfaces::Surface;
+use crate::wipe::Wipe;
 use std::thread::Threads;
 
 // Each band but the last is a thread and a step deeper on the stack.
 const MOST_BANDS: u32 = 64;
 
-/// Makes the draws of a list in their order. The sides of the surface's textures stay, and how many texels they have.
-pub fn draw_view(surface: &mut Surface, list: &DrawList<'_>)
-    ensures drawn { surface_seen surface.new ≡ fold drawn_prepared (surface_seen surface.old) list.now }
+/// Makes wipes, and then the draws of a list, each in their order. The sides of the surface's textures stay, and how many texels they have.
+pub fn draw_view(surface: &mut Surface, wipes: &[Wipe], list: &DrawList<'_>)
+    ensures drawn { surface_seen surface.new ≡ fold drawn_prepared (fold wiped (surface_seen surface.old) (wipes_seen wipes.now)) list.now }
     ensures color { sides_seen surface.new.color ≡ sides_seen surface.old.color }
     ensures depth { option_map sides_seen surface.new.depth ≡ option_map sides_seen surface.old.depth }
     ensures counts { (length surface.new.color.texels ≡ length surface.old.color.texels) × (option_map (λ d. length d.texels) surface.new.depth ≡ option_map (λ d. length d.texels) surface.old.depth) }
@@ -26,16 +28,22 @@ pub fn draw_view(surface: &mut Surface, list: &DrawList<'_>)
     };
     let colors = surface.color.texels.as_mut_slice();
     match &mut surface.depth {
-        None => draw_flat_list(&rows, list, colors),
-        Some(depth) => draw_deep_list(&rows, list, colors, depth.texels.as_mut_slice()),
+        None => flat_band(&rows, wipes, list, colors),
+        Some(depth) => deep_band(&rows, wipes, list, colors, depth.texels.as_mut_slice()),
     }
 }
 
-/// Makes the draws of a list in their order, in bands of whole rows side by side, the last of them by this thread and each
-/// other by a thread of its own. More bands than rows count as one for each row, and more than 64 as 64.
-pub fn draw_bands<R: Threads>(rt: &R, surface: &mut Surface, list: &DrawList<'_>, bands: u32)
+/// Makes wipes, and then the draws of a list, each in their order, in bands of whole rows side by side, the last of them by this thread and
+/// each other by a thread of its own. More bands than rows count as one for each row, and more than 64 as 64.
+pub fn draw_bands<R: Threads>(
+    rt: &R,
+    surface: &mut Surface,
+    wipes: &[Wipe],
+    list: &DrawList<'_>,
+    bands: u32,
+)
     requires { 1 ≤ bands }
-    ensures drawn { surface_seen surface.new ≡ fold drawn_prepared (surface_seen surface.old) list.now }
+    ensures drawn { surface_seen surface.new ≡ fold drawn_prepared (fold wiped (surface_seen surface.old) (wipes_seen wipes.now)) list.now }
     ensures color { sides_seen surface.new.color ≡ sides_seen surface.old.color }
     ensures depth { option_map sides_seen surface.new.depth ≡ option_map sides_seen surface.old.depth }
     ensures counts { (length surface.new.color.texels ≡ length surface.old.color.texels) × (option_map (λ d. length d.texels) surface.new.depth ≡ option_map (λ d. length d.texels) surface.old.depth) }
@@ -48,7 +56,10 @@ pub fn draw_bands<R: Threads>(rt: &R, surface: &mut Surface, list: &DrawList<'_>
     let bands = bands.min(rows.count as u32).min(MOST_BANDS);
     let colors = surface.color.texels.as_mut_slice();
     match &mut surface.depth {
-        None => flat_bands(rt, &rows, list, bands, colors),
-        Some(depth) => deep_bands(rt, &rows, list, bands, colors, depth.texels.as_mut_slice()),
+        None => flat_bands(rt, &rows, wipes, list, bands, colors),
+        Some(depth) => {
+            let depths = depth.texels.as_mut_slice();
+            deep_bands(rt, &rows, wipes, list, bands, colors, depths);
+        }
     }
 }

@@ -27,6 +27,8 @@ mod spans;
 mod stores;
 mod surfaces;
 mod tiles;
+mod wipe;
+mod wipes;
 
 pub use cuts::{draw_cut, view_rect};
 pub use drawing::{draw_bands, draw_view};
@@ -35,3 +37,5 @@ pub use rasterizer::{BandRasterizer, Rasterizer, SerialRasterizer};
 pub use repainted::{draw_deep_as, draw_flat_as};
 pub use rows::Rows;
 pub use surfaces::Surface;
+pub use wipe::Wipe;
+pub use wipes::wipe_surface;

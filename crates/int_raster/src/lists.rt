@@ -43,6 +43,15 @@ pub struct Prepared<'x> {
 // What a triangle takes besides its pixels, in pixels.
 const TRIANGLE: u64 = 400;
 
+// The pixels that a triangle covers, on the mean, for each strip in which it is looked at.
+const SEEN_AGAIN: u64 = 8;
+
+// The texels of a strip: with their depths 160 KB.
+const STRIP: u64 = 20_480;
+
+// Each strip is a step deeper on the stack.
+const MOST_STRIPS: u64 = 64;
+
 /// About how long triangles take within a cut, in pixels.
 fn work_of(triangles: &[Setup], cut: &Rect) -> u64 {
     let own = TRIANGLE.saturating_mul(triangles.len() as u64);
@@ -146,6 +155,17 @@ impl<'x> DrawList<'x> {
     /// often as it is covered, and 400 for each triangle.
     pub(crate) fn work(&self) -> u64 {
         self.work
+    }
+
+    /// In how many strips of rows a thread draws rows, one behind the other, so that the texels of a strip stay in its processor's
+    /// cache from draw to draw: at most one for each 20,480 texels, and more than one only where the triangles are so large that
+    /// looking at each of them once more a strip costs little. Any number is right.
+    pub(crate) fn strips(&self, rows: &Rows) -> u32 {
+        let count = self.triangles.len() as u64;
+        let covered = self.work.saturating_sub(TRIANGLE.saturating_mul(count));
+        let texels = rows.width as u64 * rows.count as u64;
+        let worth = covered / SEEN_AGAIN / count.max(1);
+        (texels / STRIP).min(worth).min(MOST_STRIPS) as u32
     }
 
     /// Takes all draws out. Their room stays for the next ones.

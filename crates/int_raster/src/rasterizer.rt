@@ -1,19 +1,21 @@
-// Who makes the draws of a list.
+// Who makes wipes and the draws of a list.
 ghost use Rattle.std.specs.Prelude.{◌≡◌, ◌≤◌, fold, length, option_map};
 ghost use Rattle.int_raster.specs.Drawing.{drawn_prepared};
 ghost use Rattle.int_raster.specs.Seen.{surface_seen, sides_seen};
+ghost use Rattle.int_raster.specs.Wiping.{wiped, wipes_seen};
 
 use crate::drawing::{draw_bands, draw_view};
 use crate::lists::DrawList;
 use crate::surfaces::Surface;
+use crate::wipe::Wipe;
 use std::thread;
 use std::thread::Threads;
 
-/// Makes the draws of lists on surfaces, by one thread or by several.
+/// Makes wipes and the draws of lists on surfaces, by one thread or by several.
 pub trait Rasterizer {
-    /// Makes the draws of a list in their order. The sides of the surface's textures stay, and how many texels they have.
-    fn draw(&mut self, surface: &mut Surface, list: &DrawList<'_>)
-        ensures drawn { surface_seen surface.new ≡ fold drawn_prepared (surface_seen surface.old) list.now }
+    /// Makes wipes, and then the draws of a list, each in their order. The sides of the surface's textures stay, and how many texels they have.
+    fn draw(&mut self, surface: &mut Surface, wipes: &[Wipe], list: &DrawList<'_>)
+        ensures drawn { surface_seen surface.new ≡ fold drawn_prepared (fold wiped (surface_seen surface.old) (wipes_seen wipes.now)) list.now }
         ensures color { sides_seen surface.new.color ≡ sides_seen surface.old.color }
         ensures depth { option_map sides_seen surface.new.depth ≡ option_map sides_seen surface.old.depth }
         ensures counts { (length surface.new.color.texels ≡ length surface.old.color.texels) × (option_map (λ d. length d.texels) surface.new.depth ≡ option_map (λ d. length d.texels) surface.old.depth) };
@@ -24,8 +26,8 @@ pub trait Rasterizer {
 pub struct SerialRasterizer;
 
 impl Rasterizer for SerialRasterizer {
-    fn draw(&mut self, surface: &mut Surface, list: &DrawList<'_>) {
-        draw_view(surface, list);
+    fn draw(&mut self, surface: &mut Surface, wipes: &[Wipe], list: &DrawList<'_>) {
+        draw_view(surface, wipes, list);
     }
 }
 
@@ -80,8 +82,8 @@ impl<'r, R: Threads> BandRasterizer<'r, R> {
 }
 
 impl<'r, R: Threads> Rasterizer for BandRasterizer<'r, R> {
-    fn draw(&mut self, surface: &mut Surface, list: &DrawList<'_>) {
+    fn draw(&mut self, surface: &mut Surface, wipes: &[Wipe], list: &DrawList<'_>) {
         let bands = self.bands(list.work());
-        draw_bands(self.rt, surface, list, bands);
+        draw_bands(self.rt, surface, wipes, list, bands);
     }
 }

@@ -13,17 +13,8 @@ use Rattle.store_laws.specs.ByIndex.{Stores, with_buffers, with_values, on_targe
 use Rattle.store_laws.specs.Listed.{Drawing, painted_in, drawn_in, values_after, IsApartTarget}
 use Rattle.store_laws.proofs.ListLaws.{again, list_after, nothing_done, out_same}
 use Rattle.store_laws.proofs.SideLaws.{KeepsSides, map_sides, clear_sides}
-use Rattle.pass_laws.specs.Passed.{Turn, clear_turn, after_turn, all_drawn, all_values, all_listed, ClearsBefore, AllClearBefore, IsPass}
+use Rattle.pass_laws.specs.Passed.{Turn, clear_turn, after_turn, all_drawn, all_values, all_cleared, all_listed, all_passed, ClearsBefore, AllClearBefore, IsPass}
 use Rattle.pass_laws.proofs.Steps.{painted_after}
-
--- a surface after the clears of views
-abbrev all_cleared : Surface → List Turn → Surface
-all_cleared s es = fold (λ t e. clear_surface e.view t) s es
-
--- the stores after views of a target, whose surface is taken out once, cleared and then drawn on
-abbrev passed : Option Handle → Stores → List Turn → Stores
-passed target h es =
-    with_buffers (on_target h target (λ s. (all_drawn (textures_out target h.textures) h.programs (record { buffers = h.buffers; surface = all_cleared s es }) es).surface)) (all_values h.buffers es)
 
 -- ---- clears before draws
 
@@ -149,7 +140,7 @@ from_surface target h b f (e ∷ es) k a same plain =
 nothing_keeps : KeepsSides (λ s. s)
 nothing_keeps = record { wide = λ s. refl; high = λ s. refl; deep = λ s. refl }
 
-passes_are : (target : Option Handle) (h : Stores) (es : List Turn) → IsPass target es → IsApartTarget h target → fold after_turn h es ≡ passed target h es
+pub passes_are : (target : Option Handle) (h : Stores) (es : List Turn) → IsPass target es → IsApartTarget h target → fold after_turn h es ≡ all_passed target h es es
 passes_are target h es is a =
     ap (λ x. fold after_turn x es) (sym (nothing_done h target a))
     ∙ from_surface target h h.buffers (λ s. s) es nothing_keeps a is.same is.plain
@@ -205,7 +196,7 @@ buffers_same h None f = refl
 buffers_same h (Some t) f = refl
 
 -- a list on a target that is cleared is the clears and the list on the target taken out once
-listed_is : (target : Option Handle) (h : Stores) (es : List Turn) → IsApartTarget h target → all_listed target (on_target h target (λ s. all_cleared s es)) es ≡ passed target h es
+listed_is : (target : Option Handle) (h : Stores) (es : List Turn) → IsApartTarget h target → all_listed target (on_target h target (λ s. all_cleared s es)) es ≡ all_passed target h es es
 listed_is target h es a =
     (λ i. with_buffers (on_target (on_target h target f) target (λ s. (all_drawn (out_same h target f kf a i) (programs_same h target f i) (record { buffers = buffers_same h target f i; surface = s }) es).surface))
     (all_values (buffers_same h target f i) es))
@@ -223,11 +214,12 @@ listed_is target h es a =
     kg : KeepsSides g
     kg = draws_keep (textures_out target h.textures) h.programs h.buffers (λ s. s) es nothing_keeps
 
+pub clears_stand : (target : Option Handle) (h : Stores) (es : List Turn) → AllByRecursion (λ e. e.view.target ≡ target) es → IsApartTarget h target
+    → fold clear_turn h es ≡ on_target h target (λ s. all_cleared s es)
+clears_stand target h es same a = ap (λ x. fold clear_turn x es) (sym (nothing_done h target a)) ∙ clears_are target h (λ s. s) es nothing_keeps a same
+
 pub pass_stands : (target : Option Handle) (h : Stores) (es : List Turn) → IsPass target es → IsApartTarget h target → fold after_turn h es ≡ all_listed target (fold clear_turn h es) es
 pass_stands target h es is a =
     passes_are target h es is a
     ∙ sym (listed_is target h es a)
-    ∙ ap (λ x. all_listed target x es) (sym cleared)
-  where
-    cleared : fold clear_turn h es ≡ on_target h target (λ s. all_cleared s es)
-    cleared = ap (λ x. fold clear_turn x es) (sym (nothing_done h target a)) ∙ clears_are target h (λ s. s) es nothing_keeps a is.same
+    ∙ ap (λ x. all_listed target x es) (sym (clears_stand target h es is.same a))

@@ -5,7 +5,7 @@ use Rattle.gfx_model.specs.Number.{is_bit_set}
 use Rattle.gfx_model.specs.Words.{ProgramKind, Handle}
 use Rattle.gfx_model.specs.Raster.{Rect, contains, view_rect}
 use Rattle.gfx_model.specs.Views.{View, Clear}
-use Rattle.gfx_model.specs.World.{Item, is_blit, clear_surface}
+use Rattle.gfx_model.specs.World.{Item, Surface, is_blit, clear_surface}
 use Rattle.store_model.specs.Buffers.{Buffers}
 use Rattle.store_model.specs.Textures.{Textures}
 use Rattle.store_laws.specs.ByIndex.{Stores, with_buffers, on_target, textures_out, do_by_index}
@@ -37,6 +37,17 @@ abbrev pub all_listed : Option Handle → Stores → List Turn → Stores
 all_listed target h ts =
     with_buffers (on_target h target (λ s. (all_drawn (textures_out target h.textures) h.programs (record { buffers = h.buffers; surface = s }) ts).surface)) (all_values h.buffers ts)
 
+-- a surface after the clears of views
+abbrev pub all_cleared : Surface → List Turn → Surface
+all_cleared s ts = fold (λ x t. clear_surface t.view x) s ts
+
+-- the stores after the clears of some views of a target and the draws and touches of others, whose surface is taken out once, cleared, and
+-- drawn on in one list
+abbrev pub all_passed : Option Handle → Stores → (cleared drawn : List Turn) → Stores
+all_passed target h cleared drawn =
+    with_buffers (on_target h target (λ s. (all_drawn (textures_out target h.textures) h.programs (record { buffers = h.buffers; surface = all_cleared s cleared }) drawn).surface))
+    (all_values h.buffers drawn)
+
 -- a clear takes neither colours nor depths nor stencils
 pub record ClearsNothing (c : Clear) : Type 0 where
   pub color : is_bit_set c.flags 0 ≡ false
@@ -65,3 +76,12 @@ pub record IsPass (target : Option Handle) (ts : List Turn) : Type 0 where
 -- views of a pass, entered one after the other, are all cleared first, and then drawn in one list
 abbrev pub PassLaw : Type 0
 PassLaw = (target : Option Handle) (h : Stores) (ts : List Turn) → IsPass target ts → IsApartTarget h target → fold after_turn h ts ≡ all_listed target (fold clear_turn h ts) ts
+
+-- the same with the surface taken out once, for the clears and the list
+abbrev pub OnePassLaw : Type 0
+OnePassLaw = (target : Option Handle) (h : Stores) (ts : List Turn) → IsPass target ts → IsApartTarget h target → fold after_turn h ts ≡ all_passed target h ts ts
+
+-- the clears of views of a target are made on its surface, which is taken out once
+abbrev pub ClearsLaw : Type 0
+ClearsLaw = (target : Option Handle) (h : Stores) (ts : List Turn) → AllByRecursion (λ t. t.view.target ≡ target) ts → IsApartTarget h target
+    → fold clear_turn h ts ≡ on_target h target (λ s. all_cleared s ts)

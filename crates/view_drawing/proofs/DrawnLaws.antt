@@ -14,7 +14,7 @@ use Rattle.store_model.specs.Textures.{Textures, TargetSlot, IsTextures, target_
 use Rattle.store_model.proofs.AttachLaws.{apart_of}
 use Rattle.store_laws.specs.ByIndex.{Stores, with_buffers, with_textures, on_target, textures_out, do_by_index}
 use Rattle.store_laws.specs.Listed.{Drawing, drawn_in, values_after, IsApartTarget}
-use Rattle.pass_laws.specs.Passed.{Turn, all_drawn, all_values, all_listed}
+use Rattle.pass_laws.specs.Passed.{Turn, all_drawn, all_values, all_cleared, all_listed, all_passed}
 use Rattle.int_raster.specs.Drawing.{PreparedDraw, drawn_prepared}
 use Rattle.view_drawing.specs.Entered.{blit_in, StopsAtBlit, StopsAtDraw, HaveGiven, IsBegun}
 use Rattle.view_drawing.specs.Memory.{CanDraw}
@@ -61,6 +61,29 @@ listed_taken h ts b s t p textures there e is =
       back = h.back;
       buffers = (ap (λ (x : Drawing). x.buffers) (sym e) ∙ turns_drawn (target_out t.index h.textures) h.programs (record { buffers = h.buffers; surface = surface_with p }) ts) j;
       textures = put_changed h.textures textures t.index p (surface_after (Some t) h ts) s there (ap (λ (x : Drawing). x.surface) (sym e)) is j;
+      programs = h.programs;
+    }
+
+-- ---- the clears and the list on what a target may be
+
+-- on the back buffer
+pub passed_back : (h : Stores) (cs ts : List Turn) (b : Buffers) (s : Surface)
+    → all_drawn h.textures h.programs (record { buffers = h.buffers; surface = all_cleared h.back cs }) ts ≡ record { buffers = b; surface = s }
+    → record { back = s; buffers = b; textures = h.textures; programs = h.programs } ≡ all_passed None h cs ts
+passed_back h cs ts b s e =
+    λ j. record { back = (sym e j).surface; buffers = (ap (λ (x : Drawing). x.buffers) (sym e) ∙ turns_drawn h.textures h.programs (record { buffers = h.buffers; surface = all_cleared h.back cs }) ts) j; textures = h.textures; programs = h.programs }
+
+-- on textures that are taken out
+pub passed_taken : (h : Stores) (cs ts : List Turn) (b : Buffers) (s : Surface) (t : Handle) (p : Texels × Option Texels) (textures : Textures)
+    → target_texels h.textures t.index ≡ Some p
+    → all_drawn (target_out t.index h.textures) h.programs (record { buffers = h.buffers; surface = all_cleared (surface_with p) cs }) ts ≡ record { buffers = b; surface = s }
+    → textures ≡ target_back t.index s.color s.depth (target_out t.index h.textures)
+    → record { back = h.back; buffers = b; textures = textures; programs = h.programs } ≡ all_passed (Some t) h cs ts
+passed_taken h cs ts b s t p textures there e is =
+    λ j. record {
+      back = h.back;
+      buffers = (ap (λ (x : Drawing). x.buffers) (sym e) ∙ turns_drawn (target_out t.index h.textures) h.programs (record { buffers = h.buffers; surface = all_cleared (surface_with p) cs }) ts) j;
+      textures = put_changed h.textures textures t.index p (λ x. surface_after (Some t) h ts (all_cleared x cs)) s there (ap (λ (x : Drawing). x.surface) (sym e)) is j;
       programs = h.programs;
     }
 
@@ -144,3 +167,10 @@ pub given_on_target : (h : Stores) (items : List Item) (i : ℕ) (p : Texels × 
     → HaveGiven items h (record { back = h.back; buffers = b; textures = textures; programs = h.programs })
 given_on_target h items i p s b textures facts law there same is given =
     (b, (given, (λ j. record { back = h.back; buffers = b; textures = (is ∙ (λ k. target_back i (same k).color (same k).depth (target_out i h.textures)) ∙ law h.textures i p.0 p.1 facts there) j; programs = h.programs })))
+
+-- a target that is put back cleared
+pub given_on_cleared : (h : Stores) (cs : List Turn) (items : List Item) (t : Handle) (p : Texels × Option Texels) (s : Surface) (b : Buffers) (textures : Textures) → target_texels h.textures t.index ≡ Some p
+    → s ≡ all_cleared (surface_with p) cs → textures ≡ target_back t.index s.color s.depth (target_out t.index h.textures) → StopsAtDraw h.programs items h.buffers b
+    → HaveGiven items (on_target h (Some t) (λ x. all_cleared x cs)) (record { back = h.back; buffers = b; textures = textures; programs = h.programs })
+given_on_cleared h cs items t p s b textures there same is given =
+    (b, (given, (λ j. record { back = h.back; buffers = b; textures = put_changed h.textures textures t.index p (λ x. all_cleared x cs) s there same is j; programs = h.programs })))

@@ -1,5 +1,4 @@
-mod Blocks
-mod Clears
+mod Cleared
 mod CutLaws
 mod PreparedLaws
 mod DrawnLaws

@@ -13,9 +13,10 @@ use crate::blits::blit_all;
 use crate::drawing::draw_listed;
 use crate::room::DrawingRoom;
 use crate::targets::clear_target;
-use crate::view_parts::ViewPart;
+use crate::view_parts::{Pass, ViewPart};
 use frame_record::{Frame, OrderedItem, PlacedBlit};
 use int_raster::Rasterizer;
+use pass_laws::clears_law;
 use render_stores::RenderStores;
 use std::alloc::AllocError;
 use store_laws::list_law;
@@ -34,8 +35,13 @@ pub(crate) fn draw_items<D: Rasterizer>(
 {
     stores.textures.tell_facts();
     list_law();
+    clears_law();
     let views = [*part];
-    draw_listed(rasterizer, stores, part.view.target, &views, room)
+    let pass = Pass {
+        cleared: &[],
+        drawn: &views,
+    };
+    draw_listed(rasterizer, stores, part.view.target, pass, room)
 }
 
 /// Enters a view: clears its rectangle of its target, then copies its blits, then does its draws and touches, each in the order of its list;

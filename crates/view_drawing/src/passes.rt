@@ -13,10 +13,10 @@ use crate::drawing::draw_listed;
 use crate::entering::enter_view;
 use crate::room::DrawingRoom;
 use crate::targets::clear_target;
-use crate::view_parts::ViewPart;
+use crate::view_parts::{Pass, ViewPart};
 use gfx_words::Handle;
 use int_raster::Rasterizer;
-use pass_laws::pass_law;
+use pass_laws::{clears_law, one_pass_law};
 use render_stores::RenderStores;
 use std::alloc::AllocError;
 use view_table::View;
@@ -46,9 +46,13 @@ fn enter_pass<D: Rasterizer>(
     ensures begun { OnErr result (HaveGiven (all_items (map turn_seen views.now)) (fold clear_turn (stores_seen stores.old) (map turn_seen views.now)) (stores_seen stores.new)) }
 {
     stores.textures.tell_facts();
-    pass_law();
-    clear_views(stores, views);
-    draw_listed(rasterizer, stores, target, views, room)
+    one_pass_law();
+    clears_law();
+    let pass = Pass {
+        cleared: views,
+        drawn: views,
+    };
+    draw_listed(rasterizer, stores, target, pass, room)
 }
 
 /// Whether a view may be drawn at one go with those of a pass before it, which are of the first view's target.

@@ -1,16 +1,17 @@
 // Room that is kept.
 ghost use Rattle.std.specs.Prelude.{◌≡◌};
 
-use int_raster::DrawRoom;
+use int_raster::{DrawRoom, Wipe};
 use std::alloc::Global;
 use std::mem::replace;
 use tri_cover::{ScreenVertex, Setup};
 
-/// Room for the vertices and triangles of a draw, and for all triangles of a view. It is kept from view to view and from frame to
-/// frame, and grows to what the largest view needs.
+/// Room for the clears of a pass, for the vertices and triangles of a draw, and for all triangles of a pass. It is kept from view
+/// to view and from frame to frame, and grows to what the largest view needs.
 #[derive(Drop)]
 pub struct DrawingRoom {
     pub(crate) alloc: Global,
+    pub(crate) wipes: Vec<Wipe>,
     pub(crate) vertices: Vec<Option<ScreenVertex>>,
     pub(crate) triangles: Vec<Setup>,
     pub(crate) list: DrawRoom,
@@ -21,6 +22,7 @@ impl DrawingRoom {
     pub fn new(alloc: Global) -> DrawingRoom {
         DrawingRoom {
             alloc,
+            wipes: Vec::new(alloc),
             vertices: Vec::new(alloc),
             triangles: Vec::new(alloc),
             list: DrawRoom::new(alloc),

@@ -10,3 +10,10 @@ pub struct ViewPart<'a> {
     pub blits: &'a [PlacedBlit],
     pub items: &'a [OrderedItem],
 }
+
+/// Views of one target that are drawn at one go: those that are cleared first, and those whose draws and touches are made then.
+#[derive(Clone, Copy)]
+pub(crate) struct Pass<'a> {
+    pub(crate) cleared: &'a [ViewPart<'a>],
+    pub(crate) drawn: &'a [ViewPart<'a>],
+}

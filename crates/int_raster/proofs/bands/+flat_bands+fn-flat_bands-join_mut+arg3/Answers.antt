@@ -1,5 +1,6 @@
 use Rattle.std.proofs.Common.{rules}
-use Rattle.int_raster.proofs.Stacks.{flat_joined}
+use Rattle.int_raster.specs.Wiping.{wipes_seen}
+use Rattle.int_raster.proofs.Stacks.{flat_wiped_joined}
 use Rattle.int_raster.proofs.bands.+flat_bands+fn-flat_bands-join_mut+arg3.Goals as goal
 
 pub returns : goal.returns
@@ -8,5 +9,5 @@ returns g t c =
     let upper = c.cut.result.0 in
     let lower = c.cut.result.1 in
     let parts = c.split_at_mut-above.result in
-    flat_joined rows.width rows.top upper.count upper.width lower.width upper.top lower.top parts.0.now parts.1.now c.args.colors.now c.args.list.now {x = c.above-1.given.0} {y = c.under-1.given.0}
+    flat_wiped_joined rows.width rows.top upper.count upper.width lower.width upper.top lower.top parts.0.now parts.1.now c.args.colors.now (wipes_seen c.args.wipes.now) c.args.list.now {x = c.above-1.given.0} {y = c.under-1.given.0}
     (search rules) (search rules) c.cut.ensures.widths.0 c.cut.ensures.widths.1 c.cut.ensures.first c.cut.ensures.next (search rules) rows.wide (search rules)

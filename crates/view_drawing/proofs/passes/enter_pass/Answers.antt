@@ -1,6 +1,5 @@
-use Rattle.std.proofs.Common.{map, sym, ap, subst, ◌∙◌}
+use Rattle.std.proofs.Common.{map, sym, subst, ◌∙◌}
 use Rattle.std.proofs.lemmas.Result.{on_ok_weaker, on_err_weaker}
-use Rattle.pass_laws.specs.Passed.{all_listed}
 use Rattle.render_stores.specs.Seen.{stores_seen}
 use Rattle.view_drawing.specs.Entered.{HaveGiven}
 use Rattle.view_drawing.specs.Passes.{turn_seen, all_items}
@@ -13,11 +12,14 @@ returns-clause-entered g c =
     let h = stores_seen c.args.stores.now in
     let ts = map turn_seen c.args.views.now in
     on_ok_weaker c.draw_listed.result
-    (λ e. e ∙ ap (λ x. all_listed target x ts) c.clear_views.ensures ∙ sym (c.pass_law.ensures target h ts c.requires (apart_target h target c.tell_facts.ensures)))
+    (λ e. e ∙ sym (c.one_pass_law.ensures target h ts c.requires (apart_target h target c.tell_facts.ensures)))
     c.draw_listed.ensures.drawn
 
 pub returns-clause-begun : goal.returns-clause-begun
 returns-clause-begun g c =
+    let target = c.args.target in
+    let h = stores_seen c.args.stores.now in
+    let ts = map turn_seen c.args.views.now in
     on_err_weaker c.draw_listed.result
-    (λ e. subst (λ h. HaveGiven (all_items (map turn_seen c.args.views.now)) h (stores_seen c.draw_listed.new.stores)) c.clear_views.ensures e)
+    (λ e. subst (λ x. HaveGiven (all_items ts) x (stores_seen c.draw_listed.new.stores)) (sym (c.clears_law.ensures target h ts c.requires.same (apart_target h target c.tell_facts.ensures))) e)
     c.draw_listed.ensures.begun

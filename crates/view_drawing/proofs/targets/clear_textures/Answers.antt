@@ -15,5 +15,5 @@ returns-in-Some c =
     let s = surface_seen c.clear.new.surface in
     put_changed c.args.textures.now c.put_target.new.self c.args.index (target_seen (c.in-Some.color, c.in-Some.depth)) (clear_surface view) s
     (sym c.take_target.ensures.taken ∙ ap (option_map target_seen) c.in-Some.is)
-    (c.clear.ensures ∙ (λ j. clear_surface view (record { color = texels_seen (c.new-surface.ensures.color j); depth = option_map texels_seen (c.new-surface.ensures.depth j) })))
+    (c.clear.ensures.cleared ∙ (λ j. clear_surface view (record { color = texels_seen (c.new-surface.ensures.color j); depth = option_map texels_seen (c.new-surface.ensures.depth j) })))
     (c.put_target.ensures ∙ ap (target_back c.args.index s.color s.depth) c.take_target.ensures.left)
