@@ -3,11 +3,9 @@ ghost use Rattle.std.specs.Prelude.{◌≡◌, ◌≤◌, ◌++◌, [], drop, le
 ghost use Rattle.c_playing.specs.Plays.{BeginsWith, AreHandedOut, Plays};
 
 use io_edge::{Failed, Sink};
+use io_whole::LONGEST_INPUT;
 use scene_player::{Status, play_bytes_here};
 use std::alloc::Global;
-
-/// How many bytes a text has at most.
-const LONGEST: usize = 16_777_216;
 
 /// What C is told of a play: how many bytes of pictures and of report were written or are wanted; and of a text that is no scene its
 /// first line that fails, from 1, and the cause.
@@ -115,7 +113,7 @@ fn hand_out(shown: &[u8], told: &[u8], pictures: &mut [u8], report: &mut [u8]) -
 pub fn play_text(alloc: Global, text: &[u8], pictures: &mut [u8], report: &mut [u8]) -> PlayEnd
     ensures { Plays result text.now pictures.old pictures.new report.old report.new }
 {
-    if text.len() > LONGEST {
+    if text.len() > LONGEST_INPUT {
         return PlayEnd::TooLong;
     }
     let mut notes = TextSink::new(alloc);

@@ -1,7 +1,6 @@
 // A scene's lines, judged frame by frame.
 ghost use Rattle.std.specs.Prelude.{◌≡◌, ◌≤◌, ◌+◌, ◌++◌, length, IfOk, Some, None, replicate, slice_get};
 ghost use Rattle.spelling_model.specs.Readable.{IsReadable};
-ghost use Rattle.scene_model.specs.Scene.{views_in};
 ghost use Rattle.scene_progress.specs.Progress.{start_of, before_of};
 ghost use Rattle.scene_text.specs.Bounds.{IsBounded};
 ghost use Rattle.scene_text.specs.Seen.{scene_seen, frame_seen};
@@ -12,23 +11,12 @@ ghost use Rattle.scene_check.specs.Scenes.{IsReached};
 
 use crate::found::{DroppedLine, Found};
 use crate::frames::{judge_blocks, play_lines};
-use gfx_words::{FEWEST_VIEWS, Handle, MOST_VIEWS};
+use gfx_words::Handle;
 use resource_book::{Book, Start};
 use scene_lines::places_law;
-use scene_text::{Scene, SceneFrame};
+use scene_text::{Scene, SceneFrame, view_count};
 use std::alloc::{AllocError, Global};
 use std::marker::Model;
-
-/// How many views scenes of a version have.
-fn view_number(version: u8) -> u16
-    ensures { result ≡ views_in version }
-{
-    if version == 1 {
-        FEWEST_VIEWS
-    } else {
-        MOST_VIEWS
-    }
-}
 
 /// Judges the lines of a frame.
 fn check_frame(
@@ -49,7 +37,7 @@ fn check_frame(
 {
     places_law();
     let names = scene.names.as_slice();
-    let views = view_number(scene.version);
+    let views = view_count(scene.version);
     book.start_frame(number);
     play_lines(
         alloc,
@@ -99,7 +87,7 @@ fn begin(alloc: Global, scene: &Scene) -> Result<(Book, Vec<Option<Handle>>), Al
     let start = Start {
         frame: 0,
         serial: 1,
-        views: view_number(scene.version),
+        views: view_count(scene.version),
         latency: scene.latency,
     };
     let book = Book::new(alloc, start)?;

@@ -1,7 +1,7 @@
 // All frames of a scene.
 ghost use Rattle.std.specs.Prelude.{◌≡◌, ◌≤◌, ◌<◌, ◌++◌, ℕ, List, [], ◌∷◌, None, map, length, replicate, IfOk, vec_len, vec_capacity};
 ghost use Rattle.gfx_model.specs.World.{Item};
-ghost use Rattle.scene_model.specs.Scene.{views_in, views_of};
+ghost use Rattle.scene_model.specs.Scene.{views_of};
 ghost use Rattle.hold_table.specs.Seats.{api_table, api_view};
 ghost use Rattle.hold_table.specs.Views.{first_view};
 ghost use Rattle.frame_record.specs.Seen.{entry_seen};
@@ -23,10 +23,10 @@ use block_recording::Job;
 use draw_encoder::Bundle;
 use frame_record::{FrameLink, JournalEntry, Outcome};
 use gfx_context::{BackNote, Context, Naming, Shared, Start};
-use gfx_words::{FEWEST_VIEWS, Handle, MOST_VIEWS};
+use gfx_words::Handle;
 use hold_table::ApiSeat;
 use scene_progress::{frames_law, lawful_law, next_law, noted_law};
-use scene_text::{Journal, Scene, Sequence};
+use scene_text::{Journal, Scene, Sequence, view_count};
 use std::alloc::{AllocError, Global};
 
 /// What the frames told that ended so far, with room for all of a scene.
@@ -185,17 +185,6 @@ pub(crate) fn nothing<L: FrameLink + Drop>(alloc: Global, scene: &Scene, link: L
     }
 }
 
-/// How many views a scene of a version has.
-fn view_number(version: u8) -> u16
-    ensures { result ≡ views_in version }
-{
-    if version == 1 {
-        FEWEST_VIEWS
-    } else {
-        MOST_VIEWS
-    }
-}
-
 /// Room for what the frames of a scene tell, and the list of what its names stand for, which is nothing yet.
 fn rooms(alloc: Global, scene: &Scene) -> Result<(Told, Vec<Option<Handle>>), AllocError>
     ensures told { IfOk result (λ r. (r.0.lists.items ≡ []) × (r.0.notes.items ≡ []) × (r.0.outcome ≡ Outcome.Shown)) }
@@ -238,7 +227,7 @@ pub(crate) fn play_named<'t, C: Naming, L: FrameLink + Drop, W: Recorders<Job<'t
     let start = Start {
         frame: 0,
         serial: 1,
-        views: view_number(scene.version),
+        views: view_count(scene.version),
         latency: scene.latency,
     };
     match Context::init(alloc, shared, seat, link, start) {

@@ -8,11 +8,9 @@ ghost use Rattle.scene_text.specs.Seen.{journal_seen, scene_seen};
 ghost use Rattle.hold_table.specs.Seats.{table_of, api_table, api_view};
 ghost use Rattle.hold_table.specs.Views.{first_view};
 ghost use Rattle.block_recording.specs.Promised.{IsAccepted};
-ghost use Rattle.scene_playing.specs.Order.{order_seen, Follows};
 ghost use Rattle.scene_playing.specs.Frames.{note_seen, ArePlayed};
 
 use crate::frames::{nothing, play_named};
-use crate::here::play_here;
 use crate::ordered::Order;
 use crate::played::Played;
 use crate::recorders::AtDesk;
@@ -21,7 +19,7 @@ use draw_encoder::{Naming, Shared};
 use frame_record::FrameLink;
 use hold_table::{ApiSeat, HoldTable};
 use io_edge::Gate;
-use scene_text::{Journal, Scene};
+use scene_text::Scene;
 use std::alloc::Global;
 use std::marker::Brand;
 use std::sync::{Arc, Wait};
@@ -168,31 +166,8 @@ fn play_table<
 /// frames that were given are the first of the scene by index, for the journal that comes back. Where not all were given, one was
 /// not shown, or memory was wanting. The gate is called before each item's line. It may wait for whatever renders the frames.
 ///
-/// Where an order is given, it plays as `play_here`, without the gate, and the journal that comes back is a front of the order.
+/// Which lawful journal that is, is as the threads go; in the order of a journal `play_here` plays.
 pub fn play_frames<L: FrameLink + Drop, R: Threads + Wait + Sync, G: Gate + Sync>(
-    rt: &R,
-    gate: &G,
-    alloc: Global,
-    order: Option<&Journal>,
-    scene: &Scene,
-    link: L,
-) -> Played<L>
-    requires readable { IsReadable (scene_seen scene.now) }
-    requires bounded { IsBounded (scene_seen scene.now) }
-    requires latency { L.latency link ≡ scene.now.latency }
-    requires none { (L.given link ≡ []) × (L.back link ≡ []) }
-    ensures follows { Follows (order_seen order.entry) (journal_seen result.journal) }
-    ensures played { ArePlayed (scene_seen scene.now) (L.given result.link) (L.back result.link) (journal_seen result.journal) (map note_seen result.notes.items) result.outcome result.is_whole }
-    ensures origin { L.origin result.link ≡ L.origin link }
-{
-    match order {
-        None => play_threaded(rt, gate, alloc, scene, link),
-        Some(_) => play_here(alloc, order, scene, link),
-    }
-}
-
-// A play without an order.
-fn play_threaded<L: FrameLink + Drop, R: Threads + Wait + Sync, G: Gate + Sync>(
     rt: &R,
     gate: &G,
     alloc: Global,

@@ -70,7 +70,7 @@ pub(crate) fn render_beside<P: Sink + Send + Drop, R: Threads + Wait + Sync, G: 
             match scope.spawn_with(promise, job) {
                 Ok(handle) => {
                     let link = WaitingEnd::new(api, rt);
-                    let played = play_frames(rt, gate, alloc, None, scene, link);
+                    let played = play_frames(rt, gate, alloc, scene, link);
                     let Played {
                         link,
                         journal,

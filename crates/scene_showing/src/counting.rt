@@ -32,7 +32,7 @@ pub fn item_counts<R: Threads + Wait + Sync>(
 {
     lawful_law();
     let link = KeepingLink::new(alloc, scene.latency)?;
-    let played = play_frames(rt, &NoGate, alloc, None, scene, link);
+    let played = play_frames(rt, &NoGate, alloc, scene, link);
     if !played.is_whole {
         return Err(AllocError);
     }

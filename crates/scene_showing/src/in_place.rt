@@ -11,13 +11,13 @@ ghost use Rattle.scene_showing.specs.Rendered.{AreShown};
 use crate::rendered::Rendered;
 use io_edge::{Gate, Sink};
 use render_core::{BandRasterizer, InPlaceLink, Renderer};
-use scene_playing::{Played, play_frames};
+use scene_playing::{Played, play_frames, play_here};
 use scene_text::{Journal, Scene};
 use std::alloc::Global;
 use std::sync::Wait;
 use std::thread::Threads;
 
-/// Plays the frames of a scene, in an order where one is given, and renders each where it is given. `Err` with the renderer as it was, for want of memory; then
+/// Plays the frames of a scene, by threads or in the order that is given, and renders each where it is given. `Err` with the renderer as it was, for want of memory; then
 /// nothing was played.
 pub(crate) fn render_in_place<P: Sink + Drop, R: Threads + Wait + Sync, G: Gate + Sync>(
     rt: &R,
@@ -34,7 +34,10 @@ pub(crate) fn render_in_place<P: Sink + Drop, R: Threads + Wait + Sync, G: Gate 
     ensures refused { IfErr result (λ r. r ≡ renderer) }
 {
     let link = InPlaceLink::new(alloc, renderer, BandRasterizer::new(rt), scene.latency)?;
-    let played = play_frames(rt, gate, alloc, order, scene, link);
+    let played = match order {
+        None => play_frames(rt, gate, alloc, scene, link),
+        Some(_) => play_here(alloc, order, scene, link),
+    };
     let Played {
         link,
         journal,

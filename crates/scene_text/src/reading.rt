@@ -73,15 +73,15 @@ pub fn says_latency(version: u8) -> bool
     version != 1
 }
 
-/// How many views a scene of a version has.
-fn view_count(version: u8) -> usize
+/// How many views a scene of a version has: 256 in version 1, 512 in another.
+pub fn view_count(version: u8) -> u16
     ensures value { result ≡ views_in version }
     ensures few { result ≤ 512 }
 {
     if version == 1 {
-        FEWEST_VIEWS as usize
+        FEWEST_VIEWS
     } else {
-        MOST_VIEWS as usize
+        MOST_VIEWS
     }
 }
 
@@ -295,7 +295,7 @@ impl Reading {
     ) -> Result<(), LineFault>
         ensures { MayGive (λ _. reading_seen self.new) result (model.after_resource whole_language (reading_seen self.old) (texts fields.now) (word_seen word)) }
     {
-        let views = view_count(self.version);
+        let views = usize::from(view_count(self.version));
         let line = resource_line(alloc, views, &mut self.names, fields, word)?;
         self.add_resource(line)?;
         Ok(())

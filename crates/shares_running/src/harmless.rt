@@ -36,7 +36,7 @@ fn scene_left<R: Threads + Wait + Sync>(
     colors_law();
     plan_law();
     let link = LeavingLink::new(alloc, scene.latency, scene.width, scene.height)?;
-    let played = play_frames(rt, &NoGate, alloc, None, scene, link);
+    let played = play_frames(rt, &NoGate, alloc, scene, link);
     if !played.is_whole {
         return Err(AllocError);
     }

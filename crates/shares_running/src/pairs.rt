@@ -38,7 +38,7 @@ pub(crate) fn scene_pairs<R: Threads + Wait + Sync>(
 {
     plan_law();
     let link = PairingLink::new(alloc, scene.latency)?;
-    let played = play_frames(rt, &NoGate, alloc, None, scene, link);
+    let played = play_frames(rt, &NoGate, alloc, scene, link);
     if !played.is_whole {
         return Err(AllocError);
     }

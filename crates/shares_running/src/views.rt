@@ -31,7 +31,7 @@ pub(crate) fn scene_views<R: Threads + Wait + Sync>(
 {
     plan_law();
     let link = ListingLink::new(alloc, scene.latency)?;
-    let played = play_frames(rt, &NoGate, alloc, None, scene, link);
+    let played = play_frames(rt, &NoGate, alloc, scene, link);
     if !played.is_whole {
         return Err(AllocError);
     }

@@ -1,29 +1,17 @@
 // The API thread's lines of a scene's frames, played one frame after another.
 ghost use Rattle.std.specs.Prelude.{◌≡◌, ◌≤◌, ◌+◌, None, Some, length, replicate, slice_get, IfOk};
 ghost use Rattle.spelling_model.specs.Readable.{IsReadable};
-ghost use Rattle.scene_model.specs.Scene.{views_in};
 ghost use Rattle.scene_progress.specs.Progress.{all_of};
 ghost use Rattle.scene_text.specs.Bounds.{IsBounded};
 ghost use Rattle.scene_text.specs.Seen.{frame_seen, scene_seen};
 ghost use Rattle.scene_check.specs.Scenes.{IsReached};
 
-use gfx_words::{FEWEST_VIEWS, Handle, MOST_VIEWS};
+use gfx_words::Handle;
 use resource_book::{Book, Start};
 use scene_lines::{places_law, play_lines};
-use scene_text::{Scene, SceneFrame};
+use scene_text::{Scene, SceneFrame, view_count};
 use std::alloc::{AllocError, Global};
 use view_table::ViewTable;
-
-/// How many views scenes of a version have.
-fn view_number(version: u8) -> u16
-    ensures { result ≡ views_in version }
-{
-    if version == 1 {
-        FEWEST_VIEWS
-    } else {
-        MOST_VIEWS
-    }
-}
 
 /// No name stands for anything.
 fn nothing_named(alloc: Global, scene: &Scene) -> Result<Vec<Option<Handle>>, AllocError>
@@ -42,7 +30,7 @@ fn begin(alloc: Global, scene: &Scene) -> Result<(Book, Vec<Option<Handle>>), Al
     let start = Start {
         frame: 0,
         serial: 1,
-        views: view_number(scene.version),
+        views: view_count(scene.version),
         latency: scene.latency,
     };
     let book = Book::new(alloc, start)?;

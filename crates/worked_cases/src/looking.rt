@@ -6,8 +6,9 @@ ghost use Rattle.scene_text.specs.Seen.{scene_seen};
 
 use crate::case::{Case, Look};
 use crate::judging::Ending;
-use crate::running::{Left, MOST_BYTES, sink};
+use crate::running::{Left, sink};
 use io_edge::MemSink;
+use io_whole::LONGEST_INPUT;
 use scene_text::{Scene, SceneFault, read};
 use scene_tracing::{StepFault, Stepped, put_scene_steps, scene_blame, scene_step_lines};
 use std::alloc::{AllocError, Global};
@@ -144,7 +145,7 @@ pub(crate) fn look_into(
     frame: u32,
     look: Look,
 ) -> Result<Left, AllocError> {
-    let bytes = &case.text[..case.text.len().min(MOST_BYTES)];
+    let bytes = &case.text[..case.text.len().min(LONGEST_INPUT)];
     match read(alloc, bytes) {
         Ok(scene) => look_at(alloc, bytes, &scene, case, frame, look),
         Err(SceneFault::At { line, cause }) => {

@@ -6,13 +6,11 @@ use crate::looking::look_into;
 use crate::programs::{run_program, turn_ring};
 use gfx_query::{QueryStatus, run_queries};
 use io_edge::{MemSink, MemSource};
+use io_whole::LONGEST_INPUT;
 use scene_player::{Played, Status, play, play_bytes_here};
 use std::alloc::{AllocError, Global};
 use std::sync::Wait;
 use std::thread::Threads;
-
-// As many bytes as a run by its bytes alone takes.
-pub(crate) const MOST_BYTES: usize = 16_777_216;
 
 /// What a run left, and whether its threads were held as the case says.
 #[derive(Drop)]
@@ -88,7 +86,7 @@ fn left_by(alloc: Global, played: &Played<MemSink>, notes: &MemSink) -> Result<L
 
 // A run on one thread.
 fn run_here(alloc: Global, case: &Case, with_journal: bool) -> Result<Left, AllocError> {
-    let bytes = &case.text[..case.text.len().min(MOST_BYTES)];
+    let bytes = &case.text[..case.text.len().min(LONGEST_INPUT)];
     let (pictures, mut notes) = sinks(alloc, &case.trouble)?;
     let played = play_bytes_here(alloc, with_journal, bytes, pictures, &mut notes);
     left_by(alloc, &played, &notes)

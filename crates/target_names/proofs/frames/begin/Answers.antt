@@ -13,5 +13,5 @@ none = None
 pub returns : goal.returns
 returns c =
     first_reached (scene_seen c.args.scene.now) c.in_ok-book.book c.in_ok-handles.handles.items
-    (c.in_ok-book.ensures ∙ ap (λ v. let q : BookView = record { resources = opening v c.args.scene.now.latency 0 1; pre = []; post = []; payloads = [] } in q) c.view_number.ensures)
+    (c.in_ok-book.ensures ∙ ap (λ v. let q : BookView = record { resources = opening v c.args.scene.now.latency 0 1; pre = []; post = []; payloads = [] } in q) c.view_count.ensures.value)
     (c.in_ok-handles.ensures ∙ ap (λ n. replicate n none) (sym (length-map c.args.scene.now.names name_seen)))

@@ -3,7 +3,7 @@ use Rattle.scene_model.specs.Scene.{views_of}
 use Rattle.scene_text.specs.Seen.{scene_seen}
 use Rattle.block_recording.specs.Promised.{IsAccepted}
 use Rattle.scene_playing.proofs.OpeningLaws.{counted_views}
-use Rattle.scene_playing.proofs.threads.play_threaded.Given as goal
+use Rattle.scene_playing.proofs.threads.play_frames.Given as goal
 
 -- the table that was just made, what the definition says of the scene's blocks, and the scene's views
 abbrev pub ghosts-play_table : goal.ghosts-play_table
