@@ -1,6 +1,5 @@
 //! Hard use of the crates below: full rooms and tables. It has no calls of its own, and tests alone: each limit at its greatest number and one
-//! past it, by the calls of a context and of its encoders, and the draw order of all items that a frame can have; and loads, whose callers call
-//! one context at once.
+//! past it, by the calls of a context and of its encoders, and the draw order of all items that a frame can have.
 #![tactic(auto)]
 
 #[cfg(test)]
@@ -9,8 +8,6 @@ mod cases;
 mod limit_tests;
 #[cfg(test)]
 mod limits;
-#[cfg(test)]
-mod load_running_tests;
 #[cfg(test)]
 mod order_tests;
 #[cfg(test)]

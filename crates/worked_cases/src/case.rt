@@ -110,6 +110,7 @@ pub(crate) enum Program {
     Shares,
     Check,
     Diff,
+    Load,
 }
 
 /// What is wanted of a frame: the pictures of its steps and their lines, the picture of the deeds to which its pixels are due, or the lines of a
@@ -130,7 +131,7 @@ pub(crate) struct Case {
     pub text: Vec<u8>,
     pub trouble: Trouble,
     pub wanted: Wanted,
-    pub other: Option<Wanted>,
+    pub others: Vec<Wanted>,
 }
 
 impl Case {
@@ -142,7 +143,7 @@ impl Case {
             text: Vec::new(alloc),
             trouble: Trouble::none(alloc),
             wanted: Wanted::new(alloc),
-            other: None,
+            others: Vec::new(alloc),
         }
     }
 
@@ -151,12 +152,12 @@ impl Case {
         self.name = name;
         self.trouble = Trouble::none(alloc);
         self.wanted.ending = Ending::plain(0);
-        self.other = None;
+        self.others.clear();
     }
 
     /// What the lines that are read speak of.
     pub fn current(&mut self) -> &mut Wanted {
-        match self.other.as_mut() {
+        match self.others.last_mut() {
             Some(other) => other,
             None => &mut self.wanted,
         }

@@ -1,11 +1,13 @@
 // Runs of the programs beside the player.
 use crate::case::{Case, Program};
+use crate::gate::CaseGate;
 use crate::judging::Ending;
 use crate::running::{Left, sink, sinks};
 use capture_running::{CaptureStatus, capture};
 use check_running::{CheckStatus, check};
 use diff_running::{DiffStatus, diff};
-use io_edge::{MemSink, MemSource, NoGate};
+use io_edge::{MemSink, MemSource};
+use load_running::{LoadStatus, load};
 use ring_turning::{Spun, spin};
 use shares_running::{SharesStatus, shares};
 use std::alloc::{AllocError, Global};
@@ -49,6 +51,18 @@ fn ending_of_check(status: CheckStatus) -> Ending {
     }
 }
 
+fn ending_of_load(status: LoadStatus) -> Ending {
+    let at = match status {
+        LoadStatus::Text { line } => line,
+        _ => 0,
+    };
+    Ending {
+        status: status.number(),
+        at,
+        cause: 0,
+    }
+}
+
 // A number of 32 bits, or the greatest.
 fn narrow(number: usize) -> u32 {
     u32::try_from(number).unwrap_or(u32::MAX)
@@ -82,6 +96,7 @@ fn captured<R: Threads + Wait + Sync>(
     alloc: Global,
     words: &[String],
     streams: &mut Streams,
+    gate: &CaseGate,
 ) -> (Ending, usize) {
     let captured = capture(
         rt,
@@ -90,7 +105,7 @@ fn captured<R: Threads + Wait + Sync>(
         &mut streams.source,
         &mut streams.output,
         &mut streams.notes,
-        &NoGate,
+        gate,
     );
     (
         ending_of_capture(captured.status),
@@ -106,6 +121,16 @@ fn shared<R: Threads + Wait + Sync>(
     streams: &mut Streams,
 ) -> Ending {
     ending_of_shares(shares(rt, alloc, words, &mut streams.source, &mut streams.notes))
+}
+
+// The history of the calls is the notes.
+fn loaded<R: Threads + Wait + Sync>(
+    rt: &R,
+    alloc: Global,
+    streams: &mut Streams,
+    gate: &CaseGate,
+) -> Ending {
+    ending_of_load(load(rt, alloc, &mut streams.source, &mut streams.notes, gate))
 }
 
 fn checked(alloc: Global, streams: &mut Streams) -> Ending {
@@ -131,15 +156,18 @@ fn compared(alloc: Global, words: &[String], streams: &mut Streams) -> Ending {
 fn ended<R: Threads + Wait + Sync>(
     rt: &R,
     alloc: Global,
+    case: &Case,
     program: Program,
-    words: &[String],
     streams: &mut Streams,
+    gate: &CaseGate,
 ) -> (Ending, usize) {
+    let words = case.words.as_slice();
     match program {
-        Program::Capture => captured(rt, alloc, words, streams),
+        Program::Capture => captured(rt, alloc, words, streams, gate),
         Program::Shares => (shared(rt, alloc, words, streams), 0),
         Program::Check => (checked(alloc, streams), 0),
         Program::Diff => (compared(alloc, words, streams), 0),
+        Program::Load => (loaded(rt, alloc, streams, gate), 0),
     }
 }
 
@@ -158,6 +186,7 @@ fn left_in(
     alloc: Global,
     (ending, frames): (Ending, usize),
     streams: &Streams,
+    is_held: bool,
 ) -> Result<Left, AllocError> {
     let pictures = streams.output.bytes().to_vec(alloc)?;
     let notes = streams.notes.bytes().to_vec(alloc)?;
@@ -166,12 +195,12 @@ fn left_in(
         frames,
         pictures,
         notes,
-        is_held: true,
+        is_held,
     })
 }
 
-/// A run of a program by a case's words and bytes. What it writes to standard output counts as its pictures, but for the lines of shared
-/// keys, which are its notes.
+/// A run of a program by a case's words and bytes at the case's gate. What it writes to standard output counts as its pictures, but for the
+/// lines of shared keys and the history of a load, which are its notes.
 pub(crate) fn run_program<R: Threads + Wait + Sync>(
     rt: &R,
     alloc: Global,
@@ -179,8 +208,9 @@ pub(crate) fn run_program<R: Threads + Wait + Sync>(
     program: Program,
 ) -> Result<Left, AllocError> {
     let mut streams = streams_of(alloc, case)?;
-    let end = ended(rt, alloc, program, &case.words, &mut streams);
-    left_in(alloc, end, &streams)
+    let gate = CaseGate::new(alloc, &case.trouble.holds, case.trouble.seed)?;
+    let end = ended(rt, alloc, case, program, &mut streams, &gate);
+    left_in(alloc, end, &streams, gate.has_held(case.trouble.items))
 }
 
 /// So many frames of the ring of `gfx_example`, with their pictures in a case's sink.

@@ -25,7 +25,7 @@ pub(crate) fn read_line(alloc: Global, case: &mut Case, line: &str) -> Result<bo
         "bytes" => put_bytes(&mut case.text, rest),
         "repeat" => put_fill(alloc, &mut case.text, rest),
         "leaves" => Ok(put_nothing(case.current())),
-        "or" => Ok(put_other(alloc, case)),
+        "or" => put_other(alloc, case),
         "pixels" => put_bytes(&mut case.current().pictures, rest),
         "fill" => put_fill(alloc, &mut case.current().pictures, rest),
         "output" => put_line(&mut case.current().pictures, 1, rest),
@@ -74,6 +74,7 @@ fn program_of(name: &str) -> Option<Program> {
         "shares" => Some(Program::Shares),
         "check" => Some(Program::Check),
         "diff" => Some(Program::Diff),
+        "load" => Some(Program::Load),
         _ => None,
     }
 }
@@ -108,9 +109,9 @@ fn put_lines(case: &mut Case, rest: &str) -> Result<bool, AllocError> {
     }
 }
 
-fn put_other(alloc: Global, case: &mut Case) -> bool {
-    case.other = Some(Wanted::new(alloc));
-    true
+fn put_other(alloc: Global, case: &mut Case) -> Result<bool, AllocError> {
+    case.others.push(Wanted::new(alloc))?;
+    Ok(true)
 }
 
 // The value of a digit of sixteen.

@@ -1,5 +1,5 @@
 // Runs of a case.
-use crate::case::{Case, Takes, Trouble, Way};
+use crate::case::{Case, Takes, Trouble, Wanted, Way};
 use crate::gate::CaseGate;
 use crate::judging::{Ending, Outcome, is_same};
 use crate::looking::look_into;
@@ -219,6 +219,21 @@ fn is_replayed<R: Threads + Wait + Sync>(
     Ok(ends && is_same(&again.outcome(), &left.outcome()))
 }
 
+// Whether a run left this.
+fn is_left_by(case: &Case, wanted: &Wanted, left: &Left) -> bool {
+    is_same(&wanted.outcome(case.trouble.put), &left.outcome())
+}
+
+// Whether a run left one of what the case may leave as well.
+fn is_one_left(case: &Case, left: &Left) -> bool {
+    for other in &case.others {
+        if is_left_by(case, other, left) {
+            return true;
+        }
+    }
+    false
+}
+
 // Whether a run left what the case wants.
 fn is_wanted<R: Threads + Wait + Sync>(
     rt: &R,
@@ -229,12 +244,7 @@ fn is_wanted<R: Threads + Wait + Sync>(
     if case.way == Way::Again {
         return is_replayed(rt, alloc, case, left);
     }
-    let put = case.trouble.put;
-    let other = match &case.other {
-        Some(other) => is_same(&other.outcome(put), &left.outcome()),
-        None => false,
-    };
-    Ok(other || is_same(&case.wanted.outcome(put), &left.outcome()))
+    Ok(is_left_by(case, &case.wanted, left) || is_one_left(case, left))
 }
 
 /// Runs a case. Whether it left what it wants, and its line.
