@@ -1,10 +1,10 @@
 mod Journals
-mod Frames
-mod Scenes
+pub mod Frames
+pub mod Scenes
 mod Texts
 mod StepLines
 mod Steppers
-mod GivenFrames
+pub mod GivenFrames
 mod SceneSteps
 mod Blamers
 mod SceneBlame

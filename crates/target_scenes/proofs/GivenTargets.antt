@@ -24,7 +24,9 @@ use Rattle.scene_playing.specs.Given.{HavePlans}
 use Rattle.scene_playing.specs.Order.{Follows}
 use Rattle.scene_tracing.specs.Asked.{journal_asked}
 use Rattle.scene_tracing.specs.Tracing.{stores_behind}
-use Rattle.target_scenes.proofs.Given.{HasAt, cut-at, asked-front, has-at, has-moment, moment_of, seen-at, seen-before}
+use Rattle.scene_tracing.proofs.Frames.{HasAt, cut-at}
+use Rattle.scene_tracing.proofs.Scenes.{has-at, has-moment, moment_of, seen-at, seen-before}
+use Rattle.scene_tracing.proofs.GivenFrames.{asked-front}
 use Rattle.target_laws.specs.Laws.{IsTargetTraced, SceneTargetLaw}
 use Rattle.target_laws.specs.Targets.{has_pixel, pixel_on}
 use Rattle.target_tracing.specs.Tracing.{IsTargetHistory}

@@ -1,4 +1,3 @@
-pub mod Given
 pub mod Targeters
 pub mod GivenTargets
 pub mod Strokes

@@ -12,7 +12,7 @@ use Rattle.target_scenes.specs.declared.asked.AskedTarget.{AskedTarget}
 use Rattle.target_scenes.specs.declared.found.Found.{Found}
 use Rattle.target_scenes.specs.declared.targeter.Targeter.{Targeter}
 use Rattle.target_tracing.specs.declared.tracing.TargetSpot.{TargetSpot}
-use Rattle.target_scenes.proofs.Given.{at-more, at-now}
+use Rattle.scene_tracing.proofs.Frames.{at-more, at-now}
 
 found-more : (a : AskedTarget) (frames : List Frame) (f : Frame) (b : Found) → HasFound a frames b → HasFound a (frames ++ f ∷ []) b
 found-more a frames f b h = at-more (λ st g. IsFoundIn a.spot st g b) a.width a.height a.frame frames f h

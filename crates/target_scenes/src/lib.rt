@@ -8,7 +8,6 @@ mod playing;
 mod target_text;
 mod targeter;
 mod targeting_link;
-mod text;
 mod told;
 
 pub use asked::AskedTarget;

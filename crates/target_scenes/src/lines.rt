@@ -8,12 +8,11 @@ ghost use Rattle.target_laws.specs.Targets as targets;
 ghost use Rattle.target_tracing.specs.Seen.{target_made_seen, target_stroke_seen};
 ghost use Rattle.target_scenes.specs.Numbered.{left_text, numbered_target_line, numbered_target_lines};
 
-use crate::text::{put_doer, put_line_number, put_number, put_pixel};
 use pixel_ops::Pixel;
 use pixel_strokes::after_stroke;
 use std::alloc::{AllocError, Global};
 use target_tracing::{TargetHistory, TargetMade, TargetStroke};
-use trace_lines::{Doer, put_line};
+use trace_lines::{Doer, put_doer, put_line, put_line_number, put_number, put_pixel};
 
 /// Puts what stood before a deed, and what it leaves.
 fn put_change(text: &mut Vec<u8>, before: &Pixel, after: &Pixel) -> Result<(), AllocError>

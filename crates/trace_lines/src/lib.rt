@@ -9,3 +9,4 @@ mod text;
 pub use doers::{Doer, doers_of};
 pub use lines::put_line;
 pub use steps::put_step;
+pub use text::{put_doer, put_line_number, put_number, put_pixel};

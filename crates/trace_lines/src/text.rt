@@ -14,8 +14,8 @@ use pixel_ops::Pixel;
 use pixel_strokes::{Fate, Stroke};
 use std::alloc::AllocError;
 
-/// Puts a number in decimal digits.
-pub(crate) fn put_number(text: &mut Vec<u8>, number: u64) -> Result<(), AllocError>
+/// Puts a number in decimal digits. Only want of memory refuses, here and below.
+pub fn put_number(text: &mut Vec<u8>, number: u64) -> Result<(), AllocError>
     ensures { IfOk result (λ _. text.new.items ≡ text.old.items ++ decimal number) }
 {
     let mut buffer = Buffer::new();
@@ -75,8 +75,8 @@ fn put_word(text: &mut Vec<u8>, word: Option<u32>) -> Result<(), AllocError>
     Ok(())
 }
 
-/// Puts a pixel: its colour, and its depth and its stencil where it has them.
-pub(crate) fn put_pixel(text: &mut Vec<u8>, pixel: &Pixel) -> Result<(), AllocError>
+/// Puts a pixel: its colour, two hexadecimal digits a channel, and behind spaces its depth and its stencil in decimal digits, where it has them.
+pub fn put_pixel(text: &mut Vec<u8>, pixel: &Pixel) -> Result<(), AllocError>
     ensures { IfOk result (λ _. text.new.items ≡ text.old.items ++ pixel_text (pixel_seen pixel.now)) }
 {
     put_color(text, pixel.color)?;
@@ -102,8 +102,8 @@ fn put_item(text: &mut Vec<u8>, view: u16, encoder: u8, ordinal: u32) -> Result<
     put_number(text, ordinal as u64)
 }
 
-/// Puts whose a deed is, where that is known.
-pub(crate) fn put_doer(text: &mut Vec<u8>, doer: Option<Doer>) -> Result<(), AllocError>
+/// Puts whose a deed is, behind a space, where that is known: ` view V` of a clear, ` view V encoder E item I` of an item.
+pub fn put_doer(text: &mut Vec<u8>, doer: Option<Doer>) -> Result<(), AllocError>
     ensures { IfOk result (λ _. text.new.items ≡ text.old.items ++ doer_text (option_map doer_seen doer)) }
 {
     match doer {
@@ -113,8 +113,8 @@ pub(crate) fn put_doer(text: &mut Vec<u8>, doer: Option<Doer>) -> Result<(), All
     }
 }
 
-/// Puts the number of a line, where it is known.
-pub(crate) fn put_line_number(text: &mut Vec<u8>, line: Option<u32>) -> Result<(), AllocError>
+/// Puts ` line N`, the number of a line of the text, where it is known.
+pub fn put_line_number(text: &mut Vec<u8>, line: Option<u32>) -> Result<(), AllocError>
     ensures { IfOk result (λ _. text.new.items ≡ text.old.items ++ number_text line) }
 {
     if let Some(line) = line {

@@ -3,7 +3,7 @@ use Rattle.store_laws.specs.ByIndex.{frame_by_index}
 use Rattle.frame_record.specs.declared.frame.Frame.{Frame}
 use Rattle.render_stores.specs.Seen.{stores_seen}
 use Rattle.render_core.specs.Seen.{frame_seen}
-use Rattle.target_scenes.proofs.Given.{shown-stores}
+use Rattle.scene_tracing.proofs.Frames.{shown-stores}
 use Rattle.target_scenes.proofs.targeter.render_one.Goals as goal
 
 pub returns-in-Shown-clause-stores : goal.returns-in-Shown-clause-stores

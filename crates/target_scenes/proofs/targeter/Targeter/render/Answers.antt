@@ -1,6 +1,6 @@
 use Rattle.std.proofs.Common.{◌-◌, refl, arith}
 use Rattle.std.proofs.Math.Logic.{∥∥₁_map}
-use Rattle.target_scenes.proofs.Given.{before-more}
+use Rattle.scene_tracing.proofs.Frames.{before-more}
 use Rattle.target_scenes.proofs.Targeters.{render-finds, gone-finds}
 use Rattle.target_scenes.proofs.targeter.Targeter.render.Goals as goal
 
