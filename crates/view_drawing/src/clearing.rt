@@ -27,10 +27,11 @@ fn wipe_of(view: &View, width: u16, height: u16) -> Wipe
     ensures { wipe_seen result ≡ wiping_of width height (view_seen view.now) }
 {
     let clear = view.clear;
+    let color = clear.color;
     Wipe {
         cut: view_rect(view.rect, width, height),
         flags: clear.flags,
-        color: clear.color,
+        color,
         depth: clear.depth,
         stencil: clear.stencil,
     }

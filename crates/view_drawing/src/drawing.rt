@@ -69,8 +69,8 @@ fn draw_surface<D: Rasterizer>(
 ) -> Result<(), AllocError>
     requires wide { things.now.width ≡ surface.old.color.width }
     requires high { things.now.height ≡ surface.old.color.height }
-    ensures drawn { OnOk result (all_drawn things.now.textures.now things.now.programs.now (record { buffers = buffers.old; surface = all_cleared (surface_seen surface.old) (map turn_seen pass.cleared.now) }) (map turn_seen pass.drawn.now) ≡ record { buffers = buffers.new; surface = surface_seen surface.new }) }
-    ensures begun { OnErr result ((surface_seen surface.new ≡ all_cleared (surface_seen surface.old) (map turn_seen pass.cleared.now)) × StopsAtDraw things.now.programs.now (all_items (map turn_seen pass.drawn.now)) buffers.old buffers.new) }
+    ensures drawn { OnOk result (all_drawn things.now.textures.now things.now.programs.now (record { buffers = buffers.old; surface = all_cleared (surface_seen surface.old) (map turn_seen pass.entry.cleared.now) }) (map turn_seen pass.entry.drawn.now) ≡ record { buffers = buffers.new; surface = surface_seen surface.new }) }
+    ensures begun { OnErr result ((surface_seen surface.new ≡ all_cleared (surface_seen surface.old) (map turn_seen pass.entry.cleared.now)) × StopsAtDraw things.now.programs.now (all_items (map turn_seen pass.entry.drawn.now)) buffers.old buffers.new) }
     ensures color { sides_seen surface.new.color ≡ sides_seen surface.old.color }
     ensures depth { option_map sides_seen surface.new.depth ≡ option_map sides_seen surface.old.depth }
 {
@@ -95,8 +95,8 @@ fn draw_target<D: Rasterizer>(
     pass: Pass<'_>,
     room: &mut DrawingRoom,
 ) -> Result<(), AllocError>
-    ensures drawn { OnOk result (stores_seen stores.new ≡ all_passed (Some target) (stores_seen stores.old) (map turn_seen pass.cleared.now) (map turn_seen pass.drawn.now)) }
-    ensures begun { OnErr result (HaveGiven (all_items (map turn_seen pass.drawn.now)) (on_target (stores_seen stores.old) (Some target) (λ s. all_cleared s (map turn_seen pass.cleared.now))) (stores_seen stores.new)) }
+    ensures drawn { OnOk result (stores_seen stores.new ≡ all_passed (Some target) (stores_seen stores.old) (map turn_seen pass.entry.cleared.now) (map turn_seen pass.entry.drawn.now)) }
+    ensures begun { OnErr result (HaveGiven (all_items (map turn_seen pass.entry.drawn.now)) (on_target (stores_seen stores.old) (Some target) (λ s. all_cleared s (map turn_seen pass.entry.cleared.now))) (stores_seen stores.new)) }
 {
     match stores.textures.take_target(target.index()) {
         None => {
@@ -134,8 +134,8 @@ fn draw_back<D: Rasterizer>(
     pass: Pass<'_>,
     room: &mut DrawingRoom,
 ) -> Result<(), AllocError>
-    ensures drawn { OnOk result (stores_seen stores.new ≡ all_passed None (stores_seen stores.old) (map turn_seen pass.cleared.now) (map turn_seen pass.drawn.now)) }
-    ensures begun { OnErr result (HaveGiven (all_items (map turn_seen pass.drawn.now)) (on_target (stores_seen stores.old) None (λ s. all_cleared s (map turn_seen pass.cleared.now))) (stores_seen stores.new)) }
+    ensures drawn { OnOk result (stores_seen stores.new ≡ all_passed None (stores_seen stores.old) (map turn_seen pass.entry.cleared.now) (map turn_seen pass.entry.drawn.now)) }
+    ensures begun { OnErr result (HaveGiven (all_items (map turn_seen pass.entry.drawn.now)) (on_target (stores_seen stores.old) None (λ s. all_cleared s (map turn_seen pass.entry.cleared.now))) (stores_seen stores.new)) }
 {
     let things = Things {
         textures: &stores.textures,
@@ -162,8 +162,8 @@ pub(crate) fn draw_listed<D: Rasterizer>(
     pass: Pass<'_>,
     room: &mut DrawingRoom,
 ) -> Result<(), AllocError>
-    ensures drawn { OnOk result (stores_seen stores.new ≡ all_passed target (stores_seen stores.old) (map turn_seen pass.cleared.now) (map turn_seen pass.drawn.now)) }
-    ensures begun { OnErr result (HaveGiven (all_items (map turn_seen pass.drawn.now)) (on_target (stores_seen stores.old) target (λ s. all_cleared s (map turn_seen pass.cleared.now))) (stores_seen stores.new)) }
+    ensures drawn { OnOk result (stores_seen stores.new ≡ all_passed target (stores_seen stores.old) (map turn_seen pass.entry.cleared.now) (map turn_seen pass.entry.drawn.now)) }
+    ensures begun { OnErr result (HaveGiven (all_items (map turn_seen pass.entry.drawn.now)) (on_target (stores_seen stores.old) target (λ s. all_cleared s (map turn_seen pass.entry.cleared.now))) (stores_seen stores.new)) }
 {
     match target {
         Some(target) => draw_target(rasterizer, stores, target, pass, room),

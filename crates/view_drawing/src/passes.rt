@@ -49,8 +49,8 @@ fn enter_pass<D: Rasterizer>(
     one_pass_law();
     clears_law();
     let pass = Pass {
-        cleared: views,
-        drawn: views,
+        cleared: &*views,
+        drawn: &*views,
     };
     draw_listed(rasterizer, stores, target, pass, room)
 }
