@@ -91,6 +91,18 @@ const FOUR: Rect = Rect {
 // The factors one and one, added: what is drawn twice is twice as bright.
 const ADDS: u64 = 35790863;
 
+// Draws a list on what nothing is cleared of.
+fn draw_whole(surface: &mut Surface, list: &DrawList<'_>) {
+    draw_view(surface, &[], list);
+}
+
+// The same in bands.
+fn draw_in_bands<R: Threads>(rt: &R, surface: &mut Surface, list: &DrawList<'_>, bands: u32)
+    requires { 1 ≤ bands }
+{
+    draw_bands(rt, surface, &[], list, bands);
+}
+
 // The reds of a picture of four by four, drawn in one go and in bands.
 fn drawn_once<R: Threads + Abort>(
     rt: &R,
@@ -109,11 +121,11 @@ fn drawn_once<R: Threads + Abort>(
         paint: Paint::Solid([16, 16, 16, 255]),
     };
     list.push(draw, &triangles)?;
-    draw_view(&mut surface, &[], &list);
+    draw_whole(&mut surface, &list);
     let reds_in_one = reds(alloc, &surface)?;
     for bands in [1u32, 3, 1000] {
         let mut surface = blank(alloc, FOUR, [0, 0, 0, 0])?;
-        draw_bands(rt, &mut surface, &[], &list, bands);
+        draw_in_bands(rt, &mut surface, &list, bands);
         assert_eq!(rt;
             reds(alloc, &surface)?.as_slice(),
             reds_in_one.as_slice(),
@@ -160,7 +172,7 @@ fn a_cleared_list_draws_nothing(rt: HostRuntime) -> Result<(), Fail> {
     list.clear();
     assert!(rt; list.is_empty());
     let mut surface = blank(alloc, FOUR, [0, 0, 0, 0])?;
-    draw_view(&mut surface, &[], &list);
+    draw_whole(&mut surface, &list);
     assert_eq!(rt; reds(alloc, &surface)?.as_slice(), [0; 16].as_slice());
     Ok(())
 }
