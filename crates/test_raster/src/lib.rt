@@ -8,6 +8,8 @@ mod pass_bands_tests;
 #[cfg(test)]
 mod render_core_frame_tests;
 #[cfg(test)]
+mod render_core_pass_tests;
+#[cfg(test)]
 mod render_core_stray_tests;
 #[cfg(test)]
 mod render_core_tests;

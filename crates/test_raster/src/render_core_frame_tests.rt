@@ -13,7 +13,7 @@ use std::test::Fail;
 
 // A layout of two numbers, a vertex buffer of a payload, and a program that paints white, for it finds no uniform. The payload 0 is a
 // triangle round the whole picture, and there are three payloads.
-fn things(payload: u32) -> Result<[Command; 3], Fail> {
+pub(crate) fn things(payload: u32) -> Result<[Command; 3], Fail> {
     Ok([
         Command::CreateLayout {
             index: 0,
@@ -64,7 +64,7 @@ const COLORS: u64 = 15;
 
 // What a frame is made of: whether view 0 is cleared to green, the commands before and after, and the view of its draw.
 #[derive(Clone, Copy, Drop)]
-struct Made<'a> {
+pub(crate) struct Made<'a> {
     is_green: bool,
     pre: &'a [Command],
     post: &'a [Command],
@@ -72,7 +72,7 @@ struct Made<'a> {
 }
 
 // A frame of one draw.
-fn frame_of(alloc: Global, made: Made<'_>) -> Result<Frame, Fail> {
+pub(crate) fn frame_of(alloc: Global, made: Made<'_>) -> Result<Frame, Fail> {
     // The types of a draw's parts are seen here, as the check asks.
     let _parts: Option<Parts> = None;
     let draw = draw(made.view)?;
@@ -95,7 +95,7 @@ fn rendered(
 }
 
 // A renderer of two pixels.
-fn two_pixels(alloc: Global) -> Result<Renderer<MemSink>, Fail> {
+pub(crate) fn two_pixels(alloc: Global) -> Result<Renderer<MemSink>, Fail> {
     let sink = MemSink::new(alloc, 64, 64, Vec::new(alloc))?;
     Ok(Renderer::new(alloc, 2, 1, sink).map_err(|_| "memory")?)
 }
@@ -141,7 +141,7 @@ fn put_as(
 }
 
 // A frame with commands before and behind a draw in a view.
-fn with<'a>(pre: &'a [Command], post: &'a [Command], view: u16) -> Made<'a> {
+pub(crate) fn with<'a>(pre: &'a [Command], post: &'a [Command], view: u16) -> Made<'a> {
     Made {
         is_green: false,
         pre,
