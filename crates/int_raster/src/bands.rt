@@ -1,15 +1,17 @@
-// Bands of rows, and the wipes and draws on each.
-ghost use Rattle.std.specs.Prelude.{◌≡◌, ◌≤◌, ◌<◌, ◌*◌, length, slice_index_or};
+// Bands of rows, and the wipes and draws on each, with the text of the colours behind them.
+ghost use Rattle.std.specs.Prelude.{◌≡◌, ◌≤◌, ◌<◌, ◌*◌, true, length, slice_index_or};
 ghost use Rattle.gfx_model.specs.Number.{map_from};
 ghost use Rattle.int_raster.specs.Drawing.{PreparedDraw, prepared_step};
 ghost use Rattle.int_raster.specs.Places.{below, deep_pixels, flat_pixels, by_place};
 ghost use Rattle.int_raster.specs.Bands.{deep, flat_drawn, deep_drawn, flat_wiped, deep_wiped};
 ghost use Rattle.int_raster.specs.Wiping.{wipes_seen};
+ghost use Rattle.int_raster.specs.Texts.{IsTextOf};
 
 use crate::deep::draw_deep;
 use crate::flat::draw_flat;
 use crate::lists::DrawList;
 use crate::rows::Rows;
+use crate::texts::{room_of, write_text};
 use crate::wipe::Wipe;
 use crate::wipes::{wipe_deep, wipe_flat};
 use fix_math::tell_texels;
@@ -69,61 +71,93 @@ fn draw_deep_list(rows: &Rows, list: &DrawList<'_>, colors: &mut [[u8; 4]], dept
     }
 }
 
-/// Makes wipes, and the draws of a list behind them, on a strip without depth.
-fn flat_strip(rows: &Rows, wipes: &[Wipe], list: &DrawList<'_>, colors: &mut [[u8; 4]])
-    requires { length colors.old ≡ rows.now.width * rows.now.count }
-    ensures { colors.new ≡ flat_drawn rows.now.width rows.now.top (flat_wiped rows.now.width rows.now.top colors.old (wipes_seen wipes.now)) list.now }
+/// Makes wipes, and the draws of a list behind them, on a strip without depth. Where it is wanted, the text of the colours is written
+/// then, and its sum is answered.
+fn flat_strip(
+    rows: &Rows,
+    wipes: &[Wipe],
+    list: &DrawList<'_>,
+    colors: &mut [[u8; 4]],
+    wanted: bool,
+    text: &mut [u8],
+) -> u32
+    requires whole { length colors.old ≡ rows.now.width * rows.now.count }
+    requires room { wanted ≡ true → length text.old ≡ 3 * length colors.old }
+    ensures drawn { colors.new ≡ flat_drawn rows.now.width rows.now.top (flat_wiped rows.now.width rows.now.top colors.old (wipes_seen wipes.now)) list.now }
+    ensures text { wanted ≡ true → IsTextOf colors.new text.new result }
 {
     wipe_flat(rows, wipes, colors);
     draw_flat_list(rows, list, colors);
+    write_text(colors, wanted, text)
 }
 
-/// Makes wipes, and the draws of a list behind them, on a band without depth, in several strips one behind the other.
+/// The same on a band without depth, in several strips one behind the other.
 fn flat_strips(
     rows: &Rows,
     wipes: &[Wipe],
     list: &DrawList<'_>,
     strips: u32,
     colors: &mut [[u8; 4]],
-)
-    requires { length colors.old ≡ rows.now.width * rows.now.count }
-    ensures { colors.new ≡ flat_drawn rows.now.width rows.now.top (flat_wiped rows.now.width rows.now.top colors.old (wipes_seen wipes.now)) list.now }
+    wanted: bool,
+    text: &mut [u8],
+) -> u32
+    requires whole { length colors.old ≡ rows.now.width * rows.now.count }
+    requires room { wanted ≡ true → length text.old ≡ 3 * length colors.old }
+    ensures drawn { colors.new ≡ flat_drawn rows.now.width rows.now.top (flat_wiped rows.now.width rows.now.top colors.old (wipes_seen wipes.now)) list.now }
+    ensures text { wanted ≡ true → IsTextOf colors.new text.new result }
 {
     if strips < 2 {
-        flat_strip(rows, wipes, list, colors);
-        return;
+        return flat_strip(rows, wipes, list, colors, wanted, text);
     }
     let (upper, lower) = rows.cut(1, strips);
-    let (above, under) = colors.split_at_mut(upper.width as usize * upper.count as usize);
-    flat_strip(&upper, wipes, list, above);
-    flat_strips(&lower, wipes, list, strips - 1, under);
+    let middle = upper.width as usize * upper.count as usize;
+    let (above, under) = colors.split_at_mut(middle);
+    let (before, behind) = text.split_at_mut(room_of(wanted, middle));
+    let first = flat_strip(&upper, wipes, list, above, wanted, before);
+    let rest = flat_strips(&lower, wipes, list, strips - 1, under, wanted, behind);
+    first.wrapping_add(rest)
 }
 
-/// Makes wipes, and the draws of a list behind them, on a band without depth.
-pub(crate) fn flat_band(rows: &Rows, wipes: &[Wipe], list: &DrawList<'_>, colors: &mut [[u8; 4]])
-    requires { length colors.old ≡ rows.now.width * rows.now.count }
-    ensures { colors.new ≡ flat_drawn rows.now.width rows.now.top (flat_wiped rows.now.width rows.now.top colors.old (wipes_seen wipes.now)) list.now }
+/// The same on a band without depth.
+pub(crate) fn flat_band(
+    rows: &Rows,
+    wipes: &[Wipe],
+    list: &DrawList<'_>,
+    colors: &mut [[u8; 4]],
+    wanted: bool,
+    text: &mut [u8],
+) -> u32
+    requires whole { length colors.old ≡ rows.now.width * rows.now.count }
+    requires room { wanted ≡ true → length text.old ≡ 3 * length colors.old }
+    ensures drawn { colors.new ≡ flat_drawn rows.now.width rows.now.top (flat_wiped rows.now.width rows.now.top colors.old (wipes_seen wipes.now)) list.now }
+    ensures text { wanted ≡ true → IsTextOf colors.new text.new result }
 {
-    flat_strips(rows, wipes, list, list.strips(rows), colors);
+    flat_strips(rows, wipes, list, list.strips(rows), colors, wanted, text)
 }
 
-/// Makes wipes, and the draws of a list behind them, on a strip with depth.
+/// Makes wipes, and the draws of a list behind them, on a strip with depth. Where it is wanted, the text of the colours is written
+/// then, and its sum is answered.
 fn deep_strip(
     rows: &Rows,
     wipes: &[Wipe],
     list: &DrawList<'_>,
     colors: &mut [[u8; 4]],
     depths: &mut [[u8; 4]],
-)
+    wanted: bool,
+    text: &mut [u8],
+) -> u32
     requires whole { length colors.old ≡ rows.now.width * rows.now.count }
     requires same { length depths.old ≡ length colors.old }
-    ensures { deep colors.new depths.new ≡ deep_drawn rows.now.width rows.now.top (deep_wiped rows.now.width rows.now.top (deep colors.old depths.old) (wipes_seen wipes.now)) list.now }
+    requires room { wanted ≡ true → length text.old ≡ 3 * length colors.old }
+    ensures drawn { deep colors.new depths.new ≡ deep_drawn rows.now.width rows.now.top (deep_wiped rows.now.width rows.now.top (deep colors.old depths.old) (wipes_seen wipes.now)) list.now }
+    ensures text { wanted ≡ true → IsTextOf colors.new text.new result }
 {
     wipe_deep(rows, wipes, colors, depths);
     draw_deep_list(rows, list, colors, depths);
+    write_text(colors, wanted, text)
 }
 
-/// Makes wipes, and the draws of a list behind them, on a band with depth, in several strips one behind the other.
+/// The same on a band with depth, in several strips one behind the other.
 fn deep_strips(
     rows: &Rows,
     wipes: &[Wipe],
@@ -131,40 +165,48 @@ fn deep_strips(
     strips: u32,
     colors: &mut [[u8; 4]],
     depths: &mut [[u8; 4]],
-)
+    wanted: bool,
+    text: &mut [u8],
+) -> u32
     requires whole { length colors.old ≡ rows.now.width * rows.now.count }
     requires same { length depths.old ≡ length colors.old }
-    ensures { deep colors.new depths.new ≡ deep_drawn rows.now.width rows.now.top (deep_wiped rows.now.width rows.now.top (deep colors.old depths.old) (wipes_seen wipes.now)) list.now }
+    requires room { wanted ≡ true → length text.old ≡ 3 * length colors.old }
+    ensures drawn { deep colors.new depths.new ≡ deep_drawn rows.now.width rows.now.top (deep_wiped rows.now.width rows.now.top (deep colors.old depths.old) (wipes_seen wipes.now)) list.now }
+    ensures text { wanted ≡ true → IsTextOf colors.new text.new result }
 {
     if strips < 2 {
-        deep_strip(rows, wipes, list, colors, depths);
-        return;
+        return deep_strip(rows, wipes, list, colors, depths, wanted, text);
     }
     let (upper, lower) = rows.cut(1, strips);
     let middle = upper.width as usize * upper.count as usize;
     let (above, under) = colors.split_at_mut(middle);
     let (near, far) = depths.split_at_mut(middle);
-    deep_strip(&upper, wipes, list, above, near);
-    deep_strips(&lower, wipes, list, strips - 1, under, far);
+    let (before, behind) = text.split_at_mut(room_of(wanted, middle));
+    let first = deep_strip(&upper, wipes, list, above, near, wanted, before);
+    let rest = deep_strips(&lower, wipes, list, strips - 1, under, far, wanted, behind);
+    first.wrapping_add(rest)
 }
 
-/// Makes wipes, and the draws of a list behind them, on a band with depth.
+/// The same on a band with depth.
 pub(crate) fn deep_band(
     rows: &Rows,
     wipes: &[Wipe],
     list: &DrawList<'_>,
     colors: &mut [[u8; 4]],
     depths: &mut [[u8; 4]],
-)
+    wanted: bool,
+    text: &mut [u8],
+) -> u32
     requires whole { length colors.old ≡ rows.now.width * rows.now.count }
     requires same { length depths.old ≡ length colors.old }
-    ensures { deep colors.new depths.new ≡ deep_drawn rows.now.width rows.now.top (deep_wiped rows.now.width rows.now.top (deep colors.old depths.old) (wipes_seen wipes.now)) list.now }
+    requires room { wanted ≡ true → length text.old ≡ 3 * length colors.old }
+    ensures drawn { deep colors.new depths.new ≡ deep_drawn rows.now.width rows.now.top (deep_wiped rows.now.width rows.now.top (deep colors.old depths.old) (wipes_seen wipes.now)) list.now }
+    ensures text { wanted ≡ true → IsTextOf colors.new text.new result }
 {
-    deep_strips(rows, wipes, list, list.strips(rows), colors, depths);
+    deep_strips(rows, wipes, list, list.strips(rows), colors, depths, wanted, text)
 }
 
-/// Makes wipes, and the draws of a list behind them, on a band without depth, in several bands side by side: the last by this thread, and
-/// each other by a thread that this one starts.
+/// The same in several bands side by side: the last by this thread, and each other by a thread that this one starts.
 pub(crate) fn flat_bands<R: Threads>(
     rt: &R,
     rows: &Rows,
@@ -172,28 +214,34 @@ pub(crate) fn flat_bands<R: Threads>(
     list: &DrawList<'_>,
     bands: u32,
     colors: &mut [[u8; 4]],
-)
-    requires { length colors.old ≡ rows.now.width * rows.now.count }
-    ensures { colors.new ≡ flat_drawn rows.now.width rows.now.top (flat_wiped rows.now.width rows.now.top colors.old (wipes_seen wipes.now)) list.now }
+    wanted: bool,
+    text: &mut [u8],
+) -> u32
+    requires whole { length colors.old ≡ rows.now.width * rows.now.count }
+    requires room { wanted ≡ true → length text.old ≡ 3 * length colors.old }
+    ensures drawn { colors.new ≡ flat_drawn rows.now.width rows.now.top (flat_wiped rows.now.width rows.now.top colors.old (wipes_seen wipes.now)) list.now }
+    ensures text { wanted ≡ true → IsTextOf colors.new text.new result }
 {
     if bands < 2 {
-        flat_band(rows, wipes, list, colors);
-        return;
+        return flat_band(rows, wipes, list, colors, wanted, text);
     }
     let more = bands - 1;
     let (upper, lower) = rows.cut(1, bands);
-    let (above, under) = colors.split_at_mut(upper.width as usize * upper.count as usize);
-    join_mut(
+    let middle = upper.width as usize * upper.count as usize;
+    let (above, under) = colors.split_at_mut(middle);
+    let (before, behind) = text.split_at_mut(room_of(wanted, middle));
+    let (first, rest) = join_mut(
         rt,
-        &mut ||
-            requires { length above.now ≡ upper.width * upper.count }
-            ensures { above.exit.now ≡ flat_drawn upper.width upper.top (flat_wiped upper.width upper.top above.entry.now (wipes_seen wipes.entry.now)) list.entry.now }
-        { flat_band(&upper, wipes, list, above) },
-        &mut ||
-            requires { length under.now ≡ lower.width * lower.count }
-            ensures { under.exit.now ≡ flat_drawn lower.width lower.top (flat_wiped lower.width lower.top under.entry.now (wipes_seen wipes.entry.now)) list.entry.now }
-        { flat_bands(rt, &lower, wipes, list, more, under) },
+        &mut || -> u32
+            requires { (length above.now ≡ upper.width * upper.count) × (wanted ≡ true → length before.now ≡ 3 * length above.now) }
+            ensures { (above.exit.now ≡ flat_drawn upper.width upper.top (flat_wiped upper.width upper.top above.entry.now (wipes_seen wipes.entry.now)) list.entry.now) × (wanted ≡ true → IsTextOf above.exit.now before.exit.now result) }
+        { flat_band(&upper, wipes, list, above, wanted, before) },
+        &mut || -> u32
+            requires { (length under.now ≡ lower.width * lower.count) × (wanted ≡ true → length behind.now ≡ 3 * length under.now) }
+            ensures { (under.exit.now ≡ flat_drawn lower.width lower.top (flat_wiped lower.width lower.top under.entry.now (wipes_seen wipes.entry.now)) list.entry.now) × (wanted ≡ true → IsTextOf under.exit.now behind.exit.now result) }
+        { flat_bands(rt, &lower, wipes, list, more, under, wanted, behind) },
     );
+    first.wrapping_add(rest)
 }
 
 /// The same on a band with depth.
@@ -205,29 +253,34 @@ pub(crate) fn deep_bands<R: Threads>(
     bands: u32,
     colors: &mut [[u8; 4]],
     depths: &mut [[u8; 4]],
-)
+    wanted: bool,
+    text: &mut [u8],
+) -> u32
     requires whole { length colors.old ≡ rows.now.width * rows.now.count }
     requires same { length depths.old ≡ length colors.old }
-    ensures { deep colors.new depths.new ≡ deep_drawn rows.now.width rows.now.top (deep_wiped rows.now.width rows.now.top (deep colors.old depths.old) (wipes_seen wipes.now)) list.now }
+    requires room { wanted ≡ true → length text.old ≡ 3 * length colors.old }
+    ensures drawn { deep colors.new depths.new ≡ deep_drawn rows.now.width rows.now.top (deep_wiped rows.now.width rows.now.top (deep colors.old depths.old) (wipes_seen wipes.now)) list.now }
+    ensures text { wanted ≡ true → IsTextOf colors.new text.new result }
 {
     if bands < 2 {
-        deep_band(rows, wipes, list, colors, depths);
-        return;
+        return deep_band(rows, wipes, list, colors, depths, wanted, text);
     }
     let more = bands - 1;
     let (upper, lower) = rows.cut(1, bands);
     let middle = upper.width as usize * upper.count as usize;
     let (above, under) = colors.split_at_mut(middle);
     let (near, far) = depths.split_at_mut(middle);
-    join_mut(
+    let (before, behind) = text.split_at_mut(room_of(wanted, middle));
+    let (first, rest) = join_mut(
         rt,
-        &mut ||
-            requires { (length above.now ≡ upper.width * upper.count) × (length near.now ≡ length above.now) }
-            ensures { deep above.exit.now near.exit.now ≡ deep_drawn upper.width upper.top (deep_wiped upper.width upper.top (deep above.entry.now near.entry.now) (wipes_seen wipes.entry.now)) list.entry.now }
-        { deep_band(&upper, wipes, list, above, near) },
-        &mut ||
-            requires { (length under.now ≡ lower.width * lower.count) × (length far.now ≡ length under.now) }
-            ensures { deep under.exit.now far.exit.now ≡ deep_drawn lower.width lower.top (deep_wiped lower.width lower.top (deep under.entry.now far.entry.now) (wipes_seen wipes.entry.now)) list.entry.now }
-        { deep_bands(rt, &lower, wipes, list, more, under, far) },
+        &mut || -> u32
+            requires { (length above.now ≡ upper.width * upper.count) × (length near.now ≡ length above.now) × (wanted ≡ true → length before.now ≡ 3 * length above.now) }
+            ensures { (deep above.exit.now near.exit.now ≡ deep_drawn upper.width upper.top (deep_wiped upper.width upper.top (deep above.entry.now near.entry.now) (wipes_seen wipes.entry.now)) list.entry.now) × (wanted ≡ true → IsTextOf above.exit.now before.exit.now result) }
+        { deep_band(&upper, wipes, list, above, near, wanted, before) },
+        &mut || -> u32
+            requires { (length under.now ≡ lower.width * lower.count) × (length far.now ≡ length under.now) × (wanted ≡ true → length behind.now ≡ 3 * length under.now) }
+            ensures { (deep under.exit.now far.exit.now ≡ deep_drawn lower.width lower.top (deep_wiped lower.width lower.top (deep under.entry.now far.entry.now) (wipes_seen wipes.entry.now)) list.entry.now) × (wanted ≡ true → IsTextOf under.exit.now behind.exit.now result) }
+        { deep_bands(rt, &lower, wipes, list, more, under, far, wanted, behind) },
     );
+    first.wrapping_add(rest)
 }

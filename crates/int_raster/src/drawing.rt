@@ -1,21 +1,45 @@
 // Wipes and lists of draws on a surface.
-ghost use Rattle.std.specs.Prelude.{◌≡◌, ◌≤◌, fold, length, option_map};
+ghost use Rattle.std.specs.Prelude.{◌≡◌, ◌≤◌, ◌*◌, ◌==◌, if◌then◌else◌, Some, None, fold, length, option_map, IsSome};
 ghost use Rattle.int_raster.specs.Drawing.{drawn_prepared};
 ghost use Rattle.int_raster.specs.Seen.{surface_seen, sides_seen};
 ghost use Rattle.int_raster.specs.Wiping.{wiped, wipes_seen};
+ghost use Rattle.int_raster.specs.Texts.{IsWritten};
 
 use crate::bands::{deep_band, deep_bands, flat_band, flat_bands};
 use crate::lists::DrawList;
 use crate::rows::Rows;
 use crate::surfaces::Surface;
 use crate::wipe::Wipe;
+use fix_math::Texels;
 use std::thread::Threads;
 
 // Each band but the last is a thread and a step deeper on the stack.
 const MOST_BANDS: u32 = 64;
 
+/// Whether there is just the room for the text of texels' colours.
+fn has_room(text: &[u8], texels: &Texels) -> bool
+    ensures { result ≡ (length text.now == 3 * length texels.now.texels) }
+{
+    text.len() == 3 * texels.texels.len()
+}
+
+/// The sum of a text that was wanted.
+fn if_wanted(wanted: bool, total: u32) -> Option<u32>
+    ensures { result ≡ (if wanted then Some total else None) }
+{
+    if wanted { Some(total) } else { None }
+}
+
 /// Makes wipes, and then the draws of a list, each in their order. The sides of the surface's textures stay, and how many texels they have.
-pub fn draw_view(surface: &mut Surface, wipes: &[Wipe], list: &DrawList<'_>)
+/// Where there is just the room for the text of the colours, it is written, and its sum is answered; with other room nothing is.
+pub fn draw_view(
+    surface: &mut Surface,
+    wipes: &[Wipe],
+    list: &DrawList<'_>,
+    text: &mut [u8],
+) -> Option<u32>
+    ensures text { IsWritten result surface.new.color.texels text.new }
+    ensures written { length text.old ≡ 3 * length surface.old.color.texels → IsSome result }
     ensures drawn { surface_seen surface.new ≡ fold drawn_prepared (fold wiped (surface_seen surface.old) (wipes_seen wipes.now)) list.now }
     ensures color { sides_seen surface.new.color ≡ sides_seen surface.old.color }
     ensures depth { option_map sides_seen surface.new.depth ≡ option_map sides_seen surface.old.depth }
@@ -26,10 +50,18 @@ pub fn draw_view(surface: &mut Surface, wipes: &[Wipe], list: &DrawList<'_>)
         top: 0,
         count: surface.color.height,
     };
+    let wanted = has_room(text, &surface.color);
     let colors = surface.color.texels.as_mut_slice();
     match &mut surface.depth {
-        None => flat_band(&rows, wipes, list, colors),
-        Some(depth) => deep_band(&rows, wipes, list, colors, depth.texels.as_mut_slice()),
+        None => {
+            let total = flat_band(&rows, wipes, list, colors, wanted, text);
+            if_wanted(wanted, total)
+        }
+        Some(depth) => {
+            let depths = depth.texels.as_mut_slice();
+            let total = deep_band(&rows, wipes, list, colors, depths, wanted, text);
+            if_wanted(wanted, total)
+        }
     }
 }
 
@@ -41,8 +73,11 @@ pub fn draw_bands<R: Threads>(
     wipes: &[Wipe],
     list: &DrawList<'_>,
     bands: u32,
-)
+    text: &mut [u8],
+) -> Option<u32>
     requires { 1 ≤ bands }
+    ensures text { IsWritten result surface.new.color.texels text.new }
+    ensures written { length text.old ≡ 3 * length surface.old.color.texels → IsSome result }
     ensures drawn { surface_seen surface.new ≡ fold drawn_prepared (fold wiped (surface_seen surface.old) (wipes_seen wipes.now)) list.now }
     ensures color { sides_seen surface.new.color ≡ sides_seen surface.old.color }
     ensures depth { option_map sides_seen surface.new.depth ≡ option_map sides_seen surface.old.depth }
@@ -54,12 +89,17 @@ pub fn draw_bands<R: Threads>(
         count: surface.color.height,
     };
     let bands = bands.min(rows.count as u32).min(MOST_BANDS);
+    let wanted = has_room(text, &surface.color);
     let colors = surface.color.texels.as_mut_slice();
     match &mut surface.depth {
-        None => flat_bands(rt, &rows, wipes, list, bands, colors),
+        None => {
+            let total = flat_bands(rt, &rows, wipes, list, bands, colors, wanted, text);
+            if_wanted(wanted, total)
+        }
         Some(depth) => {
             let depths = depth.texels.as_mut_slice();
-            deep_bands(rt, &rows, wipes, list, bands, colors, depths);
+            let total = deep_bands(rt, &rows, wipes, list, bands, colors, depths, wanted, text);
+            if_wanted(wanted, total)
         }
     }
 }

@@ -1,8 +1,9 @@
 // Who makes wipes and the draws of a list.
-ghost use Rattle.std.specs.Prelude.{◌≡◌, ◌≤◌, fold, length, option_map};
+ghost use Rattle.std.specs.Prelude.{◌≡◌, ◌≤◌, ◌*◌, fold, length, option_map, IsSome};
 ghost use Rattle.int_raster.specs.Drawing.{drawn_prepared};
 ghost use Rattle.int_raster.specs.Seen.{surface_seen, sides_seen};
 ghost use Rattle.int_raster.specs.Wiping.{wiped, wipes_seen};
+ghost use Rattle.int_raster.specs.Texts.{IsWritten};
 
 use crate::drawing::{draw_bands, draw_view};
 use crate::lists::DrawList;
@@ -14,7 +15,16 @@ use std::thread::Threads;
 /// Makes wipes and the draws of lists on surfaces, by one thread or by several.
 pub trait Rasterizer {
     /// Makes wipes, and then the draws of a list, each in their order. The sides of the surface's textures stay, and how many texels they have.
-    fn draw(&mut self, surface: &mut Surface, wipes: &[Wipe], list: &DrawList<'_>)
+    /// Where there is just the room for the text of the colours, it is written, and its sum is answered; with other room nothing is.
+    fn draw(
+        &mut self,
+        surface: &mut Surface,
+        wipes: &[Wipe],
+        list: &DrawList<'_>,
+        text: &mut [u8],
+    ) -> Option<u32>
+        ensures text { IsWritten result surface.new.color.texels text.new }
+        ensures written { length text.old ≡ 3 * length surface.old.color.texels → IsSome result }
         ensures drawn { surface_seen surface.new ≡ fold drawn_prepared (fold wiped (surface_seen surface.old) (wipes_seen wipes.now)) list.now }
         ensures color { sides_seen surface.new.color ≡ sides_seen surface.old.color }
         ensures depth { option_map sides_seen surface.new.depth ≡ option_map sides_seen surface.old.depth }
@@ -26,8 +36,14 @@ pub trait Rasterizer {
 pub struct SerialRasterizer;
 
 impl Rasterizer for SerialRasterizer {
-    fn draw(&mut self, surface: &mut Surface, wipes: &[Wipe], list: &DrawList<'_>) {
-        draw_view(surface, wipes, list);
+    fn draw(
+        &mut self,
+        surface: &mut Surface,
+        wipes: &[Wipe],
+        list: &DrawList<'_>,
+        text: &mut [u8],
+    ) -> Option<u32> {
+        draw_view(surface, wipes, list, text)
     }
 }
 
@@ -82,8 +98,14 @@ impl<'r, R: Threads> BandRasterizer<'r, R> {
 }
 
 impl<'r, R: Threads> Rasterizer for BandRasterizer<'r, R> {
-    fn draw(&mut self, surface: &mut Surface, wipes: &[Wipe], list: &DrawList<'_>) {
+    fn draw(
+        &mut self,
+        surface: &mut Surface,
+        wipes: &[Wipe],
+        list: &DrawList<'_>,
+        text: &mut [u8],
+    ) -> Option<u32> {
         let bands = self.bands(list.work());
-        draw_bands(self.rt, surface, wipes, list, bands);
+        draw_bands(self.rt, surface, wipes, list, bands, text)
     }
 }

@@ -1,6 +1,5 @@
 mod Counts
 mod EndedFrames
-mod FourPixels
 mod OneWay
 mod Parts
 mod Runs

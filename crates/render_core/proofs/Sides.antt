@@ -79,7 +79,7 @@ frame_sides : (h : Stores) (f : FrameData) → sides_of (frame_by_index h f) ≡
 frame_sides h f = commands_sides f.payloads (drawn_by_index h f) f.post ∙ views_sides f.views f.items f.ordered (all_commanded f.payloads h f.pre) (entered_by_index f) ∙ commands_sides f.payloads h f.pre
 
 -- what had the sides of the back buffer before a frame has them behind it
-pub fits_next : (old new : Canvas) (f : FrameData) → stores_seen new.stores ≡ frame_by_index (stores_seen old.stores) f → new.text ≡ old.text → FitsText old → FitsText new
-fits_next old new f stores text fits =
+pub fits_next : (old new : Canvas) (f : FrameData) → stores_seen new.stores ≡ frame_by_index (stores_seen old.stores) f → (new.text.width ≡ old.text.width) × (new.text.height ≡ old.text.height) → FitsText old → FitsText new
+fits_next old new f stores kept fits =
     let same : sides_of (stores_seen new.stores) ≡ sides_of (stores_seen old.stores) = ap sides_of stores ∙ frame_sides (stores_seen old.stores) f in
-    (ap (λ t. t.width) text ∙ fits.0 ∙ sym (ap (λ p. p.0) same), ap (λ t. t.height) text ∙ fits.1 ∙ sym (ap (λ p. p.1) same))
+    (kept.0 ∙ fits.0 ∙ sym (ap (λ p. p.0) same), kept.1 ∙ fits.1 ∙ sym (ap (λ p. p.1) same))

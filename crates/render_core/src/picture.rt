@@ -1,9 +1,11 @@
 // The text of a picture, in the P6 format of Netpbm.
-ghost use Rattle.std.specs.Prelude.{◌≡◌, ◌≤◌, ◌+◌, ◌-◌, ◌*◌, ◌++◌, length, take, flat_map, IfOk};
+ghost use Rattle.std.specs.Prelude.{◌≡◌, ◌+◌, ◌*◌, length, take, drop, IfOk};
 ghost use Rattle.scene_model.specs.Output.{picture_header, picture_text};
 ghost use Rattle.fix_math.specs.Seen.{texels_seen};
+ghost use Rattle.int_raster.specs.Texts.{IsWritten};
 
 use fix_math::Texels;
+use int_raster::write_colors;
 use std::alloc::{AllocError, Global};
 
 /// The text of a picture, which is written anew for each frame. Its room is kept.
@@ -11,8 +13,8 @@ use std::alloc::{AllocError, Global};
 pub(crate) struct PictureText {
     width: u16,
     height: u16,
-    text: Vec<u8>,
-    head: usize,
+    pub(crate) text: Vec<u8>,
+    pub(crate) head: usize,
     ghost header: { take head text.items ≡ picture_header width height },
     ghost many: { length text.items ≡ head + 3 * (width * height) },
 }
@@ -46,56 +48,23 @@ impl PictureText {
         write_colors(&mut self.text[self.head..], texels.texels.as_slice());
     }
 
+    /// Ends the text of a picture of texels of the same sides, the colours of which were written where a sum was told. It takes no memory.
+    pub(crate) fn finish(&mut self, told: Option<u32>, texels: &Texels)
+        requires width { self.old.width ≡ texels.now.width }
+        requires height { self.old.height ≡ texels.now.height }
+        requires told { IsWritten told texels.now.texels (drop self.old.head self.old.text.items) }
+        ensures text { self.new.text.items ≡ picture_text (texels_seen texels.now) }
+        ensures sides { (self.new.width ≡ self.old.width) × (self.new.height ≡ self.old.height) }
+    {
+        if told.is_none() {
+            self.write(texels);
+        }
+    }
+
     /// The text that was written last.
     pub(crate) fn as_slice(&self) -> &[u8]
         ensures { result.now ≡ self.now.text.items }
     {
         &self.text
-    }
-}
-
-/// Writes red, green and blue of four pixels. Their fourth bytes are written behind them, for one store of sixteen bytes is faster than
-/// several of fewer; what follows takes their place.
-fn write_four(room: &mut [u8], colors: &[[u8; 4]])
-    requires room { length room.old ≡ 16 }
-    requires four { length colors.now ≡ 4 }
-    ensures many { length room.new ≡ 16 }
-    ensures written { take 12 room.new ≡ flat_map (take 3) colors.now }
-{
-    let [red0, green0, blue0, alpha0] = colors[0];
-    let [red1, green1, blue1, alpha1] = colors[1];
-    let [red2, green2, blue2, alpha2] = colors[2];
-    let [red3, green3, blue3, alpha3] = colors[3];
-    room.copy_from_slice(&[
-        red0, green0, blue0, red1, green1, blue1, red2, green2, blue2, red3, green3, blue3, alpha0,
-        alpha1, alpha2, alpha3,
-    ]);
-}
-
-/// Writes red, green and blue of as many times four pixels.
-fn write_most(room: &mut [u8], colors: &[[u8; 4]], fours: usize)
-    requires room { length room.old ≡ 3 * length colors.now }
-    requires less { 4 * fours ≤ length colors.now - 2 }
-    ensures many { length room.new ≡ length room.old }
-    ensures written { take (12 * fours) room.new ≡ flat_map (take 3) (take (4 * fours) colors.now) }
-{
-    for i in 0..fours {
-        write_four(&mut room[12 * i..12 * i + 16], &colors[4 * i..4 * i + 4]);
-    }
-}
-
-/// Writes red, green and blue of each pixel.
-fn write_colors(room: &mut [u8], colors: &[[u8; 4]])
-    requires { length room.old ≡ 3 * length colors.now }
-    ensures { room.new ≡ flat_map (take 3) colors.now }
-{
-    let fours = colors.len().saturating_sub(2) / 4;
-    write_most(room, colors, fours);
-    for i in 4 * fours..colors.len() {
-        let [red, green, blue, _] = colors[i];
-        let end = 3 * i;
-        room[end] = red;
-        room[end + 1] = green;
-        room[end + 2] = blue;
     }
 }

@@ -1,11 +1,12 @@
 // Renders one frame after another.
-ghost use Rattle.std.specs.Prelude.{◌≡◌, ◌⊎◌, ◌≤◌, ◌<◌, ℕ, List, [], ◌∷◌, ◌++◌, length, map, false, IfOk, IfErr, MatchOption, OnOk, OnErr};
+ghost use Rattle.std.specs.Prelude.{◌≡◌, ◌⊎◌, ◌≤◌, ◌<◌, ℕ, List, [], ◌∷◌, ◌++◌, length, drop, map, false, IfOk, IfErr, MatchOption, OnOk, OnErr};
 ghost use Rattle.io_edge.specs.Edge.{with_back, Rose};
 ghost use Rattle.gfx_model.specs.World.{World, FrameContent, first_world, frame_step};
 ghost use Rattle.scene_model.specs.Output.{picture_text};
 ghost use Rattle.store_laws.specs.ByIndex.{first_stores, frame_by_index};
 ghost use Rattle.store_laws.specs.Says.{StandsFor, Says, left};
 ghost use Rattle.int_raster.specs.Seen.{surface_seen};
+ghost use Rattle.int_raster.specs.Texts.{IsWritten};
 ghost use Rattle.render_stores.specs.Seen.{stores_seen};
 ghost use Rattle.trace_laws.specs.History.{pixel_at, pixel_history};
 ghost use Rattle.pixel_ops.specs.Seen.{pixel_seen};
@@ -72,23 +73,30 @@ impl Canvas {
         })
     }
 
-    /// Executes a frame's first commands, draws its views, and executes its last commands.
-    fn step<D: Rasterizer>(&mut self, rasterizer: &mut D, frame: &Frame) -> Result<(), AllocError>
+    /// Executes a frame's first commands, draws its views, and executes its last commands. Where the colours of the picture were written on the
+    /// way, their sum is answered.
+    fn step<D: Rasterizer>(
+        &mut self,
+        rasterizer: &mut D,
+        frame: &Frame,
+    ) -> Result<Option<u32>, AllocError>
         ensures stores { OnOk result (stores_seen self.new.stores ≡ frame_by_index (stores_seen self.old.stores) (frame_seen frame.now)) }
         ensures needs { OnErr result (NeedsMemory frame.now) }
-        ensures text { self.new.text ≡ self.old.text }
+        ensures text { IfOk result (λ told. IsWritten told self.new.stores.back.color.texels (drop self.new.text.head self.new.text.text.items)) }
+        ensures sides { (self.new.text.width ≡ self.old.text.width) × (self.new.text.height ≡ self.old.text.height) }
     {
         execute_all(self.alloc, &mut self.stores, &frame.payloads, &frame.pre)?;
-        draw_views(
+        let told = draw_views(
             self.alloc,
             rasterizer,
             &mut self.stores,
             frame,
             &mut self.lists,
             &mut self.room,
+            &mut self.text.text[self.text.head..],
         )?;
         execute_all(self.alloc, &mut self.stores, &frame.payloads, &frame.post)?;
-        Ok(())
+        Ok(told)
     }
 
     /// Executes a frame's first commands, and does its deeds one after another; answers what each does to a pixel of the back buffer.
@@ -128,8 +136,8 @@ impl Canvas {
         ensures stores { OnOk result (stores_seen self.new.stores ≡ frame_by_index (stores_seen self.old.stores) (frame_seen frame.now)) }
         ensures text { OnOk result (self.new.text.text.items ≡ picture_text (stores_seen self.new.stores).back.color) }
     {
-        self.step(rasterizer, frame)?;
-        self.text.write(&self.stores.back.color);
+        let told = self.step(rasterizer, frame)?;
+        self.text.finish(told, &self.stores.back.color);
         Ok(())
     }
 

@@ -7,6 +7,7 @@ ghost use Rattle.store_laws.specs.ByIndex.{enter_by_index, entered_by_index};
 ghost use Rattle.trace_laws.specs.ByIndex.{deeds_in, deeds_in_view};
 ghost use Rattle.frame_tracing.specs.Tracing.{deeds_of_parts};
 ghost use Rattle.frame_record.specs.Ordered.{position_of};
+ghost use Rattle.int_raster.specs.Texts.{IsWritten};
 ghost use Rattle.render_stores.specs.Seen.{stores_seen};
 ghost use Rattle.view_drawing.specs.Passes.{part_seen, IsPlain};
 ghost use Rattle.render_core.specs.Lists.{AreListed, IsPart, EntersMore};
@@ -124,7 +125,8 @@ pub(crate) fn parts_of<'a>(
 }
 
 /// Draws each view that has an item, in the order of the views. It fills the lists with those of the frame, where it has an item, and
-/// takes memory only then.
+/// takes memory only then. Where the last view is of the back buffer, and there is just the room for the text of its colours, that is
+/// written, and its sum is answered.
 pub(crate) fn draw_views<D: Rasterizer>(
     alloc: Global,
     rasterizer: &mut D,
@@ -132,14 +134,16 @@ pub(crate) fn draw_views<D: Rasterizer>(
     frame: &Frame,
     lists: &mut Lists,
     room: &mut DrawingRoom,
-) -> Result<(), AllocError>
+    text: &mut [u8],
+) -> Result<Option<u32>, AllocError>
     ensures entered { let f = frame_seen frame.now in OnOk result (stores_seen stores.new ≡ fold (enter_by_index f.views f.items f.ordered) (stores_seen stores.old) (entered_by_index f)) }
+    ensures text { IfOk result (λ told. IsWritten told stores.new.back.color.texels text.new) }
     ensures needs { OnErr result (frame.now.journal.items ≢ []) }
 {
     if frame.journal.is_empty() {
-        return Ok(());
+        return Ok(None);
     }
     lists.fill(frame)?;
     let parts = parts_of(alloc, frame, lists)?;
-    enter_views(rasterizer, stores, &parts, room)
+    enter_views(rasterizer, stores, &parts, room, text)
 }

@@ -65,7 +65,10 @@ pub fn do_draws<D: Rasterizer>(
         blits: &[],
         items,
     };
-    draw_items(rasterizer, stores, &part, room)
+    match draw_items(rasterizer, stores, &part, room, &mut []) {
+        Ok(_) => Ok(()),
+        Err(fault) => Err(fault),
+    }
 }
 
 /// What a draw is drawn with, where its program is there. Its triangles stand in the room.

@@ -1,6 +1,7 @@
 // The clears of views on their target, and their draws and touches in one list.
 ghost use Rattle.std.specs.Prelude.{◌≡◌, [], Some, None, fold, map, option_map, IfOk, OnOk, OnErr};
 ghost use Rattle.int_raster.specs.Seen.{surface_seen};
+ghost use Rattle.int_raster.specs.Texts.{IsWritten};
 ghost use Rattle.texture_store.specs.Seen.{sides_seen};
 ghost use Rattle.pass_laws.specs.Passed.{all_cleared, all_drawn, all_passed};
 ghost use Rattle.store_laws.specs.ByIndex.{on_target};
@@ -36,23 +37,25 @@ fn list_of<'x>(
 }
 
 /// Clears a surface for views, and makes the draws of a list on it. Where there is no memory for a list of the clears, they are made
-/// before.
+/// before. Where there is just the room for the text of the surface's colours, it is written, and its sum is answered.
 fn draw_cleared<D: Rasterizer>(
     rasterizer: &mut D,
     surface: &mut Surface,
     cleared: &[ViewPart<'_>],
     list: &DrawList<'_>,
     wipes: &mut Vec<Wipe>,
-)
+    text: &mut [u8],
+) -> Option<u32>
+    ensures text { IsWritten result surface.new.color.texels text.new }
     ensures drawn { surface_seen surface.new ≡ fold drawn_prepared (all_cleared (surface_seen surface.old) (map turn_seen cleared.now)) list.now }
     ensures color { sides_seen surface.new.color ≡ sides_seen surface.old.color }
     ensures depth { option_map sides_seen surface.new.depth ≡ option_map sides_seen surface.old.depth }
 {
     match list_wipes(wipes, cleared, surface.color.width, surface.color.height) {
-        Ok(()) => rasterizer.draw(surface, wipes.as_slice(), list),
+        Ok(()) => rasterizer.draw(surface, wipes.as_slice(), list, text),
         Err(_) => {
             clear_all(surface, cleared);
-            rasterizer.draw(surface, &[], list);
+            rasterizer.draw(surface, &[], list, text)
         }
     }
 }
@@ -66,7 +69,9 @@ fn draw_surface<D: Rasterizer>(
     buffers: &mut BufferStore,
     pass: Pass<'_>,
     room: &mut DrawingRoom,
-) -> Result<(), AllocError>
+    text: &mut [u8],
+) -> Result<Option<u32>, AllocError>
+    ensures text { IfOk result (λ told. IsWritten told surface.new.color.texels text.new) }
     requires wide { things.now.width ≡ surface.old.color.width }
     requires high { things.now.height ≡ surface.old.color.height }
     ensures drawn { OnOk result (all_drawn things.now.textures.now things.now.programs.now (record { buffers = buffers.old; surface = all_cleared (surface_seen surface.old) (map turn_seen pass.cleared.now) }) (map turn_seen pass.drawn.now) ≡ record { buffers = buffers.new; surface = surface_seen surface.new }) }
@@ -76,9 +81,10 @@ fn draw_surface<D: Rasterizer>(
 {
     match list_of(things, buffers, pass.drawn, room) {
         Ok(list) => {
-            draw_cleared(rasterizer, surface, pass.cleared, &list, &mut room.wipes);
+            let wipes = &mut room.wipes;
+            let told = draw_cleared(rasterizer, surface, pass.cleared, &list, wipes, text);
             room.list = list.into_room();
-            Ok(())
+            Ok(told)
         }
         Err(fault) => {
             clear_all(surface, pass.cleared);
@@ -94,14 +100,14 @@ fn draw_target<D: Rasterizer>(
     target: Handle,
     pass: Pass<'_>,
     room: &mut DrawingRoom,
-) -> Result<(), AllocError>
+) -> Result<Option<u32>, AllocError>
     ensures drawn { OnOk result (stores_seen stores.new ≡ all_passed (Some target) (stores_seen stores.old) (map turn_seen pass.cleared.now) (map turn_seen pass.drawn.now)) }
     ensures begun { OnErr result (HaveGiven (all_items (map turn_seen pass.drawn.now)) (on_target (stores_seen stores.old) (Some target) (λ s. all_cleared s (map turn_seen pass.cleared.now))) (stores_seen stores.new)) }
 {
     match stores.textures.take_target(target.index()) {
         None => {
             give_turns(&mut stores.buffers, pass.drawn);
-            Ok(())
+            Ok(None)
         }
         Some((color, depth)) => {
             let mut surface = Surface::new(color, depth);
@@ -118,6 +124,7 @@ fn draw_target<D: Rasterizer>(
                 &mut stores.buffers,
                 pass,
                 room,
+                &mut [],
             );
             stores
                 .textures
@@ -133,7 +140,9 @@ fn draw_back<D: Rasterizer>(
     stores: &mut RenderStores,
     pass: Pass<'_>,
     room: &mut DrawingRoom,
-) -> Result<(), AllocError>
+    text: &mut [u8],
+) -> Result<Option<u32>, AllocError>
+    ensures text { IfOk result (λ told. IsWritten told stores.new.back.color.texels text.new) }
     ensures drawn { OnOk result (stores_seen stores.new ≡ all_passed None (stores_seen stores.old) (map turn_seen pass.cleared.now) (map turn_seen pass.drawn.now)) }
     ensures begun { OnErr result (HaveGiven (all_items (map turn_seen pass.drawn.now)) (on_target (stores_seen stores.old) None (λ s. all_cleared s (map turn_seen pass.cleared.now))) (stores_seen stores.new)) }
 {
@@ -150,23 +159,30 @@ fn draw_back<D: Rasterizer>(
         &mut stores.buffers,
         pass,
         room,
+        text,
     );
     done
 }
 
-/// Clears this target and makes the draws and touches of a pass on it.
+/// Clears this target and makes the draws and touches of a pass on it. Where that is the back buffer, and there is just the room for the
+/// text of its colours, that is written, and its sum is answered.
 pub(crate) fn draw_listed<D: Rasterizer>(
     rasterizer: &mut D,
     stores: &mut RenderStores,
     target: Option<Handle>,
     pass: Pass<'_>,
     room: &mut DrawingRoom,
-) -> Result<(), AllocError>
+    text: &mut [u8],
+) -> Result<Option<u32>, AllocError>
+    ensures text { IfOk result (λ told. IsWritten told stores.new.back.color.texels text.new) }
     ensures drawn { OnOk result (stores_seen stores.new ≡ all_passed target (stores_seen stores.old) (map turn_seen pass.cleared.now) (map turn_seen pass.drawn.now)) }
     ensures begun { OnErr result (HaveGiven (all_items (map turn_seen pass.drawn.now)) (on_target (stores_seen stores.old) target (λ s. all_cleared s (map turn_seen pass.cleared.now))) (stores_seen stores.new)) }
 {
     match target {
-        Some(target) => draw_target(rasterizer, stores, target, pass, room),
-        None => draw_back(rasterizer, stores, pass, room),
+        Some(target) => match draw_target(rasterizer, stores, target, pass, room) {
+            Ok(_) => Ok(None),
+            Err(fault) => Err(fault),
+        },
+        None => draw_back(rasterizer, stores, pass, room, text),
     }
 }

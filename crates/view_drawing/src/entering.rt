@@ -1,9 +1,10 @@
 // A view that is entered.
-ghost use Rattle.std.specs.Prelude.{◌≡◌, false, fold, OnOk, OnErr};
+ghost use Rattle.std.specs.Prelude.{◌≡◌, false, fold, IfOk, OnOk, OnErr};
 ghost use Rattle.std.specs.List.{AllByRecursion};
 ghost use Rattle.gfx_model.specs.World.{is_blit};
 ghost use Rattle.view_table.specs.Seen.{view_seen};
 ghost use Rattle.store_laws.specs.ByIndex.{do_by_index};
+ghost use Rattle.int_raster.specs.Texts.{IsWritten};
 ghost use Rattle.render_stores.specs.Seen.{stores_seen};
 ghost use Rattle.view_drawing.specs.Entered.{entered, HaveGiven, IsBegun};
 ghost use Rattle.view_drawing.specs.Entries.{blits_of, items_of};
@@ -28,7 +29,9 @@ pub(crate) fn draw_items<D: Rasterizer>(
     stores: &mut RenderStores,
     part: &ViewPart<'_>,
     room: &mut DrawingRoom,
-) -> Result<(), AllocError>
+    text: &mut [u8],
+) -> Result<Option<u32>, AllocError>
+    ensures text { IfOk result (λ told. IsWritten told stores.new.back.color.texels text.new) }
     requires { IsPlain (part_seen part.now) }
     ensures done { OnOk result (stores_seen stores.new ≡ fold (do_by_index (part_seen part.now).view) (stores_seen stores.old) (part_seen part.now).items) }
     ensures begun { OnErr result (HaveGiven (part_seen part.now).items (stores_seen stores.old) (stores_seen stores.new)) }
@@ -41,11 +44,12 @@ pub(crate) fn draw_items<D: Rasterizer>(
         cleared: &[],
         drawn: &views,
     };
-    draw_listed(rasterizer, stores, part.view.target, pass, room)
+    draw_listed(rasterizer, stores, part.view.target, pass, room, text)
 }
 
 /// Enters a view: clears its rectangle of its target, then copies its blits, then does its draws and touches, each in the order of its list;
-/// the rasterizer makes the draws. The lists are entries of the frame; one without an item is passed over, and so is an item of the first
+/// the rasterizer makes the draws. Where the target is the back buffer, and there is just the room for the text of its colours, that is
+/// written, and its sum is answered. The lists are entries of the frame; one without an item is passed over, and so is an item of the first
 /// list that is no blit. No item of the second list is a blit.
 ///
 /// Only want of memory refuses, at a blit within one texture of whose region something is left, or at a draw whose program is there. At a
@@ -59,7 +63,9 @@ pub fn enter_view<D: Rasterizer>(
     blits: &[PlacedBlit],
     items: &[OrderedItem],
     room: &mut DrawingRoom,
-) -> Result<(), AllocError>
+    text: &mut [u8],
+) -> Result<Option<u32>, AllocError>
+    ensures text { IfOk result (λ told. IsWritten told stores.new.back.color.texels text.new) }
     requires { AllByRecursion (λ i. is_blit i ≡ false) (items_of frame.now items.now) }
     ensures entered { OnOk result (stores_seen stores.new ≡ entered (view_seen view.now) (blits_of frame.now blits.now) (items_of frame.now items.now) (stores_seen stores.old)) }
     ensures begun { OnErr result (IsBegun (view_seen view.now) (blits_of frame.now blits.now) (items_of frame.now items.now) (stores_seen stores.old) (stores_seen stores.new)) }
@@ -72,5 +78,5 @@ pub fn enter_view<D: Rasterizer>(
         blits,
         items,
     };
-    draw_items(rasterizer, stores, &part, room)
+    draw_items(rasterizer, stores, &part, room, text)
 }

@@ -1,8 +1,9 @@
 // Views of one target that are drawn at one go.
-ghost use Rattle.std.specs.Prelude.{◌≡◌, ◌≤◌, ◌<◌, [], map, fold, length, take, IsTrue, IfOk, OnOk, OnErr};
+ghost use Rattle.std.specs.Prelude.{◌≡◌, ◌≤◌, ◌<◌, [], if◌then◌else◌, None, map, fold, length, take, IsTrue, IfOk, OnOk, OnErr};
 ghost use Rattle.std.specs.List.{AllByRecursion};
 ghost use Rattle.pass_laws.specs.Passed.{after_turn, clear_turn, ClearsBefore, IsPass};
 ghost use Rattle.view_table.specs.Seen.{view_seen};
+ghost use Rattle.int_raster.specs.Texts.{IsWritten};
 ghost use Rattle.render_stores.specs.Seen.{stores_seen};
 ghost use Rattle.view_drawing.specs.Entries.{blits_of};
 ghost use Rattle.view_drawing.specs.Entered.{HaveGiven};
@@ -40,7 +41,9 @@ fn enter_pass<D: Rasterizer>(
     target: Option<Handle>,
     views: &[ViewPart<'_>],
     room: &mut DrawingRoom,
-) -> Result<(), AllocError>
+    text: &mut [u8],
+) -> Result<Option<u32>, AllocError>
+    ensures text { IfOk result (λ told. IsWritten told stores.new.back.color.texels text.new) }
     requires { IsPass target (map turn_seen views.now) }
     ensures entered { OnOk result (stores_seen stores.new ≡ fold after_turn (stores_seen stores.old) (map turn_seen views.now)) }
     ensures begun { OnErr result (HaveGiven (all_items (map turn_seen views.now)) (fold clear_turn (stores_seen stores.old) (map turn_seen views.now)) (stores_seen stores.new)) }
@@ -52,7 +55,7 @@ fn enter_pass<D: Rasterizer>(
         cleared: views,
         drawn: views,
     };
-    draw_listed(rasterizer, stores, target, pass, room)
+    draw_listed(rasterizer, stores, target, pass, room, text)
 }
 
 /// Whether a view may be drawn at one go with those of a pass before it, which are of the first view's target.
@@ -85,24 +88,42 @@ pub(crate) fn length_of_pass(first: &View, views: &[ViewPart<'_>]) -> usize
     views.len().min(MOST_VIEWS)
 }
 
+/// How much of the room for a text is lent: all for the last views, and nothing before them.
+fn lent_room(text: &[u8], is_last: bool) -> usize
+    ensures { result ≡ (if is_last then length text.now else 0) }
+{
+    if is_last { text.len() } else { 0 }
+}
+
+/// What was told of the text, where it was of the last views.
+fn told_last(is_last: bool, told: Option<u32>) -> Option<u32>
+    ensures { result ≡ (if is_last then told else None) }
+{
+    if is_last { told } else { None }
+}
+
 /// Enters the first of the views with those that are drawn at one go with it, and answers how many these are.
 fn enter_first<D: Rasterizer>(
     rasterizer: &mut D,
     stores: &mut RenderStores,
     views: &[ViewPart<'_>],
     room: &mut DrawingRoom,
-) -> Result<usize, AllocError>
+    text: &mut [u8],
+) -> Result<(usize, Option<u32>), AllocError>
     requires some { 0 < length views.now }
     requires plain { AllByRecursion IsPlain (map part_seen views.now) }
-    ensures some { IfOk result (λ n. 1 ≤ n) }
-    ensures length { IfOk result (λ n. n ≤ length views.now) }
-    ensures entered { IfOk result (λ n. stores_seen stores.new ≡ fold after_part (stores_seen stores.old) (map part_seen (take n views.now))) }
+    ensures some { IfOk result (λ p. 1 ≤ p.0) }
+    ensures length { IfOk result (λ p. p.0 ≤ length views.now) }
+    ensures entered { IfOk result (λ p. stores_seen stores.new ≡ fold after_part (stores_seen stores.old) (map part_seen (take p.0 views.now))) }
+    ensures text { IfOk result (λ p. IsWritten p.1 stores.new.back.color.texels text.new) }
     ensures begun { OnErr result (IsStoppedAt (map part_seen views.now) (stores_seen stores.old) (stores_seen stores.new)) }
 {
     let first = views[0];
     let count = length_of_pass(first.view, views);
+    let is_last = count.max(1) == views.len();
+    let lent = lent_room(text, is_last);
     if count == 0 {
-        enter_view(
+        let told = enter_view(
             rasterizer,
             stores,
             first.view,
@@ -110,16 +131,25 @@ fn enter_first<D: Rasterizer>(
             first.blits,
             first.items,
             room,
+            &mut text[..lent],
         )?;
-        return Ok(1);
+        return Ok((1, told_last(is_last, told)));
     }
-    enter_pass(rasterizer, stores, first.view.target, &views[..count], room)?;
-    Ok(count)
+    let told = enter_pass(
+        rasterizer,
+        stores,
+        first.view.target,
+        &views[..count],
+        room,
+        &mut text[..lent],
+    )?;
+    Ok((count, told_last(is_last, told)))
 }
 
 /// Enters views one after the other, as `enter_view` enters each. Views of one target without blits that stand beside each other are
 /// drawn at one go, as long as no pixel is of two of them or the later clears nothing: all are cleared first, and their draws are made in
-/// one list. No item of a second list is a blit.
+/// one list. No item of a second list is a blit. Where the last view's target is the back buffer, and there is just the room for the text of
+/// its colours, that is written, and its sum is answered.
 ///
 /// Only want of memory refuses. The views before the one at which it was wanting are entered then. That view is begun, as `enter_view`
 /// leaves it; or it is cleared with those that are drawn at one go with it, the values of their items up to a draw are given, and nothing
@@ -129,15 +159,19 @@ pub fn enter_views<D: Rasterizer>(
     stores: &mut RenderStores,
     views: &[ViewPart<'_>],
     room: &mut DrawingRoom,
-) -> Result<(), AllocError>
+    text: &mut [u8],
+) -> Result<Option<u32>, AllocError>
+    ensures text { IfOk result (λ told. IsWritten told stores.new.back.color.texels text.new) }
     requires { AllByRecursion IsPlain (map part_seen views.now) }
     ensures entered { OnOk result (stores_seen stores.new ≡ fold after_part (stores_seen stores.old) (map part_seen views.now)) }
     ensures begun { OnErr result (AreBegun (map part_seen views.now) (stores_seen stores.old) (stores_seen stores.new)) }
 {
     let mut at = 0;
+    let mut told = None;
     while at < views.len() {
-        let count = enter_first(rasterizer, stores, &views[at..], room)?;
+        let (count, last) = enter_first(rasterizer, stores, &views[at..], room, text)?;
         at += count;
+        told = last;
     }
-    Ok(())
+    Ok(told)
 }

@@ -4,8 +4,8 @@ use Rattle.int_raster.specs.Wiping.{wipes_seen}
 use Rattle.int_raster.proofs.Stacks.{deep_wiped_joined}
 use Rattle.int_raster.proofs.bands.+deep_bands+fn-deep_bands-join_mut+arg3.Goals as goal
 
-pub returns : goal.returns
-returns g t c =
+pub returns-clause-drawn : goal.returns-clause-drawn
+returns-clause-drawn g t c =
     let rows = c.args.rows.now in
     let upper = c.cut.result.0 in
     let lower = c.cut.result.1 in

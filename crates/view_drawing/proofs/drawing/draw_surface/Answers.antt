@@ -10,7 +10,7 @@ returns-in-Ok-clause-drawn g c =
     let s = surface_seen c.args.surface.now in
     let cs = map turn_seen c.args.pass.cleared.now in
     c.in-Ok.ensures.done (all_cleared s cs) (cleared_wide s cs ∙ sym c.requires.wide) (cleared_high s cs ∙ sym c.requires.high)
-    ∙ sym (λ i. record { buffers = c.list_of.new.buffers; surface = c.draw_cleared.ensures.drawn i })
+    ∙ sym (λ i. record { buffers = c.list_of.new.buffers; surface = c.draw_cleared-told.ensures.drawn i })
 
 pub returns-in-Err-clause-begun : goal.returns-in-Err-clause-begun
 returns-in-Err-clause-begun g c = (c.clear_all.ensures.cleared, c.in-Err.ensures.given)
