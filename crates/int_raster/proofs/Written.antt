@@ -12,8 +12,15 @@ room_fits true whole none long less = omega (arith, whole refl, long refl, less)
 room_fits false whole none long less = omega (arith, none refl)
 
 -- the texts of two parts are the text of both, and so with their sums
-pub texts_joined : {a b cs : List Color} {p q text : List ℕ} {m n total : ℕ} → IsTextOf a p m → IsTextOf b q n → a ++ b ≡ cs → p ++ q ≡ text → total ≡ (m + n) % 2 ^ 32 → IsTextOf cs text total
-texts_joined {a} {b} {cs} {p} {q} {text} {m} {n} {total} h k whole both all =
-    let here : sum (p ++ q) ≡ sum p + sum q = sum_by-append (λ x. x) p q in
-    let added : (m + n) % 2 ^ 32 ≡ sum (p ++ q) % 2 ^ 32 = omega (arith, h.1, k.1, here) in
-    (sym both ∙ (λ i. h.0 i ++ k.0 i) ∙ sym (flat_map-append (take 3) a b) ∙ ap text_of whole, all ∙ added ∙ ap (λ t. sum t % 2 ^ 32) both)
+pub texts_joined : (summed : Bool) {a b cs : List Color} {p q text : List ℕ} {m n total : ℕ} → IsTextOf summed a p m → IsTextOf summed b q n → a ++ b ≡ cs → p ++ q ≡ text → total ≡ (m + n) % 2 ^ 32
+    → IsTextOf summed cs text total
+texts_joined summed {a} {b} {cs} {p} {q} {text} {m} {n} {total} h k whole both all = (
+  sym both ∙ (λ i. h.0 i ++ k.0 i) ∙ sym (flat_map-append (take 3) a b) ∙ ap text_of whole,
+  λ is. all ∙ added (h.1 is) (k.1 is) ∙ ap (λ t. sum t % 2 ^ 32) both,
+)
+  where
+    here : sum (p ++ q) ≡ sum p + sum q
+    here = sum_by-append (λ x. x) p q
+
+    added : m ≡ sum p % 2 ^ 32 → n ≡ sum q % 2 ^ 32 → (m + n) % 2 ^ 32 ≡ sum (p ++ q) % 2 ^ 32
+    added l r = omega (arith, l, r, here)

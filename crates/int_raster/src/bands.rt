@@ -11,7 +11,7 @@ use crate::deep::draw_deep;
 use crate::flat::draw_flat;
 use crate::lists::DrawList;
 use crate::rows::Rows;
-use crate::texts::{room_of, write_text};
+use crate::texts::{Wish, room_of, write_text};
 use crate::wipe::Wipe;
 use crate::wipes::{wipe_deep, wipe_flat};
 use fix_math::tell_texels;
@@ -71,24 +71,24 @@ fn draw_deep_list(rows: &Rows, list: &DrawList<'_>, colors: &mut [[u8; 4]], dept
     }
 }
 
-/// Makes wipes, and the draws of a list behind them, on a strip without depth. Where it is wanted, the text of the colours is written
-/// then, and its sum is answered.
+/// Makes wipes, and the draws of a list behind them, on a strip without depth. Where they are wished, the text of the colours is
+/// written then, and its sum is answered.
 fn flat_strip(
     rows: &Rows,
     wipes: &[Wipe],
     list: &DrawList<'_>,
     colors: &mut [[u8; 4]],
-    wanted: bool,
+    wish: Wish,
     text: &mut [u8],
 ) -> u32
     requires whole { length colors.old ≡ rows.now.width * rows.now.count }
-    requires room { wanted ≡ true → length text.old ≡ 3 * length colors.old }
+    requires room { wish.text ≡ true → length text.old ≡ 3 * length colors.old }
     ensures drawn { colors.new ≡ flat_drawn rows.now.width rows.now.top (flat_wiped rows.now.width rows.now.top colors.old (wipes_seen wipes.now)) list.now }
-    ensures text { wanted ≡ true → IsTextOf colors.new text.new result }
+    ensures text { wish.text ≡ true → IsTextOf wish.sum colors.new text.new result }
 {
     wipe_flat(rows, wipes, colors);
     draw_flat_list(rows, list, colors);
-    write_text(colors, wanted, text)
+    write_text(colors, wish, text)
 }
 
 /// The same on a band without depth, in several strips one behind the other.
@@ -98,23 +98,23 @@ fn flat_strips(
     list: &DrawList<'_>,
     strips: u32,
     colors: &mut [[u8; 4]],
-    wanted: bool,
+    wish: Wish,
     text: &mut [u8],
 ) -> u32
     requires whole { length colors.old ≡ rows.now.width * rows.now.count }
-    requires room { wanted ≡ true → length text.old ≡ 3 * length colors.old }
+    requires room { wish.text ≡ true → length text.old ≡ 3 * length colors.old }
     ensures drawn { colors.new ≡ flat_drawn rows.now.width rows.now.top (flat_wiped rows.now.width rows.now.top colors.old (wipes_seen wipes.now)) list.now }
-    ensures text { wanted ≡ true → IsTextOf colors.new text.new result }
+    ensures text { wish.text ≡ true → IsTextOf wish.sum colors.new text.new result }
 {
     if strips < 2 {
-        return flat_strip(rows, wipes, list, colors, wanted, text);
+        return flat_strip(rows, wipes, list, colors, wish, text);
     }
     let (upper, lower) = rows.cut(1, strips);
     let middle = upper.width as usize * upper.count as usize;
     let (above, under) = colors.split_at_mut(middle);
-    let (before, behind) = text.split_at_mut(room_of(wanted, middle));
-    let first = flat_strip(&upper, wipes, list, above, wanted, before);
-    let rest = flat_strips(&lower, wipes, list, strips - 1, under, wanted, behind);
+    let (before, behind) = text.split_at_mut(room_of(wish.text, middle));
+    let first = flat_strip(&upper, wipes, list, above, wish, before);
+    let rest = flat_strips(&lower, wipes, list, strips - 1, under, wish, behind);
     first.wrapping_add(rest)
 }
 
@@ -124,37 +124,37 @@ pub(crate) fn flat_band(
     wipes: &[Wipe],
     list: &DrawList<'_>,
     colors: &mut [[u8; 4]],
-    wanted: bool,
+    wish: Wish,
     text: &mut [u8],
 ) -> u32
     requires whole { length colors.old ≡ rows.now.width * rows.now.count }
-    requires room { wanted ≡ true → length text.old ≡ 3 * length colors.old }
+    requires room { wish.text ≡ true → length text.old ≡ 3 * length colors.old }
     ensures drawn { colors.new ≡ flat_drawn rows.now.width rows.now.top (flat_wiped rows.now.width rows.now.top colors.old (wipes_seen wipes.now)) list.now }
-    ensures text { wanted ≡ true → IsTextOf colors.new text.new result }
+    ensures text { wish.text ≡ true → IsTextOf wish.sum colors.new text.new result }
 {
-    flat_strips(rows, wipes, list, list.strips(rows), colors, wanted, text)
+    flat_strips(rows, wipes, list, list.strips(rows), colors, wish, text)
 }
 
-/// Makes wipes, and the draws of a list behind them, on a strip with depth. Where it is wanted, the text of the colours is written
-/// then, and its sum is answered.
+/// Makes wipes, and the draws of a list behind them, on a strip with depth. Where they are wished, the text of the colours is
+/// written then, and its sum is answered.
 fn deep_strip(
     rows: &Rows,
     wipes: &[Wipe],
     list: &DrawList<'_>,
     colors: &mut [[u8; 4]],
     depths: &mut [[u8; 4]],
-    wanted: bool,
+    wish: Wish,
     text: &mut [u8],
 ) -> u32
     requires whole { length colors.old ≡ rows.now.width * rows.now.count }
     requires same { length depths.old ≡ length colors.old }
-    requires room { wanted ≡ true → length text.old ≡ 3 * length colors.old }
+    requires room { wish.text ≡ true → length text.old ≡ 3 * length colors.old }
     ensures drawn { deep colors.new depths.new ≡ deep_drawn rows.now.width rows.now.top (deep_wiped rows.now.width rows.now.top (deep colors.old depths.old) (wipes_seen wipes.now)) list.now }
-    ensures text { wanted ≡ true → IsTextOf colors.new text.new result }
+    ensures text { wish.text ≡ true → IsTextOf wish.sum colors.new text.new result }
 {
     wipe_deep(rows, wipes, colors, depths);
     draw_deep_list(rows, list, colors, depths);
-    write_text(colors, wanted, text)
+    write_text(colors, wish, text)
 }
 
 /// The same on a band with depth, in several strips one behind the other.
@@ -165,25 +165,25 @@ fn deep_strips(
     strips: u32,
     colors: &mut [[u8; 4]],
     depths: &mut [[u8; 4]],
-    wanted: bool,
+    wish: Wish,
     text: &mut [u8],
 ) -> u32
     requires whole { length colors.old ≡ rows.now.width * rows.now.count }
     requires same { length depths.old ≡ length colors.old }
-    requires room { wanted ≡ true → length text.old ≡ 3 * length colors.old }
+    requires room { wish.text ≡ true → length text.old ≡ 3 * length colors.old }
     ensures drawn { deep colors.new depths.new ≡ deep_drawn rows.now.width rows.now.top (deep_wiped rows.now.width rows.now.top (deep colors.old depths.old) (wipes_seen wipes.now)) list.now }
-    ensures text { wanted ≡ true → IsTextOf colors.new text.new result }
+    ensures text { wish.text ≡ true → IsTextOf wish.sum colors.new text.new result }
 {
     if strips < 2 {
-        return deep_strip(rows, wipes, list, colors, depths, wanted, text);
+        return deep_strip(rows, wipes, list, colors, depths, wish, text);
     }
     let (upper, lower) = rows.cut(1, strips);
     let middle = upper.width as usize * upper.count as usize;
     let (above, under) = colors.split_at_mut(middle);
     let (near, far) = depths.split_at_mut(middle);
-    let (before, behind) = text.split_at_mut(room_of(wanted, middle));
-    let first = deep_strip(&upper, wipes, list, above, near, wanted, before);
-    let rest = deep_strips(&lower, wipes, list, strips - 1, under, far, wanted, behind);
+    let (before, behind) = text.split_at_mut(room_of(wish.text, middle));
+    let first = deep_strip(&upper, wipes, list, above, near, wish, before);
+    let rest = deep_strips(&lower, wipes, list, strips - 1, under, far, wish, behind);
     first.wrapping_add(rest)
 }
 
@@ -194,16 +194,25 @@ pub(crate) fn deep_band(
     list: &DrawList<'_>,
     colors: &mut [[u8; 4]],
     depths: &mut [[u8; 4]],
-    wanted: bool,
+    wish: Wish,
     text: &mut [u8],
 ) -> u32
     requires whole { length colors.old ≡ rows.now.width * rows.now.count }
     requires same { length depths.old ≡ length colors.old }
-    requires room { wanted ≡ true → length text.old ≡ 3 * length colors.old }
+    requires room { wish.text ≡ true → length text.old ≡ 3 * length colors.old }
     ensures drawn { deep colors.new depths.new ≡ deep_drawn rows.now.width rows.now.top (deep_wiped rows.now.width rows.now.top (deep colors.old depths.old) (wipes_seen wipes.now)) list.now }
-    ensures text { wanted ≡ true → IsTextOf colors.new text.new result }
+    ensures text { wish.text ≡ true → IsTextOf wish.sum colors.new text.new result }
 {
-    deep_strips(rows, wipes, list, list.strips(rows), colors, depths, wanted, text)
+    deep_strips(
+        rows,
+        wipes,
+        list,
+        list.strips(rows),
+        colors,
+        depths,
+        wish,
+        text,
+    )
 }
 
 /// The same in several bands side by side: the last by this thread, and each other by a thread that this one starts.
@@ -214,32 +223,32 @@ pub(crate) fn flat_bands<R: Threads>(
     list: &DrawList<'_>,
     bands: u32,
     colors: &mut [[u8; 4]],
-    wanted: bool,
+    wish: Wish,
     text: &mut [u8],
 ) -> u32
     requires whole { length colors.old ≡ rows.now.width * rows.now.count }
-    requires room { wanted ≡ true → length text.old ≡ 3 * length colors.old }
+    requires room { wish.text ≡ true → length text.old ≡ 3 * length colors.old }
     ensures drawn { colors.new ≡ flat_drawn rows.now.width rows.now.top (flat_wiped rows.now.width rows.now.top colors.old (wipes_seen wipes.now)) list.now }
-    ensures text { wanted ≡ true → IsTextOf colors.new text.new result }
+    ensures text { wish.text ≡ true → IsTextOf wish.sum colors.new text.new result }
 {
     if bands < 2 {
-        return flat_band(rows, wipes, list, colors, wanted, text);
+        return flat_band(rows, wipes, list, colors, wish, text);
     }
     let more = bands - 1;
     let (upper, lower) = rows.cut(1, bands);
     let middle = upper.width as usize * upper.count as usize;
     let (above, under) = colors.split_at_mut(middle);
-    let (before, behind) = text.split_at_mut(room_of(wanted, middle));
+    let (before, behind) = text.split_at_mut(room_of(wish.text, middle));
     let (first, rest) = join_mut(
         rt,
         &mut || -> u32
-            requires { (length above.now ≡ upper.width * upper.count) × (wanted ≡ true → length before.now ≡ 3 * length above.now) }
-            ensures { (above.exit.now ≡ flat_drawn upper.width upper.top (flat_wiped upper.width upper.top above.entry.now (wipes_seen wipes.entry.now)) list.entry.now) × (wanted ≡ true → IsTextOf above.exit.now before.exit.now result) }
-        { flat_band(&upper, wipes, list, above, wanted, before) },
+            requires { (length above.now ≡ upper.width * upper.count) × (wish.text ≡ true → length before.now ≡ 3 * length above.now) }
+            ensures { (above.exit.now ≡ flat_drawn upper.width upper.top (flat_wiped upper.width upper.top above.entry.now (wipes_seen wipes.entry.now)) list.entry.now) × (wish.text ≡ true → IsTextOf wish.sum above.exit.now before.exit.now result) }
+        { flat_band(&upper, wipes, list, above, wish, before) },
         &mut || -> u32
-            requires { (length under.now ≡ lower.width * lower.count) × (wanted ≡ true → length behind.now ≡ 3 * length under.now) }
-            ensures { (under.exit.now ≡ flat_drawn lower.width lower.top (flat_wiped lower.width lower.top under.entry.now (wipes_seen wipes.entry.now)) list.entry.now) × (wanted ≡ true → IsTextOf under.exit.now behind.exit.now result) }
-        { flat_bands(rt, &lower, wipes, list, more, under, wanted, behind) },
+            requires { (length under.now ≡ lower.width * lower.count) × (wish.text ≡ true → length behind.now ≡ 3 * length under.now) }
+            ensures { (under.exit.now ≡ flat_drawn lower.width lower.top (flat_wiped lower.width lower.top under.entry.now (wipes_seen wipes.entry.now)) list.entry.now) × (wish.text ≡ true → IsTextOf wish.sum under.exit.now behind.exit.now result) }
+        { flat_bands(rt, &lower, wipes, list, more, under, wish, behind) },
     );
     first.wrapping_add(rest)
 }
@@ -253,34 +262,34 @@ pub(crate) fn deep_bands<R: Threads>(
     bands: u32,
     colors: &mut [[u8; 4]],
     depths: &mut [[u8; 4]],
-    wanted: bool,
+    wish: Wish,
     text: &mut [u8],
 ) -> u32
     requires whole { length colors.old ≡ rows.now.width * rows.now.count }
     requires same { length depths.old ≡ length colors.old }
-    requires room { wanted ≡ true → length text.old ≡ 3 * length colors.old }
+    requires room { wish.text ≡ true → length text.old ≡ 3 * length colors.old }
     ensures drawn { deep colors.new depths.new ≡ deep_drawn rows.now.width rows.now.top (deep_wiped rows.now.width rows.now.top (deep colors.old depths.old) (wipes_seen wipes.now)) list.now }
-    ensures text { wanted ≡ true → IsTextOf colors.new text.new result }
+    ensures text { wish.text ≡ true → IsTextOf wish.sum colors.new text.new result }
 {
     if bands < 2 {
-        return deep_band(rows, wipes, list, colors, depths, wanted, text);
+        return deep_band(rows, wipes, list, colors, depths, wish, text);
     }
     let more = bands - 1;
     let (upper, lower) = rows.cut(1, bands);
     let middle = upper.width as usize * upper.count as usize;
     let (above, under) = colors.split_at_mut(middle);
     let (near, far) = depths.split_at_mut(middle);
-    let (before, behind) = text.split_at_mut(room_of(wanted, middle));
+    let (before, behind) = text.split_at_mut(room_of(wish.text, middle));
     let (first, rest) = join_mut(
         rt,
         &mut || -> u32
-            requires { (length above.now ≡ upper.width * upper.count) × (length near.now ≡ length above.now) × (wanted ≡ true → length before.now ≡ 3 * length above.now) }
-            ensures { (deep above.exit.now near.exit.now ≡ deep_drawn upper.width upper.top (deep_wiped upper.width upper.top (deep above.entry.now near.entry.now) (wipes_seen wipes.entry.now)) list.entry.now) × (wanted ≡ true → IsTextOf above.exit.now before.exit.now result) }
-        { deep_band(&upper, wipes, list, above, near, wanted, before) },
+            requires { (length above.now ≡ upper.width * upper.count) × (length near.now ≡ length above.now) × (wish.text ≡ true → length before.now ≡ 3 * length above.now) }
+            ensures { (deep above.exit.now near.exit.now ≡ deep_drawn upper.width upper.top (deep_wiped upper.width upper.top (deep above.entry.now near.entry.now) (wipes_seen wipes.entry.now)) list.entry.now) × (wish.text ≡ true → IsTextOf wish.sum above.exit.now before.exit.now result) }
+        { deep_band(&upper, wipes, list, above, near, wish, before) },
         &mut || -> u32
-            requires { (length under.now ≡ lower.width * lower.count) × (length far.now ≡ length under.now) × (wanted ≡ true → length behind.now ≡ 3 * length under.now) }
-            ensures { (deep under.exit.now far.exit.now ≡ deep_drawn lower.width lower.top (deep_wiped lower.width lower.top (deep under.entry.now far.entry.now) (wipes_seen wipes.entry.now)) list.entry.now) × (wanted ≡ true → IsTextOf under.exit.now behind.exit.now result) }
-        { deep_bands(rt, &lower, wipes, list, more, under, far, wanted, behind) },
+            requires { (length under.now ≡ lower.width * lower.count) × (length far.now ≡ length under.now) × (wish.text ≡ true → length behind.now ≡ 3 * length under.now) }
+            ensures { (deep under.exit.now far.exit.now ≡ deep_drawn lower.width lower.top (deep_wiped lower.width lower.top (deep under.entry.now far.entry.now) (wipes_seen wipes.entry.now)) list.entry.now) × (wish.text ≡ true → IsTextOf wish.sum under.exit.now behind.exit.now result) }
+        { deep_bands(rt, &lower, wipes, list, more, under, far, wish, behind) },
     );
     first.wrapping_add(rest)
 }

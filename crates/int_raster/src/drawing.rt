@@ -9,6 +9,7 @@ use crate::bands::{deep_band, deep_bands, flat_band, flat_bands};
 use crate::lists::DrawList;
 use crate::rows::Rows;
 use crate::surfaces::Surface;
+use crate::texts::Wish;
 use crate::wipe::Wipe;
 use fix_math::Texels;
 use std::thread::Threads;
@@ -31,14 +32,16 @@ fn if_wanted(wanted: bool, total: u32) -> Option<u32>
 }
 
 /// Makes wipes, and then the draws of a list, each in their order. The sides of the surface's textures stay, and how many texels they have.
-/// Where there is just the room for the text of the colours, it is written, and its sum is answered; with other room nothing is.
+/// Where there is just the room for the text of the colours, it is written, and a number is answered, its sum where it is to be
+/// summed; with other room nothing is.
 pub fn draw_view(
     surface: &mut Surface,
     wipes: &[Wipe],
     list: &DrawList<'_>,
     text: &mut [u8],
+    summed: bool,
 ) -> Option<u32>
-    ensures text { IsWritten result surface.new.color.texels text.new }
+    ensures text { IsWritten summed result surface.new.color.texels text.new }
     ensures written { length text.old ≡ 3 * length surface.old.color.texels → IsSome result }
     ensures drawn { surface_seen surface.new ≡ fold drawn_prepared (fold wiped (surface_seen surface.old) (wipes_seen wipes.now)) list.now }
     ensures color { sides_seen surface.new.color ≡ sides_seen surface.old.color }
@@ -51,15 +54,19 @@ pub fn draw_view(
         count: surface.color.height,
     };
     let wanted = has_room(text, &surface.color);
+    let wish = Wish {
+        text: wanted,
+        sum: summed,
+    };
     let colors = surface.color.texels.as_mut_slice();
     match &mut surface.depth {
         None => {
-            let total = flat_band(&rows, wipes, list, colors, wanted, text);
+            let total = flat_band(&rows, wipes, list, colors, wish, text);
             if_wanted(wanted, total)
         }
         Some(depth) => {
             let depths = depth.texels.as_mut_slice();
-            let total = deep_band(&rows, wipes, list, colors, depths, wanted, text);
+            let total = deep_band(&rows, wipes, list, colors, depths, wish, text);
             if_wanted(wanted, total)
         }
     }
@@ -74,9 +81,10 @@ pub fn draw_bands<R: Threads>(
     list: &DrawList<'_>,
     bands: u32,
     text: &mut [u8],
+    summed: bool,
 ) -> Option<u32>
     requires { 1 ≤ bands }
-    ensures text { IsWritten result surface.new.color.texels text.new }
+    ensures text { IsWritten summed result surface.new.color.texels text.new }
     ensures written { length text.old ≡ 3 * length surface.old.color.texels → IsSome result }
     ensures drawn { surface_seen surface.new ≡ fold drawn_prepared (fold wiped (surface_seen surface.old) (wipes_seen wipes.now)) list.now }
     ensures color { sides_seen surface.new.color ≡ sides_seen surface.old.color }
@@ -90,15 +98,19 @@ pub fn draw_bands<R: Threads>(
     };
     let bands = bands.min(rows.count as u32).min(MOST_BANDS);
     let wanted = has_room(text, &surface.color);
+    let wish = Wish {
+        text: wanted,
+        sum: summed,
+    };
     let colors = surface.color.texels.as_mut_slice();
     match &mut surface.depth {
         None => {
-            let total = flat_bands(rt, &rows, wipes, list, bands, colors, wanted, text);
+            let total = flat_bands(rt, &rows, wipes, list, bands, colors, wish, text);
             if_wanted(wanted, total)
         }
         Some(depth) => {
             let depths = depth.texels.as_mut_slice();
-            let total = deep_bands(rt, &rows, wipes, list, bands, colors, depths, wanted, text);
+            let total = deep_bands(rt, &rows, wipes, list, bands, colors, depths, wish, text);
             if_wanted(wanted, total)
         }
     }

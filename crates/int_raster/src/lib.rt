@@ -38,6 +38,6 @@ pub use rasterizer::{BandRasterizer, Rasterizer, SerialRasterizer};
 pub use repainted::{draw_deep_as, draw_flat_as};
 pub use rows::Rows;
 pub use surfaces::Surface;
-pub use texts::write_colors;
+pub use texts::{sum_of, write_colors};
 pub use wipe::Wipe;
 pub use wipes::wipe_surface;

@@ -15,15 +15,17 @@ use std::thread::Threads;
 /// Makes wipes and the draws of lists on surfaces, by one thread or by several.
 pub trait Rasterizer {
     /// Makes wipes, and then the draws of a list, each in their order. The sides of the surface's textures stay, and how many texels they have.
-    /// Where there is just the room for the text of the colours, it is written, and its sum is answered; with other room nothing is.
+    /// Where there is just the room for the text of the colours, it is written, and a number is answered, its sum where it is to be
+    /// summed; with other room nothing is.
     fn draw(
         &mut self,
         surface: &mut Surface,
         wipes: &[Wipe],
         list: &DrawList<'_>,
         text: &mut [u8],
+        summed: bool,
     ) -> Option<u32>
-        ensures text { IsWritten result surface.new.color.texels text.new }
+        ensures text { IsWritten summed result surface.new.color.texels text.new }
         ensures written { length text.old ≡ 3 * length surface.old.color.texels → IsSome result }
         ensures drawn { surface_seen surface.new ≡ fold drawn_prepared (fold wiped (surface_seen surface.old) (wipes_seen wipes.now)) list.now }
         ensures color { sides_seen surface.new.color ≡ sides_seen surface.old.color }
@@ -42,8 +44,9 @@ impl Rasterizer for SerialRasterizer {
         wipes: &[Wipe],
         list: &DrawList<'_>,
         text: &mut [u8],
+        summed: bool,
     ) -> Option<u32> {
-        draw_view(surface, wipes, list, text)
+        draw_view(surface, wipes, list, text, summed)
     }
 }
 
@@ -104,8 +107,9 @@ impl<'r, R: Threads> Rasterizer for BandRasterizer<'r, R> {
         wipes: &[Wipe],
         list: &DrawList<'_>,
         text: &mut [u8],
+        summed: bool,
     ) -> Option<u32> {
         let bands = self.bands(list.work());
-        draw_bands(self.rt, surface, wipes, list, bands, text)
+        draw_bands(self.rt, surface, wipes, list, bands, text, summed)
     }
 }

@@ -63,8 +63,8 @@ fn sum_of_block(block: &[u8]) -> u16
     total
 }
 
-// The sum of the bytes modulo 2^32.
-fn sum_of(piece: &[u8]) -> u32
+/// The sum of the bytes modulo 2^32.
+pub fn sum_of(piece: &[u8]) -> u32
     ensures { result ≡ sum piece.now % 2 ^ 32 }
 {
     let mut total: u32 = 0;
@@ -77,16 +77,23 @@ fn sum_of(piece: &[u8]) -> u32
     total.wrapping_add(u32::from(sum_of_block(rest)))
 }
 
-/// Writes the text of colours where it is wanted, and answers its sum.
-pub(crate) fn write_text(colors: &[[u8; 4]], wanted: bool, text: &mut [u8]) -> u32
-    requires room { wanted ≡ true → length text.old ≡ 3 * length colors.now }
-    ensures { wanted ≡ true → IsTextOf colors.now text.new result }
+/// What is made of colours behind their draws: their text, and its sum.
+#[derive(Clone, Copy)]
+pub(crate) struct Wish {
+    pub(crate) text: bool,
+    pub(crate) sum: bool,
+}
+
+/// Writes the text of colours where it is wished, and answers its sum where that is.
+pub(crate) fn write_text(colors: &[[u8; 4]], wish: Wish, text: &mut [u8]) -> u32
+    requires room { wish.text ≡ true → length text.old ≡ 3 * length colors.now }
+    ensures { wish.text ≡ true → IsTextOf wish.sum colors.now text.new result }
 {
-    if !wanted {
+    if !wish.text {
         return 0;
     }
     write_colors(text, colors);
-    sum_of(text)
+    if wish.sum { sum_of(text) } else { 0 }
 }
 
 /// The room that the text of so many texels takes, where it is wanted.

@@ -1,5 +1,5 @@
 // Renders one frame after another.
-ghost use Rattle.std.specs.Prelude.{◌≡◌, ◌⊎◌, ◌≤◌, ◌<◌, ℕ, List, [], ◌∷◌, ◌++◌, length, drop, map, false, IfOk, IfErr, MatchOption, OnOk, OnErr};
+ghost use Rattle.std.specs.Prelude.{◌≡◌, ◌⊎◌, ◌≤◌, ◌<◌, ◌%◌, ◌^◌, sum, ℕ, List, [], ◌∷◌, ◌++◌, length, drop, map, false, IfOk, IfSome, IfErr, MatchOption, OnOk, OnErr};
 ghost use Rattle.io_edge.specs.Edge.{with_back, Rose};
 ghost use Rattle.gfx_model.specs.World.{World, FrameContent, first_world, frame_step};
 ghost use Rattle.scene_model.specs.Output.{picture_text};
@@ -26,7 +26,7 @@ use frame_record::{Frame, Outcome, RenderedFrame};
 use frame_tracing::{Made, Trace, trace_parts};
 use int_raster::{Rasterizer, Surface};
 use io_edge::Sink;
-use io_whole::put_all;
+use io_whole::put_told;
 use pixel_ops::Pixel;
 use render_stores::{RenderStores, execute_all};
 use std::alloc::{AllocError, Global};
@@ -74,15 +74,16 @@ impl Canvas {
     }
 
     /// Executes a frame's first commands, draws its views, and executes its last commands. Where the colours of the picture were written on the
-    /// way, their sum is answered.
+    /// way, a number is answered, their sum where they are to be summed.
     fn step<D: Rasterizer>(
         &mut self,
         rasterizer: &mut D,
         frame: &Frame,
+        summed: bool,
     ) -> Result<Option<u32>, AllocError>
         ensures stores { OnOk result (stores_seen self.new.stores ≡ frame_by_index (stores_seen self.old.stores) (frame_seen frame.now)) }
         ensures needs { OnErr result (NeedsMemory frame.now) }
-        ensures text { IfOk result (λ told. IsWritten told self.new.stores.back.color.texels (drop self.new.text.head self.new.text.text.items)) }
+        ensures text { IfOk result (λ told. IsWritten summed told self.new.stores.back.color.texels (drop self.new.text.head self.new.text.text.items)) }
         ensures sides { (self.new.text.width ≡ self.old.text.width) × (self.new.text.height ≡ self.old.text.height) }
     {
         execute_all(self.alloc, &mut self.stores, &frame.payloads, &frame.pre)?;
@@ -94,6 +95,7 @@ impl Canvas {
             &mut self.lists,
             &mut self.room,
             &mut self.text.text[self.text.head..],
+            summed,
         )?;
         execute_all(self.alloc, &mut self.stores, &frame.payloads, &frame.post)?;
         Ok(told)
@@ -128,17 +130,22 @@ impl Canvas {
         Ok(trace.made)
     }
 
-    /// Draws a frame, and writes the text of its picture.
-    fn draw<D: Rasterizer>(&mut self, rasterizer: &mut D, frame: &Frame) -> Result<(), AllocError>
+    /// Draws a frame, and writes the text of its picture, whose sum is answered where it is to be summed and is known.
+    fn draw<D: Rasterizer>(
+        &mut self,
+        rasterizer: &mut D,
+        frame: &Frame,
+        summed: bool,
+    ) -> Result<Option<u32>, AllocError>
         requires { FitsText self.old }
         ensures needs { OnErr result (NeedsMemory frame.now) }
         ensures fits { OnOk result (FitsText self.new) }
         ensures stores { OnOk result (stores_seen self.new.stores ≡ frame_by_index (stores_seen self.old.stores) (frame_seen frame.now)) }
         ensures text { OnOk result (self.new.text.text.items ≡ picture_text (stores_seen self.new.stores).back.color) }
+        ensures sum { IfOk result (λ told. IfSome told (λ total. total ≡ sum self.new.text.text.items % 2 ^ 32)) }
     {
-        let told = self.step(rasterizer, frame)?;
-        self.text.finish(told, &self.stores.back.color);
-        Ok(())
+        let told = self.step(rasterizer, frame, summed)?;
+        Ok(self.text.finish(told, summed, &self.stores.back.color))
     }
 
     /// Draws a frame, and puts its picture.
@@ -159,12 +166,12 @@ impl Canvas {
         ensures sure { P.sure sink.new ≡ P.sure sink.old }
         ensures drawn { is_skipped result ≡ false }
     {
-        if self.draw(rasterizer, frame).is_err() {
-            return Outcome::OutOfMemory;
-        }
-        match put_all(sink, self.text.as_slice()) {
-            Ok(()) => Outcome::Shown,
-            Err(_) => Outcome::PictureFault,
+        match self.draw(rasterizer, frame, sink.sums()) {
+            Ok(told) => match put_told(sink, self.text.as_slice(), told) {
+                Ok(()) => Outcome::Shown,
+                Err(_) => Outcome::PictureFault,
+            },
+            Err(_) => Outcome::OutOfMemory,
         }
     }
 }

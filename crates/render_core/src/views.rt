@@ -126,7 +126,7 @@ pub(crate) fn parts_of<'a>(
 
 /// Draws each view that has an item, in the order of the views. It fills the lists with those of the frame, where it has an item, and
 /// takes memory only then. Where the last view is of the back buffer, and there is just the room for the text of its colours, that is
-/// written, and its sum is answered.
+/// written, and a number is answered, its sum where it is to be summed.
 pub(crate) fn draw_views<D: Rasterizer>(
     alloc: Global,
     rasterizer: &mut D,
@@ -135,9 +135,10 @@ pub(crate) fn draw_views<D: Rasterizer>(
     lists: &mut Lists,
     room: &mut DrawingRoom,
     text: &mut [u8],
+    summed: bool,
 ) -> Result<Option<u32>, AllocError>
     ensures entered { let f = frame_seen frame.now in OnOk result (stores_seen stores.new ≡ fold (enter_by_index f.views f.items f.ordered) (stores_seen stores.old) (entered_by_index f)) }
-    ensures text { IfOk result (λ told. IsWritten told stores.new.back.color.texels text.new) }
+    ensures text { IfOk result (λ told. IsWritten summed told stores.new.back.color.texels text.new) }
     ensures needs { OnErr result (frame.now.journal.items ≢ []) }
 {
     if frame.journal.is_empty() {
@@ -145,5 +146,5 @@ pub(crate) fn draw_views<D: Rasterizer>(
     }
     lists.fill(frame)?;
     let parts = parts_of(alloc, frame, lists)?;
-    enter_views(rasterizer, stores, &parts, room, text)
+    enter_views(rasterizer, stores, &parts, room, text, summed)
 }

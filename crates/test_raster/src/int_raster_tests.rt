@@ -109,11 +109,11 @@ fn drawn_once<R: Threads + Abort>(
         paint: Paint::Solid([16, 16, 16, 255]),
     };
     list.push(draw, &triangles)?;
-    draw_view(&mut surface, &[], &list);
+    draw_view(&mut surface, &[], &list, &mut [], false);
     let reds_in_one = reds(alloc, &surface)?;
     for bands in [1u32, 3, 1000] {
         let mut surface = blank(alloc, FOUR, [0, 0, 0, 0])?;
-        draw_bands(rt, &mut surface, &[], &list, bands);
+        draw_bands(rt, &mut surface, &[], &list, bands, &mut [], false);
         assert_eq!(rt;
             reds(alloc, &surface)?.as_slice(),
             reds_in_one.as_slice(),
@@ -160,7 +160,7 @@ fn a_cleared_list_draws_nothing(rt: HostRuntime) -> Result<(), Fail> {
     list.clear();
     assert!(rt; list.is_empty());
     let mut surface = blank(alloc, FOUR, [0, 0, 0, 0])?;
-    draw_view(&mut surface, &[], &list);
+    draw_view(&mut surface, &[], &list, &mut [], false);
     assert_eq!(rt; reds(alloc, &surface)?.as_slice(), [0; 16].as_slice());
     Ok(())
 }

@@ -65,7 +65,7 @@ pub fn do_draws<D: Rasterizer>(
         blits: &[],
         items,
     };
-    match draw_items(rasterizer, stores, &part, room, &mut []) {
+    match draw_items(rasterizer, stores, &part, room, &mut [], false) {
         Ok(_) => Ok(()),
         Err(fault) => Err(fault),
     }

@@ -37,7 +37,8 @@ fn list_of<'x>(
 }
 
 /// Clears a surface for views, and makes the draws of a list on it. Where there is no memory for a list of the clears, they are made
-/// before. Where there is just the room for the text of the surface's colours, it is written, and its sum is answered.
+/// before. Where there is just the room for the text of the surface's colours, it is written, and a number is
+/// answered, its sum where it is to be summed.
 fn draw_cleared<D: Rasterizer>(
     rasterizer: &mut D,
     surface: &mut Surface,
@@ -45,17 +46,18 @@ fn draw_cleared<D: Rasterizer>(
     list: &DrawList<'_>,
     wipes: &mut Vec<Wipe>,
     text: &mut [u8],
+    summed: bool,
 ) -> Option<u32>
-    ensures text { IsWritten result surface.new.color.texels text.new }
+    ensures text { IsWritten summed result surface.new.color.texels text.new }
     ensures drawn { surface_seen surface.new ≡ fold drawn_prepared (all_cleared (surface_seen surface.old) (map turn_seen cleared.now)) list.now }
     ensures color { sides_seen surface.new.color ≡ sides_seen surface.old.color }
     ensures depth { option_map sides_seen surface.new.depth ≡ option_map sides_seen surface.old.depth }
 {
     match list_wipes(wipes, cleared, surface.color.width, surface.color.height) {
-        Ok(()) => rasterizer.draw(surface, wipes.as_slice(), list, text),
+        Ok(()) => rasterizer.draw(surface, wipes.as_slice(), list, text, summed),
         Err(_) => {
             clear_all(surface, cleared);
-            rasterizer.draw(surface, &[], list, text)
+            rasterizer.draw(surface, &[], list, text, summed)
         }
     }
 }
@@ -70,8 +72,9 @@ fn draw_surface<D: Rasterizer>(
     pass: Pass<'_>,
     room: &mut DrawingRoom,
     text: &mut [u8],
+    summed: bool,
 ) -> Result<Option<u32>, AllocError>
-    ensures text { IfOk result (λ told. IsWritten told surface.new.color.texels text.new) }
+    ensures text { IfOk result (λ told. IsWritten summed told surface.new.color.texels text.new) }
     requires wide { things.now.width ≡ surface.old.color.width }
     requires high { things.now.height ≡ surface.old.color.height }
     ensures drawn { OnOk result (all_drawn things.now.textures.now things.now.programs.now (record { buffers = buffers.old; surface = all_cleared (surface_seen surface.old) (map turn_seen pass.cleared.now) }) (map turn_seen pass.drawn.now) ≡ record { buffers = buffers.new; surface = surface_seen surface.new }) }
@@ -81,8 +84,15 @@ fn draw_surface<D: Rasterizer>(
 {
     match list_of(things, buffers, pass.drawn, room) {
         Ok(list) => {
-            let wipes = &mut room.wipes;
-            let told = draw_cleared(rasterizer, surface, pass.cleared, &list, wipes, text);
+            let told = draw_cleared(
+                rasterizer,
+                surface,
+                pass.cleared,
+                &list,
+                &mut room.wipes,
+                text,
+                summed,
+            );
             room.list = list.into_room();
             Ok(told)
         }
@@ -125,6 +135,7 @@ fn draw_target<D: Rasterizer>(
                 pass,
                 room,
                 &mut [],
+                false,
             );
             stores
                 .textures
@@ -141,8 +152,9 @@ fn draw_back<D: Rasterizer>(
     pass: Pass<'_>,
     room: &mut DrawingRoom,
     text: &mut [u8],
+    summed: bool,
 ) -> Result<Option<u32>, AllocError>
-    ensures text { IfOk result (λ told. IsWritten told stores.new.back.color.texels text.new) }
+    ensures text { IfOk result (λ told. IsWritten summed told stores.new.back.color.texels text.new) }
     ensures drawn { OnOk result (stores_seen stores.new ≡ all_passed None (stores_seen stores.old) (map turn_seen pass.cleared.now) (map turn_seen pass.drawn.now)) }
     ensures begun { OnErr result (HaveGiven (all_items (map turn_seen pass.drawn.now)) (on_target (stores_seen stores.old) None (λ s. all_cleared s (map turn_seen pass.cleared.now))) (stores_seen stores.new)) }
 {
@@ -160,12 +172,14 @@ fn draw_back<D: Rasterizer>(
         pass,
         room,
         text,
+        summed,
     );
     done
 }
 
 /// Clears this target and makes the draws and touches of a pass on it. Where that is the back buffer, and there is just the room for the
-/// text of its colours, that is written, and its sum is answered.
+/// text of its colours, that is written, and a number
+/// is answered, its sum where it is to be summed.
 pub(crate) fn draw_listed<D: Rasterizer>(
     rasterizer: &mut D,
     stores: &mut RenderStores,
@@ -173,8 +187,9 @@ pub(crate) fn draw_listed<D: Rasterizer>(
     pass: Pass<'_>,
     room: &mut DrawingRoom,
     text: &mut [u8],
+    summed: bool,
 ) -> Result<Option<u32>, AllocError>
-    ensures text { IfOk result (λ told. IsWritten told stores.new.back.color.texels text.new) }
+    ensures text { IfOk result (λ told. IsWritten summed told stores.new.back.color.texels text.new) }
     ensures drawn { OnOk result (stores_seen stores.new ≡ all_passed target (stores_seen stores.old) (map turn_seen pass.cleared.now) (map turn_seen pass.drawn.now)) }
     ensures begun { OnErr result (HaveGiven (all_items (map turn_seen pass.drawn.now)) (on_target (stores_seen stores.old) target (λ s. all_cleared s (map turn_seen pass.cleared.now))) (stores_seen stores.new)) }
 {
@@ -183,6 +198,6 @@ pub(crate) fn draw_listed<D: Rasterizer>(
             Ok(_) => Ok(None),
             Err(fault) => Err(fault),
         },
-        None => draw_back(rasterizer, stores, pass, room, text),
+        None => draw_back(rasterizer, stores, pass, room, text, summed),
     }
 }

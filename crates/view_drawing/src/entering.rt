@@ -30,8 +30,9 @@ pub(crate) fn draw_items<D: Rasterizer>(
     part: &ViewPart<'_>,
     room: &mut DrawingRoom,
     text: &mut [u8],
+    summed: bool,
 ) -> Result<Option<u32>, AllocError>
-    ensures text { IfOk result (λ told. IsWritten told stores.new.back.color.texels text.new) }
+    ensures text { IfOk result (λ told. IsWritten summed told stores.new.back.color.texels text.new) }
     requires { IsPlain (part_seen part.now) }
     ensures done { OnOk result (stores_seen stores.new ≡ fold (do_by_index (part_seen part.now).view) (stores_seen stores.old) (part_seen part.now).items) }
     ensures begun { OnErr result (HaveGiven (part_seen part.now).items (stores_seen stores.old) (stores_seen stores.new)) }
@@ -44,12 +45,12 @@ pub(crate) fn draw_items<D: Rasterizer>(
         cleared: &[],
         drawn: &views,
     };
-    draw_listed(rasterizer, stores, part.view.target, pass, room, text)
+    draw_listed(rasterizer, stores, part.view.target, pass, room, text, summed)
 }
 
 /// Enters a view: clears its rectangle of its target, then copies its blits, then does its draws and touches, each in the order of its list;
 /// the rasterizer makes the draws. Where the target is the back buffer, and there is just the room for the text of its colours, that is
-/// written, and its sum is answered. The lists are entries of the frame; one without an item is passed over, and so is an item of the first
+/// written, and a number is answered, its sum where it is to be summed. The lists are entries of the frame; one without an item is passed over, and so is an item of the first
 /// list that is no blit. No item of the second list is a blit.
 ///
 /// Only want of memory refuses, at a blit within one texture of whose region something is left, or at a draw whose program is there. At a
@@ -64,8 +65,9 @@ pub fn enter_view<D: Rasterizer>(
     items: &[OrderedItem],
     room: &mut DrawingRoom,
     text: &mut [u8],
+    summed: bool,
 ) -> Result<Option<u32>, AllocError>
-    ensures text { IfOk result (λ told. IsWritten told stores.new.back.color.texels text.new) }
+    ensures text { IfOk result (λ told. IsWritten summed told stores.new.back.color.texels text.new) }
     requires { AllByRecursion (λ i. is_blit i ≡ false) (items_of frame.now items.now) }
     ensures entered { OnOk result (stores_seen stores.new ≡ entered (view_seen view.now) (blits_of frame.now blits.now) (items_of frame.now items.now) (stores_seen stores.old)) }
     ensures begun { OnErr result (IsBegun (view_seen view.now) (blits_of frame.now blits.now) (items_of frame.now items.now) (stores_seen stores.old) (stores_seen stores.new)) }
@@ -78,5 +80,5 @@ pub fn enter_view<D: Rasterizer>(
         blits,
         items,
     };
-    draw_items(rasterizer, stores, &part, room, text)
+    draw_items(rasterizer, stores, &part, room, text, summed)
 }

@@ -42,8 +42,9 @@ fn enter_pass<D: Rasterizer>(
     views: &[ViewPart<'_>],
     room: &mut DrawingRoom,
     text: &mut [u8],
+    summed: bool,
 ) -> Result<Option<u32>, AllocError>
-    ensures text { IfOk result (λ told. IsWritten told stores.new.back.color.texels text.new) }
+    ensures text { IfOk result (λ told. IsWritten summed told stores.new.back.color.texels text.new) }
     requires { IsPass target (map turn_seen views.now) }
     ensures entered { OnOk result (stores_seen stores.new ≡ fold after_turn (stores_seen stores.old) (map turn_seen views.now)) }
     ensures begun { OnErr result (HaveGiven (all_items (map turn_seen views.now)) (fold clear_turn (stores_seen stores.old) (map turn_seen views.now)) (stores_seen stores.new)) }
@@ -55,7 +56,7 @@ fn enter_pass<D: Rasterizer>(
         cleared: views,
         drawn: views,
     };
-    draw_listed(rasterizer, stores, target, pass, room, text)
+    draw_listed(rasterizer, stores, target, pass, room, text, summed)
 }
 
 /// Whether a view may be drawn at one go with those of a pass before it, which are of the first view's target.
@@ -109,13 +110,14 @@ fn enter_first<D: Rasterizer>(
     views: &[ViewPart<'_>],
     room: &mut DrawingRoom,
     text: &mut [u8],
+    summed: bool,
 ) -> Result<(usize, Option<u32>), AllocError>
     requires some { 0 < length views.now }
     requires plain { AllByRecursion IsPlain (map part_seen views.now) }
     ensures some { IfOk result (λ p. 1 ≤ p.0) }
     ensures length { IfOk result (λ p. p.0 ≤ length views.now) }
     ensures entered { IfOk result (λ p. stores_seen stores.new ≡ fold after_part (stores_seen stores.old) (map part_seen (take p.0 views.now))) }
-    ensures text { IfOk result (λ p. IsWritten p.1 stores.new.back.color.texels text.new) }
+    ensures text { IfOk result (λ p. IsWritten summed p.1 stores.new.back.color.texels text.new) }
     ensures begun { OnErr result (IsStoppedAt (map part_seen views.now) (stores_seen stores.old) (stores_seen stores.new)) }
 {
     let first = views[0];
@@ -123,7 +125,7 @@ fn enter_first<D: Rasterizer>(
     let is_last = count.max(1) == views.len();
     let lent = lent_room(text, is_last);
     if count == 0 {
-        let told = enter_view(
+        let view_told = enter_view(
             rasterizer,
             stores,
             first.view,
@@ -132,8 +134,9 @@ fn enter_first<D: Rasterizer>(
             first.items,
             room,
             &mut text[..lent],
+            summed,
         )?;
-        return Ok((1, told_last(is_last, told)));
+        return Ok((1, told_last(is_last, view_told)));
     }
     let told = enter_pass(
         rasterizer,
@@ -142,6 +145,7 @@ fn enter_first<D: Rasterizer>(
         &views[..count],
         room,
         &mut text[..lent],
+        summed,
     )?;
     Ok((count, told_last(is_last, told)))
 }
@@ -149,7 +153,8 @@ fn enter_first<D: Rasterizer>(
 /// Enters views one after the other, as `enter_view` enters each. Views of one target without blits that stand beside each other are
 /// drawn at one go, as long as no pixel is of two of them or the later clears nothing: all are cleared first, and their draws are made in
 /// one list. No item of a second list is a blit. Where the last view's target is the back buffer, and there is just the room for the text of
-/// its colours, that is written, and its sum is answered.
+/// its colours, that is written, and a number
+/// is answered, its sum where it is to be summed.
 ///
 /// Only want of memory refuses. The views before the one at which it was wanting are entered then. That view is begun, as `enter_view`
 /// leaves it; or it is cleared with those that are drawn at one go with it, the values of their items up to a draw are given, and nothing
@@ -160,8 +165,9 @@ pub fn enter_views<D: Rasterizer>(
     views: &[ViewPart<'_>],
     room: &mut DrawingRoom,
     text: &mut [u8],
+    summed: bool,
 ) -> Result<Option<u32>, AllocError>
-    ensures text { IfOk result (λ told. IsWritten told stores.new.back.color.texels text.new) }
+    ensures text { IfOk result (λ told. IsWritten summed told stores.new.back.color.texels text.new) }
     requires { AllByRecursion IsPlain (map part_seen views.now) }
     ensures entered { OnOk result (stores_seen stores.new ≡ fold after_part (stores_seen stores.old) (map part_seen views.now)) }
     ensures begun { OnErr result (AreBegun (map part_seen views.now) (stores_seen stores.old) (stores_seen stores.new)) }
@@ -169,7 +175,7 @@ pub fn enter_views<D: Rasterizer>(
     let mut at = 0;
     let mut told = None;
     while at < views.len() {
-        let (count, last) = enter_first(rasterizer, stores, &views[at..], room, text)?;
+        let (count, last) = enter_first(rasterizer, stores, &views[at..], room, text, summed)?;
         at += count;
         told = last;
     }

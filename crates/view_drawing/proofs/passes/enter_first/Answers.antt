@@ -11,14 +11,14 @@ pub returns-clause-entered : goal.returns-clause-entered
 returns-clause-entered g c =
     let h = stores_seen c.args.stores.now in
     let views = take c.length_of_pass-count.result c.args.views.now in
-    c.in_ok-enter_pass.ensures.entered ∙ ap (fold after_turn h) (sym (turns_of part_seen views)) ∙ sym (as_turns h (map part_seen views) c.length_of_pass-count.ensures.none)
+    c.in_ok-told.ensures.entered ∙ ap (fold after_turn h) (sym (turns_of part_seen views)) ∙ sym (as_turns h (map part_seen views) c.length_of_pass-count.ensures.none)
 
-pub returns-in_err-enter_view-clause-begun : goal.returns-in_err-enter_view-clause-begun
-returns-in_err-enter_view-clause-begun g c =
+pub returns-in_err-view_told-clause-begun : goal.returns-in_err-view_told-clause-begun
+returns-in_err-view_told-clause-begun g c =
     on_err_holds c.from_residual.result
-    (stopped_in_view part_seen c.args.views.now c.index-views-0.result (stores_seen c.args.stores.now) (stores_seen c.enter_view.new.stores) c.requires.some c.index-views-0.is c.in_err-enter_view.ensures.begun)
+    (stopped_in_view part_seen c.args.views.now c.index-views-0.result (stores_seen c.args.stores.now) (stores_seen c.enter_view.new.stores) c.requires.some c.index-views-0.is c.in_err-view_told.ensures.begun)
 
-pub returns-in_err-enter_pass-clause-begun : goal.returns-in_err-enter_pass-clause-begun
-returns-in_err-enter_pass-clause-begun g c =
-    on_err_holds c.from_residual-in_err-enter_pass.result
-    (stopped_in_pass part_seen c.args.views.now c.length_of_pass-count.result (stores_seen c.args.stores.now) (stores_seen c.enter_pass.new.stores) c.length_of_pass-count.ensures.none c.in_err-enter_pass.ensures.begun)
+pub returns-in_err-told-clause-begun : goal.returns-in_err-told-clause-begun
+returns-in_err-told-clause-begun g c =
+    on_err_holds c.from_residual-in_err-told.result
+    (stopped_in_pass part_seen c.args.views.now c.length_of_pass-count.result (stores_seen c.args.stores.now) (stores_seen c.enter_pass.new.stores) c.length_of_pass-count.ensures.none c.in_err-told.ensures.begun)

@@ -12,5 +12,5 @@ abbrev pub invariant-loop-at : goal.invariant-loop-at
 invariant-loop-at g l = record {
   within : l.at ≤ length l.views;
   done : stores_seen l.stores ≡ fold after_part (stores_seen l.fn.stores) (map part_seen (take l.at l.views));
-  text : IsWritten l.told l.stores.back.color.texels l.text;
+  text : IsWritten l.summed l.told l.stores.back.color.texels l.text;
 }
