@@ -21,3 +21,4 @@ pub mod Twice
 pub mod Two
 pub mod FourPixels
 pub mod Written
+pub mod Told

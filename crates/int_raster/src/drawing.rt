@@ -1,5 +1,5 @@
 // Wipes and lists of draws on a surface.
-ghost use Rattle.std.specs.Prelude.{◌≡◌, ◌≤◌, ◌*◌, ◌==◌, if◌then◌else◌, Some, None, fold, length, option_map, IsSome};
+ghost use Rattle.std.specs.Prelude.{◌≡◌, ◌≤◌, ◌*◌, true, if◌then◌else◌, Some, None, fold, length, option_map, IsSome};
 ghost use Rattle.int_raster.specs.Drawing.{drawn_prepared};
 ghost use Rattle.int_raster.specs.Seen.{surface_seen, sides_seen};
 ghost use Rattle.int_raster.specs.Wiping.{wiped, wipes_seen};
@@ -19,7 +19,8 @@ const MOST_BANDS: u32 = 64;
 
 /// Whether there is just the room for the text of texels' colours.
 fn has_room(text: &[u8], texels: &Texels) -> bool
-    ensures { result ≡ (length text.now == 3 * length texels.now.texels) }
+    ensures room { result ≡ true → length text.now ≡ 3 * length texels.now.texels }
+    ensures all { length text.now ≡ 3 * length texels.now.texels → result ≡ true }
 {
     text.len() == 3 * texels.texels.len()
 }
