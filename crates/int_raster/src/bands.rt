@@ -10,6 +10,7 @@ use crate::deep::draw_deep;
 use crate::flat::draw_flat;
 use crate::lists::DrawList;
 use crate::rows::Rows;
+use crate::texts::{text_len, write_text};
 use crate::wipe::Wipe;
 use crate::wipes::{wipe_deep, wipe_flat};
 use fix_math::tell_texels;
@@ -69,61 +70,55 @@ fn draw_deep_list(rows: &Rows, list: &DrawList<'_>, colors: &mut [[u8; 4]], dept
     }
 }
 
-/// Makes wipes, and the draws of a list behind them, on a strip without depth.
-fn flat_strip(rows: &Rows, wipes: &[Wipe], list: &DrawList<'_>, colors: &mut [[u8; 4]])
-    requires { length colors.old ≡ rows.now.width * rows.now.count }
-    ensures { colors.new ≡ flat_drawn rows.now.width rows.now.top (flat_wiped rows.now.width rows.now.top colors.old (wipes_seen wipes.now)) list.now }
+
+fn flat_strip(rows: &Rows, wipes: &[Wipe], list: &DrawList<'_>, colors: &mut [[u8; 4]], text: &mut [u8]) -> u32
 {
     wipe_flat(rows, wipes, colors);
     draw_flat_list(rows, list, colors);
+    write_text(text, colors)
 }
 
-/// Makes wipes, and the draws of a list behind them, on a band without depth, in several strips one behind the other.
 fn flat_strips(
     rows: &Rows,
     wipes: &[Wipe],
     list: &DrawList<'_>,
     strips: u32,
     colors: &mut [[u8; 4]],
-)
-    requires { length colors.old ≡ rows.now.width * rows.now.count }
-    ensures { colors.new ≡ flat_drawn rows.now.width rows.now.top (flat_wiped rows.now.width rows.now.top colors.old (wipes_seen wipes.now)) list.now }
+    text: &mut [u8],
+) -> u32
 {
     if strips < 2 {
-        flat_strip(rows, wipes, list, colors);
-        return;
+        return flat_strip(rows, wipes, list, colors, text);
     }
     let (upper, lower) = rows.cut(1, strips);
-    let (above, under) = colors.split_at_mut(upper.width as usize * upper.count as usize);
-    flat_strip(&upper, wipes, list, above);
-    flat_strips(&lower, wipes, list, strips - 1, under);
+    let middle = upper.width as usize * upper.count as usize;
+    let (above, under) = colors.split_at_mut(middle);
+    let before_len = text_len(text, middle);
+    let (before, behind) = text.split_at_mut(before_len);
+    let a = flat_strip(&upper, wipes, list, above, before);
+    let b = flat_strips(&lower, wipes, list, strips - 1, under, behind);
+    a.wrapping_add(b)
 }
 
-/// Makes wipes, and the draws of a list behind them, on a band without depth.
-pub(crate) fn flat_band(rows: &Rows, wipes: &[Wipe], list: &DrawList<'_>, colors: &mut [[u8; 4]])
-    requires { length colors.old ≡ rows.now.width * rows.now.count }
-    ensures { colors.new ≡ flat_drawn rows.now.width rows.now.top (flat_wiped rows.now.width rows.now.top colors.old (wipes_seen wipes.now)) list.now }
+pub(crate) fn flat_band(rows: &Rows, wipes: &[Wipe], list: &DrawList<'_>, colors: &mut [[u8; 4]], text: &mut [u8]) -> u32
 {
-    flat_strips(rows, wipes, list, list.strips(rows), colors);
+    flat_strips(rows, wipes, list, list.strips(rows), colors, text)
 }
 
-/// Makes wipes, and the draws of a list behind them, on a strip with depth.
 fn deep_strip(
     rows: &Rows,
     wipes: &[Wipe],
     list: &DrawList<'_>,
     colors: &mut [[u8; 4]],
     depths: &mut [[u8; 4]],
-)
-    requires whole { length colors.old ≡ rows.now.width * rows.now.count }
-    requires same { length depths.old ≡ length colors.old }
-    ensures { deep colors.new depths.new ≡ deep_drawn rows.now.width rows.now.top (deep_wiped rows.now.width rows.now.top (deep colors.old depths.old) (wipes_seen wipes.now)) list.now }
+    text: &mut [u8],
+) -> u32
 {
     wipe_deep(rows, wipes, colors, depths);
     draw_deep_list(rows, list, colors, depths);
+    write_text(text, colors)
 }
 
-/// Makes wipes, and the draws of a list behind them, on a band with depth, in several strips one behind the other.
 fn deep_strips(
     rows: &Rows,
     wipes: &[Wipe],
@@ -131,40 +126,35 @@ fn deep_strips(
     strips: u32,
     colors: &mut [[u8; 4]],
     depths: &mut [[u8; 4]],
-)
-    requires whole { length colors.old ≡ rows.now.width * rows.now.count }
-    requires same { length depths.old ≡ length colors.old }
-    ensures { deep colors.new depths.new ≡ deep_drawn rows.now.width rows.now.top (deep_wiped rows.now.width rows.now.top (deep colors.old depths.old) (wipes_seen wipes.now)) list.now }
+    text: &mut [u8],
+) -> u32
 {
     if strips < 2 {
-        deep_strip(rows, wipes, list, colors, depths);
-        return;
+        return deep_strip(rows, wipes, list, colors, depths, text);
     }
     let (upper, lower) = rows.cut(1, strips);
     let middle = upper.width as usize * upper.count as usize;
     let (above, under) = colors.split_at_mut(middle);
     let (near, far) = depths.split_at_mut(middle);
-    deep_strip(&upper, wipes, list, above, near);
-    deep_strips(&lower, wipes, list, strips - 1, under, far);
+    let before_len = text_len(text, middle);
+    let (before, behind) = text.split_at_mut(before_len);
+    let a = deep_strip(&upper, wipes, list, above, near, before);
+    let b = deep_strips(&lower, wipes, list, strips - 1, under, far, behind);
+    a.wrapping_add(b)
 }
 
-/// Makes wipes, and the draws of a list behind them, on a band with depth.
 pub(crate) fn deep_band(
     rows: &Rows,
     wipes: &[Wipe],
     list: &DrawList<'_>,
     colors: &mut [[u8; 4]],
     depths: &mut [[u8; 4]],
-)
-    requires whole { length colors.old ≡ rows.now.width * rows.now.count }
-    requires same { length depths.old ≡ length colors.old }
-    ensures { deep colors.new depths.new ≡ deep_drawn rows.now.width rows.now.top (deep_wiped rows.now.width rows.now.top (deep colors.old depths.old) (wipes_seen wipes.now)) list.now }
+    text: &mut [u8],
+) -> u32
 {
-    deep_strips(rows, wipes, list, list.strips(rows), colors, depths);
+    deep_strips(rows, wipes, list, list.strips(rows), colors, depths, text)
 }
 
-/// Makes wipes, and the draws of a list behind them, on a band without depth, in several bands side by side: the last by this thread, and
-/// each other by a thread that this one starts.
 pub(crate) fn flat_bands<R: Threads>(
     rt: &R,
     rows: &Rows,
@@ -172,31 +162,26 @@ pub(crate) fn flat_bands<R: Threads>(
     list: &DrawList<'_>,
     bands: u32,
     colors: &mut [[u8; 4]],
-)
-    requires { length colors.old ≡ rows.now.width * rows.now.count }
-    ensures { colors.new ≡ flat_drawn rows.now.width rows.now.top (flat_wiped rows.now.width rows.now.top colors.old (wipes_seen wipes.now)) list.now }
+    text: &mut [u8],
+) -> u32
 {
     if bands < 2 {
-        flat_band(rows, wipes, list, colors);
-        return;
+        return flat_band(rows, wipes, list, colors, text);
     }
     let more = bands - 1;
     let (upper, lower) = rows.cut(1, bands);
-    let (above, under) = colors.split_at_mut(upper.width as usize * upper.count as usize);
-    join_mut(
+    let middle = upper.width as usize * upper.count as usize;
+    let (above, under) = colors.split_at_mut(middle);
+    let before_len = text_len(text, middle);
+    let (before, behind) = text.split_at_mut(before_len);
+    let (a, b) = join_mut(
         rt,
-        &mut ||
-            requires { length above.now ≡ upper.width * upper.count }
-            ensures { above.exit.now ≡ flat_drawn upper.width upper.top (flat_wiped upper.width upper.top above.entry.now (wipes_seen wipes.entry.now)) list.entry.now }
-        { flat_band(&upper, wipes, list, above) },
-        &mut ||
-            requires { length under.now ≡ lower.width * lower.count }
-            ensures { under.exit.now ≡ flat_drawn lower.width lower.top (flat_wiped lower.width lower.top under.entry.now (wipes_seen wipes.entry.now)) list.entry.now }
-        { flat_bands(rt, &lower, wipes, list, more, under) },
+        &mut || -> u32 { flat_band(&upper, wipes, list, above, before) },
+        &mut || -> u32 { flat_bands(rt, &lower, wipes, list, more, under, behind) },
     );
+    a.wrapping_add(b)
 }
 
-/// The same on a band with depth.
 pub(crate) fn deep_bands<R: Threads>(
     rt: &R,
     rows: &Rows,
@@ -205,29 +190,23 @@ pub(crate) fn deep_bands<R: Threads>(
     bands: u32,
     colors: &mut [[u8; 4]],
     depths: &mut [[u8; 4]],
-)
-    requires whole { length colors.old ≡ rows.now.width * rows.now.count }
-    requires same { length depths.old ≡ length colors.old }
-    ensures { deep colors.new depths.new ≡ deep_drawn rows.now.width rows.now.top (deep_wiped rows.now.width rows.now.top (deep colors.old depths.old) (wipes_seen wipes.now)) list.now }
+    text: &mut [u8],
+) -> u32
 {
     if bands < 2 {
-        deep_band(rows, wipes, list, colors, depths);
-        return;
+        return deep_band(rows, wipes, list, colors, depths, text);
     }
     let more = bands - 1;
     let (upper, lower) = rows.cut(1, bands);
     let middle = upper.width as usize * upper.count as usize;
     let (above, under) = colors.split_at_mut(middle);
     let (near, far) = depths.split_at_mut(middle);
-    join_mut(
+    let before_len = text_len(text, middle);
+    let (before, behind) = text.split_at_mut(before_len);
+    let (a, b) = join_mut(
         rt,
-        &mut ||
-            requires { (length above.now ≡ upper.width * upper.count) × (length near.now ≡ length above.now) }
-            ensures { deep above.exit.now near.exit.now ≡ deep_drawn upper.width upper.top (deep_wiped upper.width upper.top (deep above.entry.now near.entry.now) (wipes_seen wipes.entry.now)) list.entry.now }
-        { deep_band(&upper, wipes, list, above, near) },
-        &mut ||
-            requires { (length under.now ≡ lower.width * lower.count) × (length far.now ≡ length under.now) }
-            ensures { deep under.exit.now far.exit.now ≡ deep_drawn lower.width lower.top (deep_wiped lower.width lower.top (deep under.entry.now far.entry.now) (wipes_seen wipes.entry.now)) list.entry.now }
-        { deep_bands(rt, &lower, wipes, list, more, under, far) },
+        &mut || -> u32 { deep_band(&upper, wipes, list, above, near, before) },
+        &mut || -> u32 { deep_bands(rt, &lower, wipes, list, more, under, far, behind) },
     );
+    a.wrapping_add(b)
 }

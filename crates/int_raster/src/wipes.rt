@@ -195,6 +195,9 @@ pub fn wipe_surface(surface: &mut Surface, wipe: &Wipe)
         count: surface.color.height,
     };
     let wipes = [*wipe];
+    if let Some(page) = &mut surface.page {
+        page.fresh = false;
+    }
     let colors = surface.color.texels.as_mut_slice();
     match &mut surface.depth {
         None => wipe_flat(&rows, &wipes, colors),

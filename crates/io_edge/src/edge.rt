@@ -62,6 +62,14 @@ pub trait Sink {
         ensures no_fewer { faults self.old ≤ faults self.new }
         ensures failed { OnErr result (Rose (faults self.old) (faults self.new)) };
 
+    fn sums(&self) -> bool {
+        false
+    }
+
+    fn put_summed(&mut self, piece: &[u8], _sum: u32) -> Result<usize, Failed> {
+        self.put(piece)
+    }
+
     /// While fewer bytes are held than the sure length, there was no fault.
     ghost never_short: { (s : Self) → IsShort (held s) (sure s) → faults s ≡ 0 };
 }

@@ -51,6 +51,16 @@ impl Sink for SureSink {
         self.sum = self.sum.wrapping_add(sum_of(piece));
         Ok(piece.len())
     }
+
+    fn sums(&self) -> bool {
+        true
+    }
+
+    fn put_summed(&mut self, piece: &[u8], sum: u32) -> Result<usize, Failed> {
+        self.count = self.count.wrapping_add(piece.len() as u64);
+        self.sum = self.sum.wrapping_add(sum);
+        Ok(piece.len())
+    }
 }
 
 // How many bytes are summed in 16 bits: their sum is at most 65,280.

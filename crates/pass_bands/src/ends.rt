@@ -142,6 +142,9 @@ pub(crate) fn end_surface(work: &Work, homes: Vec<Home>, surface: &mut Surface)
     ensures depth { option_map sides_seen surface.new.depth ≡ option_map sides_seen surface.old.depth }
 {
     let mut homes = homes;
+    if let Some(page) = &mut surface.page {
+        page.fresh = false;
+    }
     let rows = Rows::new(surface.color.width, 0, surface.color.height);
     let colors = surface.color.texels.as_mut_slice();
     match &mut surface.depth {

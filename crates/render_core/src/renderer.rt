@@ -19,13 +19,12 @@ ghost use Rattle.render_core.specs.Shown.{StoresAfter, HeldAfter, TallyAfter, Fa
 
 use crate::lists::Lists;
 use crate::outcomes::Outcomes;
-use crate::picture::PictureText;
+use crate::picture::{finish_page, new_page, put_page};
 use crate::views::{draw_views, parts_of};
 use frame_record::{Frame, Outcome, RenderedFrame};
 use frame_tracing::{Made, Trace, trace_parts};
 use int_raster::{Rasterizer, Surface};
 use io_edge::Sink;
-use io_whole::put_all;
 use pixel_ops::Pixel;
 use render_stores::{RenderStores, execute_all};
 use std::alloc::{AllocError, Global};
@@ -40,7 +39,6 @@ pub(crate) struct Canvas {
     pub(crate) stores: RenderStores,
     lists: Lists,
     room: DrawingRoom,
-    text: PictureText,
 }
 
 /// Draws frames, and puts their pictures into a sink.
@@ -49,7 +47,6 @@ pub struct Renderer<P> {
     canvas: Canvas,
     outcomes: Outcomes,
     sink: P,
-    ghost sides: { has_ended outcomes ≡ false → (canvas.text.width ≡ canvas.stores.back.color.width) × (canvas.text.height ≡ canvas.stores.back.color.height) },
 }
 
 impl Canvas {
@@ -59,16 +56,15 @@ impl Canvas {
         requires narrow { width ≤ 2048 }
         requires low { height ≤ 2048 }
         ensures stores { IfOk result (λ c. stores_seen c.stores ≡ first_stores (first_world width height).back) }
-        ensures fits { IfOk result (λ c. FitsText c) }
     {
         let stores = RenderStores::new(alloc, width, height)?;
-        let text = PictureText::new(alloc, width, height)?;
+        let mut stores = stores;
+        stores.back.page = Some(new_page(alloc, width, height)?);
         Ok(Canvas {
             alloc,
             stores,
             lists: Lists::new(alloc),
             room: DrawingRoom::new(alloc),
-            text,
         })
     }
 
@@ -76,7 +72,6 @@ impl Canvas {
     fn step<D: Rasterizer>(&mut self, rasterizer: &mut D, frame: &Frame) -> Result<(), AllocError>
         ensures stores { OnOk result (stores_seen self.new.stores ≡ frame_by_index (stores_seen self.old.stores) (frame_seen frame.now)) }
         ensures needs { OnErr result (NeedsMemory frame.now) }
-        ensures text { self.new.text ≡ self.old.text }
     {
         execute_all(self.alloc, &mut self.stores, &frame.payloads, &frame.pre)?;
         draw_views(
@@ -122,14 +117,11 @@ impl Canvas {
 
     /// Draws a frame, and writes the text of its picture.
     fn draw<D: Rasterizer>(&mut self, rasterizer: &mut D, frame: &Frame) -> Result<(), AllocError>
-        requires { FitsText self.old }
         ensures needs { OnErr result (NeedsMemory frame.now) }
-        ensures fits { OnOk result (FitsText self.new) }
         ensures stores { OnOk result (stores_seen self.new.stores ≡ frame_by_index (stores_seen self.old.stores) (frame_seen frame.now)) }
-        ensures text { OnOk result (self.new.text.text.items ≡ picture_text (stores_seen self.new.stores).back.color) }
     {
         self.step(rasterizer, frame)?;
-        self.text.write(&self.stores.back.color);
+        finish_page(&mut self.stores.back);
         Ok(())
     }
 
@@ -140,9 +132,7 @@ impl Canvas {
         sink: &mut P,
         frame: &Frame,
     ) -> Outcome
-        requires { FitsText self.old }
         ensures needs { result ≡ endings.OutOfMemory → NeedsMemory frame.now }
-        ensures fits { FitsAfter result self.new }
         ensures stores { StoresAfter result (stores_seen self.old.stores) (frame_seen frame.now) (stores_seen self.new.stores) }
         ensures held { HeldAfter result (picture_text (stores_seen self.new.stores).back.color) (P.held sink.old) (P.held sink.new) }
         ensures tally { TallyAfter result (picture_text (stores_seen self.new.stores).back.color) (P.tally sink.old) (P.tally sink.new) }
@@ -154,7 +144,8 @@ impl Canvas {
         if self.draw(rasterizer, frame).is_err() {
             return Outcome::OutOfMemory;
         }
-        match put_all(sink, self.text.as_slice()) {
+        let Some(page) = &self.stores.back.page else { return Outcome::OutOfMemory; };
+        match put_page(sink, page) {
             Ok(()) => Outcome::Shown,
             Err(_) => Outcome::PictureFault,
         }
@@ -185,10 +176,8 @@ fn show_unless<D: Rasterizer, P: Sink>(
     sink: &mut P,
     frame: &Frame,
 ) -> Outcome
-    requires { has_ended ≡ false → FitsText canvas.old }
     ensures skipped { is_skipped result ≡ has_ended }
     ensures needs { result ≡ endings.OutOfMemory → NeedsMemory frame.now }
-    ensures fits { has_ended ≡ false → FitsAfter result canvas.new }
     ensures stores { StoresAfter result (stores_seen canvas.old.stores) (frame_seen frame.now) (stores_seen canvas.new.stores) }
     ensures held { HeldAfter result (picture_text (stores_seen canvas.new.stores).back.color) (P.held sink.old) (P.held sink.new) }
     ensures tally { TallyAfter result (picture_text (stores_seen canvas.new.stores).back.color) (P.tally sink.old) (P.tally sink.new) }

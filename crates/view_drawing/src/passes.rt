@@ -101,6 +101,9 @@ fn enter_first<D: Rasterizer>(
 {
     let first = views[0];
     let count = length_of_pass(first.view, views);
+    if let Some(page) = &mut stores.back.page {
+        page.wanted = count.max(1) == views.len();
+    }
     if count == 0 {
         enter_view(
             rasterizer,
