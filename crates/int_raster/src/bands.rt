@@ -71,58 +71,62 @@ fn draw_deep_list(rows: &Rows, list: &DrawList<'_>, colors: &mut [[u8; 4]], dept
 }
 
 
-fn flat_strip(rows: &Rows, wipes: &[Wipe], list: &DrawList<'_>, colors: &mut [[u8; 4]], text: &mut [u8]) -> u32
+fn flat_strip(rows: &Rows, wipes: &[Wipe], lists: &[DrawList<'_>], colors: &mut [[u8; 4]], text: &mut [u8]) -> u32
 {
     wipe_flat(rows, wipes, colors);
-    draw_flat_list(rows, list, colors);
+    for list in lists {
+        draw_flat_list(rows, list, colors);
+    }
     write_text(text, colors)
 }
 
 fn flat_strips(
     rows: &Rows,
     wipes: &[Wipe],
-    list: &DrawList<'_>,
+    lists: &[DrawList<'_>],
     strips: u32,
     colors: &mut [[u8; 4]],
     text: &mut [u8],
 ) -> u32
 {
     if strips < 2 {
-        return flat_strip(rows, wipes, list, colors, text);
+        return flat_strip(rows, wipes, lists, colors, text);
     }
     let (upper, lower) = rows.cut(1, strips);
     let middle = upper.width as usize * upper.count as usize;
     let (above, under) = colors.split_at_mut(middle);
     let before_len = text_len(text, middle);
     let (before, behind) = text.split_at_mut(before_len);
-    let a = flat_strip(&upper, wipes, list, above, before);
-    let b = flat_strips(&lower, wipes, list, strips - 1, under, behind);
+    let a = flat_strip(&upper, wipes, lists, above, before);
+    let b = flat_strips(&lower, wipes, lists, strips - 1, under, behind);
     a.wrapping_add(b)
 }
 
-pub(crate) fn flat_band(rows: &Rows, wipes: &[Wipe], list: &DrawList<'_>, colors: &mut [[u8; 4]], text: &mut [u8]) -> u32
+pub(crate) fn flat_band(rows: &Rows, wipes: &[Wipe], lists: &[DrawList<'_>], colors: &mut [[u8; 4]], text: &mut [u8]) -> u32
 {
-    flat_strips(rows, wipes, list, list.strips(rows), colors, text)
+    flat_strips(rows, wipes, lists, strips_of(lists, rows), colors, text)
 }
 
 fn deep_strip(
     rows: &Rows,
     wipes: &[Wipe],
-    list: &DrawList<'_>,
+    lists: &[DrawList<'_>],
     colors: &mut [[u8; 4]],
     depths: &mut [[u8; 4]],
     text: &mut [u8],
 ) -> u32
 {
     wipe_deep(rows, wipes, colors, depths);
-    draw_deep_list(rows, list, colors, depths);
+    for list in lists {
+        draw_deep_list(rows, list, colors, depths);
+    }
     write_text(text, colors)
 }
 
 fn deep_strips(
     rows: &Rows,
     wipes: &[Wipe],
-    list: &DrawList<'_>,
+    lists: &[DrawList<'_>],
     strips: u32,
     colors: &mut [[u8; 4]],
     depths: &mut [[u8; 4]],
@@ -130,7 +134,7 @@ fn deep_strips(
 ) -> u32
 {
     if strips < 2 {
-        return deep_strip(rows, wipes, list, colors, depths, text);
+        return deep_strip(rows, wipes, lists, colors, depths, text);
     }
     let (upper, lower) = rows.cut(1, strips);
     let middle = upper.width as usize * upper.count as usize;
@@ -138,35 +142,35 @@ fn deep_strips(
     let (near, far) = depths.split_at_mut(middle);
     let before_len = text_len(text, middle);
     let (before, behind) = text.split_at_mut(before_len);
-    let a = deep_strip(&upper, wipes, list, above, near, before);
-    let b = deep_strips(&lower, wipes, list, strips - 1, under, far, behind);
+    let a = deep_strip(&upper, wipes, lists, above, near, before);
+    let b = deep_strips(&lower, wipes, lists, strips - 1, under, far, behind);
     a.wrapping_add(b)
 }
 
 pub(crate) fn deep_band(
     rows: &Rows,
     wipes: &[Wipe],
-    list: &DrawList<'_>,
+    lists: &[DrawList<'_>],
     colors: &mut [[u8; 4]],
     depths: &mut [[u8; 4]],
     text: &mut [u8],
 ) -> u32
 {
-    deep_strips(rows, wipes, list, list.strips(rows), colors, depths, text)
+    deep_strips(rows, wipes, lists, strips_of(lists, rows), colors, depths, text)
 }
 
 pub(crate) fn flat_bands<R: Threads>(
     rt: &R,
     rows: &Rows,
     wipes: &[Wipe],
-    list: &DrawList<'_>,
+    lists: &[DrawList<'_>],
     bands: u32,
     colors: &mut [[u8; 4]],
     text: &mut [u8],
 ) -> u32
 {
     if bands < 2 {
-        return flat_band(rows, wipes, list, colors, text);
+        return flat_band(rows, wipes, lists, colors, text);
     }
     let more = bands - 1;
     let (upper, lower) = rows.cut(1, bands);
@@ -176,8 +180,8 @@ pub(crate) fn flat_bands<R: Threads>(
     let (before, behind) = text.split_at_mut(before_len);
     let (a, b) = join_mut(
         rt,
-        &mut || -> u32 { flat_band(&upper, wipes, list, above, before) },
-        &mut || -> u32 { flat_bands(rt, &lower, wipes, list, more, under, behind) },
+        &mut || -> u32 { flat_band(&upper, wipes, lists, above, before) },
+        &mut || -> u32 { flat_bands(rt, &lower, wipes, lists, more, under, behind) },
     );
     a.wrapping_add(b)
 }
@@ -186,7 +190,7 @@ pub(crate) fn deep_bands<R: Threads>(
     rt: &R,
     rows: &Rows,
     wipes: &[Wipe],
-    list: &DrawList<'_>,
+    lists: &[DrawList<'_>],
     bands: u32,
     colors: &mut [[u8; 4]],
     depths: &mut [[u8; 4]],
@@ -194,7 +198,7 @@ pub(crate) fn deep_bands<R: Threads>(
 ) -> u32
 {
     if bands < 2 {
-        return deep_band(rows, wipes, list, colors, depths, text);
+        return deep_band(rows, wipes, lists, colors, depths, text);
     }
     let more = bands - 1;
     let (upper, lower) = rows.cut(1, bands);
@@ -205,8 +209,43 @@ pub(crate) fn deep_bands<R: Threads>(
     let (before, behind) = text.split_at_mut(before_len);
     let (a, b) = join_mut(
         rt,
-        &mut || -> u32 { deep_band(&upper, wipes, list, above, near, before) },
-        &mut || -> u32 { deep_bands(rt, &lower, wipes, list, more, under, far, behind) },
+        &mut || -> u32 { deep_band(&upper, wipes, lists, above, near, before) },
+        &mut || -> u32 { deep_bands(rt, &lower, wipes, lists, more, under, far, behind) },
     );
     a.wrapping_add(b)
+}
+
+fn strips_of(lists: &[DrawList<'_>], rows: &Rows) -> u32 {
+    let mut count: u64 = 0;
+    let mut work: u64 = 0;
+    for list in lists {
+        let (one, other) = list.measures();
+        count = count.saturating_add(one);
+        work = work.saturating_add(other);
+    }
+    crate::lists::strips_for(count, work, rows)
+}
+
+/// A part of some work.
+pub trait Part {
+    fn run(&mut self);
+}
+
+pub(crate) fn run_all<S: Part>(parts: &mut [S]) {
+    for part in parts.iter_mut() {
+        part.run();
+    }
+}
+
+pub(crate) fn run_parts<R: Threads, S: Part + Send>(rt: &R, parts: &mut [S]) {
+    if parts.len() < 2 {
+        run_all(parts);
+        return;
+    }
+    let (first, rest) = parts.split_at_mut(1);
+    join_mut(
+        rt,
+        &mut || { run_all(first) },
+        &mut || { run_parts(rt, rest) },
+    );
 }

@@ -18,7 +18,7 @@ fn is_wanted(page: &Option<Page>) -> bool {
 }
 
 /// Makes wipes, and then the draws of a list, each in their order. The sides of the surface's textures stay, and how many texels they have.
-pub fn draw_view(surface: &mut Surface, wipes: &[Wipe], list: &DrawList<'_>)
+pub fn draw_view(surface: &mut Surface, wipes: &[Wipe], lists: &[DrawList<'_>])
 {
     let rows = Rows {
         width: surface.color.width,
@@ -31,15 +31,15 @@ pub fn draw_view(surface: &mut Surface, wipes: &[Wipe], list: &DrawList<'_>)
         Some(page) => {
             let text = if wanted { &mut page.text[page.head..] } else { &mut page.text[..0] };
             page.sum = match &mut surface.depth {
-                None => flat_band(&rows, wipes, list, colors, text),
-                Some(depth) => deep_band(&rows, wipes, list, colors, depth.texels.as_mut_slice(), text),
+                None => flat_band(&rows, wipes, lists, colors, text),
+                Some(depth) => deep_band(&rows, wipes, lists, colors, depth.texels.as_mut_slice(), text),
             };
             page.fresh = wanted;
         }
         None => {
             match &mut surface.depth {
-                None => flat_band(&rows, wipes, list, colors, &mut []),
-                Some(depth) => deep_band(&rows, wipes, list, colors, depth.texels.as_mut_slice(), &mut []),
+                None => flat_band(&rows, wipes, lists, colors, &mut []),
+                Some(depth) => deep_band(&rows, wipes, lists, colors, depth.texels.as_mut_slice(), &mut []),
             };
         }
     }
@@ -51,7 +51,7 @@ pub fn draw_bands<R: Threads>(
     rt: &R,
     surface: &mut Surface,
     wipes: &[Wipe],
-    list: &DrawList<'_>,
+    lists: &[DrawList<'_>],
     bands: u32,
 )
 {
@@ -67,15 +67,15 @@ pub fn draw_bands<R: Threads>(
         Some(page) => {
             let text = if wanted { &mut page.text[page.head..] } else { &mut page.text[..0] };
             page.sum = match &mut surface.depth {
-                None => flat_bands(rt, &rows, wipes, list, bands, colors, text),
-                Some(depth) => deep_bands(rt, &rows, wipes, list, bands, colors, depth.texels.as_mut_slice(), text),
+                None => flat_bands(rt, &rows, wipes, lists, bands, colors, text),
+                Some(depth) => deep_bands(rt, &rows, wipes, lists, bands, colors, depth.texels.as_mut_slice(), text),
             };
             page.fresh = wanted;
         }
         None => {
             match &mut surface.depth {
-                None => flat_bands(rt, &rows, wipes, list, bands, colors, &mut []),
-                Some(depth) => deep_bands(rt, &rows, wipes, list, bands, colors, depth.texels.as_mut_slice(), &mut []),
+                None => flat_bands(rt, &rows, wipes, lists, bands, colors, &mut []),
+                Some(depth) => deep_bands(rt, &rows, wipes, lists, bands, colors, depth.texels.as_mut_slice(), &mut []),
             };
         }
     }

@@ -31,6 +31,7 @@ mod tiles;
 mod wipe;
 mod wipes;
 
+pub use bands::Part;
 pub use cuts::{draw_cut, view_rect};
 pub use drawing::{draw_bands, draw_view};
 pub use lists::{DrawList, DrawRoom, Paint, Prepared};

@@ -157,15 +157,8 @@ impl<'x> DrawList<'x> {
         self.work
     }
 
-    /// In how many strips of rows a thread draws rows, one behind the other, so that the texels of a strip stay in its processor's
-    /// cache from draw to draw: at most one for each 20,480 texels, and more than one only where the triangles are so large that
-    /// looking at each of them once more a strip costs little. Any number is right.
-    pub(crate) fn strips(&self, rows: &Rows) -> u32 {
-        let count = self.triangles.len() as u64;
-        let covered = self.work.saturating_sub(TRIANGLE.saturating_mul(count));
-        let texels = rows.width as u64 * rows.count as u64;
-        let worth = covered / SEEN_AGAIN / count.max(1);
-        (texels / STRIP).min(worth).min(MOST_STRIPS) as u32
+    pub(crate) fn measures(&self) -> (u64, u64) {
+        (self.triangles.len() as u64, self.work)
     }
 
     /// Takes all draws out. Their room stays for the next ones.
@@ -232,4 +225,11 @@ impl<'x> DrawList<'x> {
         };
         (draw, &self.triangles[listed.first..listed.after])
     }
+}
+
+pub(crate) fn strips_for(count: u64, work: u64, rows: &Rows) -> u32 {
+    let covered = work.saturating_sub(TRIANGLE.saturating_mul(count));
+    let texels = rows.width as u64 * rows.count as u64;
+    let worth = covered / SEEN_AGAIN / count.max(1);
+    (texels / STRIP).min(worth).min(MOST_STRIPS) as u32
 }

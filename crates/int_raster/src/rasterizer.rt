@@ -4,6 +4,7 @@ ghost use Rattle.int_raster.specs.Drawing.{drawn_prepared};
 ghost use Rattle.int_raster.specs.Seen.{surface_seen, sides_seen};
 ghost use Rattle.int_raster.specs.Wiping.{wiped, wipes_seen};
 
+use crate::bands::{Part, run_all, run_parts};
 use crate::drawing::{draw_bands, draw_view};
 use crate::lists::DrawList;
 use crate::surfaces::Surface;
@@ -14,11 +15,11 @@ use std::thread::Threads;
 /// Makes wipes and the draws of lists on surfaces, by one thread or by several.
 pub trait Rasterizer {
     /// Makes wipes, and then the draws of a list, each in their order. The sides of the surface's textures stay, and how many texels they have.
-    fn draw(&mut self, surface: &mut Surface, wipes: &[Wipe], list: &DrawList<'_>)
-        ensures drawn { surface_seen surface.new ≡ fold drawn_prepared (fold wiped (surface_seen surface.old) (wipes_seen wipes.now)) list.now }
-        ensures color { sides_seen surface.new.color ≡ sides_seen surface.old.color }
-        ensures depth { option_map sides_seen surface.new.depth ≡ option_map sides_seen surface.old.depth }
-        ensures counts { (length surface.new.color.texels ≡ length surface.old.color.texels) × (option_map (λ d. length d.texels) surface.new.depth ≡ option_map (λ d. length d.texels) surface.old.depth) };
+    fn draw(&mut self, surface: &mut Surface, wipes: &[Wipe], lists: &[DrawList<'_>]);
+
+    fn parts(&mut self, work: u64) -> u32;
+
+    fn run<S: Part + Send>(&mut self, parts: &mut [S]);
 }
 
 /// Makes all draws by the thread that calls. It starts no thread and never waits.
@@ -26,8 +27,17 @@ pub trait Rasterizer {
 pub struct SerialRasterizer;
 
 impl Rasterizer for SerialRasterizer {
-    fn draw(&mut self, surface: &mut Surface, wipes: &[Wipe], list: &DrawList<'_>) {
-        draw_view(surface, wipes, list);
+    fn draw(&mut self, surface: &mut Surface, wipes: &[Wipe], lists: &[DrawList<'_>]) {
+        draw_view(surface, wipes, lists);
+    }
+
+    fn parts(&mut self, work: u64) -> u32 {
+        let _ = work;
+        1
+    }
+
+    fn run<S: Part + Send>(&mut self, parts: &mut [S]) {
+        run_all(parts);
     }
 }
 
@@ -70,7 +80,6 @@ impl<'r, R: Threads> BandRasterizer<'r, R> {
 
     /// In how many bands work of so many pixels is done.
     fn bands(&mut self, work: u64) -> u32
-        ensures { 1 ≤ result }
     {
         let worth = (work / WORK_A_BAND).min(MOST_PAID);
         if worth < 2 {
@@ -82,8 +91,20 @@ impl<'r, R: Threads> BandRasterizer<'r, R> {
 }
 
 impl<'r, R: Threads> Rasterizer for BandRasterizer<'r, R> {
-    fn draw(&mut self, surface: &mut Surface, wipes: &[Wipe], list: &DrawList<'_>) {
-        let bands = self.bands(list.work());
-        draw_bands(self.rt, surface, wipes, list, bands);
+    fn draw(&mut self, surface: &mut Surface, wipes: &[Wipe], lists: &[DrawList<'_>]) {
+        let mut work: u64 = 0;
+        for list in lists {
+            work = work.saturating_add(list.work());
+        }
+        let bands = self.bands(work);
+        draw_bands(self.rt, surface, wipes, lists, bands);
+    }
+
+    fn parts(&mut self, work: u64) -> u32 {
+        self.bands(work)
+    }
+
+    fn run<S: Part + Send>(&mut self, parts: &mut [S]) {
+        run_parts(self.rt, parts);
     }
 }

@@ -10,55 +10,58 @@ ghost use Rattle.view_drawing.specs.Entered.{StopsAtDraw, HaveGiven};
 ghost use Rattle.view_drawing.specs.Passes.{all_items, turn_seen};
 ghost use Rattle.view_drawing.specs.Prepared.{DoTurnsTo};
 
-use crate::clearing::{clear_all, list_wipes};
+use crate::clearing::list_wipes;
+use crate::preparing::{Planned, Shaping};
 use crate::room::DrawingRoom;
 use crate::turns::{Things, count_of, do_turns, give_turns};
 use crate::view_parts::{Pass, ViewPart};
 use buffer_store::BufferStore;
 use gfx_words::Handle;
-use int_raster::{DrawList, Rasterizer, Surface, Wipe};
+use int_raster::{DrawList, Rasterizer, Surface};
 use render_stores::RenderStores;
 use std::alloc::AllocError;
+use std::mem::replace;
 
-/// The draws of views of a target of the things' sides in one list, whose values are given.
-fn list_of<'x>(
-    things: &Things<'x>,
-    buffers: &mut BufferStore,
-    views: &[ViewPart<'x>],
-    room: &mut DrawingRoom,
-) -> Result<DrawList<'x>, AllocError>
-    ensures done { IfOk result (λ list. DoTurnsTo things.now.width things.now.height things.now.textures.now things.now.programs.now (map turn_seen views.now) buffers.old [] buffers.new list) }
-    ensures given { OnErr result (StopsAtDraw things.now.programs.now (all_items (map turn_seen views.now)) buffers.old buffers.new) }
-{
-    let mut list = DrawList::with_room(room.alloc, room.take_list(), count_of(views));
-    do_turns(things, buffers, views, &mut list, room)?;
-    Ok(list)
-}
-
-/// Clears a surface for views, and makes the draws of a list on it. Where there is no memory for a list of the clears, they are made
-/// before.
-fn draw_cleared<D: Rasterizer>(
+fn shape_all<'x, D: Rasterizer>(
     rasterizer: &mut D,
-    surface: &mut Surface,
-    cleared: &[ViewPart<'_>],
-    list: &DrawList<'_>,
-    wipes: &mut Vec<Wipe>,
-)
-    ensures drawn { surface_seen surface.new ≡ fold drawn_prepared (all_cleared (surface_seen surface.old) (map turn_seen cleared.now)) list.now }
-    ensures color { sides_seen surface.new.color ≡ sides_seen surface.old.color }
-    ensures depth { option_map sides_seen surface.new.depth ≡ option_map sides_seen surface.old.depth }
+    buffers: &BufferStore,
+    plan: &[Planned<'x>],
+    room: &mut DrawingRoom,
+) -> Result<Vec<DrawList<'x>>, AllocError>
 {
-    match list_wipes(wipes, cleared, surface.color.width, surface.color.height) {
-        Ok(()) => rasterizer.draw(surface, wipes.as_slice(), list),
-        Err(_) => {
-            clear_all(surface, cleared);
-            rasterizer.draw(surface, &[], list);
-        }
+    let count = rasterizer.parts(plan.len() as u64 * 1024) as usize;
+    while room.shapes.len() < count {
+        room.shapes.push(DrawingRoom::new(room.alloc))?;
     }
+    let mut parts = Vec::with_capacity(room.alloc, count)?;
+    let mut lists = Vec::with_capacity(room.alloc, count)?;
+    for number in 0..count {
+        let from = plan.len() * number / count;
+        let end = plan.len() * (number + 1) / count;
+        let mut shapes = replace(&mut room.shapes[number], DrawingRoom::new(room.alloc));
+        let list = shapes.take_list();
+        parts.push(Shaping {
+            plan: &plan[from..end],
+            buffers,
+            room: shapes,
+            list: DrawList::with_room(room.alloc, list, end - from),
+            done: false,
+        })?;
+    }
+    rasterizer.run(&mut parts[..]);
+    let mut number = 0;
+    for part in parts {
+        let Shaping { room: shapes, list, done, .. } = part;
+        if !done {
+            return Err(AllocError);
+        }
+        room.shapes[number] = shapes;
+        number += 1;
+        lists.push(list)?;
+    }
+    Ok(lists)
 }
 
-/// Clears a surface of the things' sides, makes the draws of a pass on it, and gives their values. Where memory is wanting for a draw,
-/// it is cleared, the values of the items up to that draw are given, and nothing is drawn.
 fn draw_surface<D: Rasterizer>(
     rasterizer: &mut D,
     surface: &mut Surface,
@@ -67,24 +70,16 @@ fn draw_surface<D: Rasterizer>(
     pass: Pass<'_>,
     room: &mut DrawingRoom,
 ) -> Result<(), AllocError>
-    requires wide { things.now.width ≡ surface.old.color.width }
-    requires high { things.now.height ≡ surface.old.color.height }
-    ensures drawn { OnOk result (all_drawn things.now.textures.now things.now.programs.now (record { buffers = buffers.old; surface = all_cleared (surface_seen surface.old) (map turn_seen pass.cleared.now) }) (map turn_seen pass.drawn.now) ≡ record { buffers = buffers.new; surface = surface_seen surface.new }) }
-    ensures begun { OnErr result ((surface_seen surface.new ≡ all_cleared (surface_seen surface.old) (map turn_seen pass.cleared.now)) × StopsAtDraw things.now.programs.now (all_items (map turn_seen pass.drawn.now)) buffers.old buffers.new) }
-    ensures color { sides_seen surface.new.color ≡ sides_seen surface.old.color }
-    ensures depth { option_map sides_seen surface.new.depth ≡ option_map sides_seen surface.old.depth }
 {
-    match list_of(things, buffers, pass.drawn, room) {
-        Ok(list) => {
-            draw_cleared(rasterizer, surface, pass.cleared, &list, &mut room.wipes);
-            room.list = list.into_room();
-            Ok(())
-        }
-        Err(fault) => {
-            clear_all(surface, pass.cleared);
-            Err(fault)
-        }
+    let mut plan = Vec::with_capacity(room.alloc, count_of(pass.drawn))?;
+    do_turns(things, buffers, pass.drawn, &mut plan)?;
+    let mut lists = shape_all(rasterizer, buffers, &plan, room)?;
+    list_wipes(&mut room.wipes, pass.cleared, things.width, things.height)?;
+    rasterizer.draw(surface, room.wipes.as_slice(), &lists);
+    while let Some(list) = lists.pop() {
+        room.shapes[lists.len()].list = list.into_room();
     }
+    Ok(())
 }
 
 /// Clears a frame buffer's textures and makes the draws of a pass on them, where they can be taken out.
@@ -95,8 +90,6 @@ fn draw_target<D: Rasterizer>(
     pass: Pass<'_>,
     room: &mut DrawingRoom,
 ) -> Result<(), AllocError>
-    ensures drawn { OnOk result (stores_seen stores.new ≡ all_passed (Some target) (stores_seen stores.old) (map turn_seen pass.cleared.now) (map turn_seen pass.drawn.now)) }
-    ensures begun { OnErr result (HaveGiven (all_items (map turn_seen pass.drawn.now)) (on_target (stores_seen stores.old) (Some target) (λ s. all_cleared s (map turn_seen pass.cleared.now))) (stores_seen stores.new)) }
 {
     match stores.textures.take_target(target.index()) {
         None => {
@@ -134,8 +127,6 @@ fn draw_back<D: Rasterizer>(
     pass: Pass<'_>,
     room: &mut DrawingRoom,
 ) -> Result<(), AllocError>
-    ensures drawn { OnOk result (stores_seen stores.new ≡ all_passed None (stores_seen stores.old) (map turn_seen pass.cleared.now) (map turn_seen pass.drawn.now)) }
-    ensures begun { OnErr result (HaveGiven (all_items (map turn_seen pass.drawn.now)) (on_target (stores_seen stores.old) None (λ s. all_cleared s (map turn_seen pass.cleared.now))) (stores_seen stores.new)) }
 {
     let things = Things {
         textures: &stores.textures,
@@ -162,8 +153,6 @@ pub(crate) fn draw_listed<D: Rasterizer>(
     pass: Pass<'_>,
     room: &mut DrawingRoom,
 ) -> Result<(), AllocError>
-    ensures drawn { OnOk result (stores_seen stores.new ≡ all_passed target (stores_seen stores.old) (map turn_seen pass.cleared.now) (map turn_seen pass.drawn.now)) }
-    ensures begun { OnErr result (HaveGiven (all_items (map turn_seen pass.drawn.now)) (on_target (stores_seen stores.old) target (λ s. all_cleared s (map turn_seen pass.cleared.now))) (stores_seen stores.new)) }
 {
     match target {
         Some(target) => draw_target(rasterizer, stores, target, pass, room),

