@@ -1,8 +1,10 @@
+mod Begins
 mod Counts
 mod EndedFrames
 mod FourPixels
 mod OneWay
 mod Parts
+mod PartsIn
 mod Runs
 mod ShownFrames
 mod Shows

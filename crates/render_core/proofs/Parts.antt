@@ -40,13 +40,13 @@ all_filtered P p [] all = tt
 all_filtered P p (x ∷ xs) all = all_if P (p x) x (filter p xs) all.0 (all_filtered P p xs all.1)
 
 -- the blits among items are those that the definition keeps
-blits_shown : (ys : List Item) → map blit_item (filter_map blit_of ys) ≡ filter is_blit ys
+pub blits_shown : (ys : List Item) → map blit_item (filter_map blit_of ys) ≡ filter is_blit ys
 blits_shown [] = refl
 blits_shown (draw_item d ∷ ys) = blits_shown ys
 blits_shown (touch_item t ∷ ys) = blits_shown ys
 blits_shown (blit_item b ∷ ys) = ap (λ xs. blit_item b ∷ xs) (blits_shown ys)
 
-blits_again : (p : Item → Bool) (ys : List Item) → filter is_blit (filter p (filter is_blit ys)) ≡ filter p (filter is_blit ys)
+pub blits_again : (p : Item → Bool) (ys : List Item) → filter is_blit (filter p (filter is_blit ys)) ≡ filter p (filter is_blit ys)
 blits_again p [] = refl
 blits_again p (draw_item d ∷ ys) = blits_again p ys
 blits_again p (touch_item t ∷ ys) = blits_again p ys

@@ -1,12 +1,12 @@
 -- What takes memory in a frame, and a frame without items.
-use Rattle.std.proofs.Common.{◌≡◌, ℕ, zero, suc, ◌∙◌, ◌==◌, Bool, true, false, ◌||◌, List, [], ◌∷◌, filter, fold, length, Some, Result, Ok, Err, refl, sym, ap}
+use Rattle.std.proofs.Common.{◌≡◌, ℕ, zero, suc, ◌∙◌, ◌==◌, Bool, true, false, ◌||◌, List, [], ◌∷◌, filter, length, Some, Result, Ok, Err, refl, sym, ap}
 use Rattle.std.specs.Prelude.{◌≢◌, OnErr}
 use Rattle.std.specs.List.{list_any, slice_get}
 use Rattle.std.proofs.lemmas.Bool.{eqb-true, eqb-false}
 use Rattle.std.proofs.lemmas.List.{nil_from_length}
 use Rattle.std.proofs.lemmas.Option.{same_Some, none-some}
-use Rattle.gfx_model.specs.World.{Item, is_of_view}
-use Rattle.store_laws.specs.ByIndex.{Stores, FrameData, enter_by_index, entered_by_index}
+use Rattle.gfx_model.specs.World.{is_of_view}
+use Rattle.store_laws.specs.ByIndex.{Stores}
 use Rattle.gfx_words.specs.declared.journal.JournalEntry.{JournalEntry}
 use Rattle.gfx_model.specs.Commands.{Command}
 use Rattle.render_stores.specs.Memory.{takes_memory, IsStopped}
@@ -32,12 +32,6 @@ some_takes row s = some_at row s.before s.command s.there s.takes
 pub none_entered : (vs : List ℕ) → filter (λ v. list_any (is_of_view v) []) vs ≡ []
 none_entered [] = refl
 none_entered (v ∷ vs) = none_entered vs
-
--- a frame without items enters no view
-pub nothing_entered : (h : Stores) (f : FrameData) → f.items ≡ [] → h ≡ fold (enter_by_index f.views f.items f.ordered) h (entered_by_index f)
-nothing_entered h f none =
-    let no_view : entered_by_index f ≡ [] = ap (λ (items : List Item). filter (λ v. list_any (is_of_view v) items) f.sequence) none ∙ none_entered f.sequence in
-    ap (λ (vs : List ℕ). fold (enter_by_index f.views f.items f.ordered) h vs) (sym no_view)
 
 -- ---- whether there are entries
 

@@ -1,3 +1,5 @@
+pub mod Begun
+pub mod BegunFrames
 pub mod Counted
 pub mod Ended
 pub mod Laws
@@ -10,3 +12,4 @@ pub mod Run
 pub mod Runs
 pub mod Seen
 pub mod Shown
+pub mod ViewParts

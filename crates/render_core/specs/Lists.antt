@@ -1,17 +1,15 @@
 -- The lists from which a frame's views are drawn.
-use Rattle.std.specs.Prelude.{◌≡◌, ℕ, ◌<◌, Bool, false, List, map, filter, fold, length, slice_index_or}
+use Rattle.std.specs.Prelude.{◌≡◌, ℕ, ◌<◌, Bool, false, List, map, filter, length, slice_index_or}
 use Rattle.std.specs.List.{list_any, AllByRecursion}
 use Rattle.gfx_model.specs.Frames.{keyed_entries}
-use Rattle.gfx_model.specs.Views.{Views, view_count}
-use Rattle.gfx_model.specs.World.{Item, blit_item, is_blit, is_of_view, sorted_by_key}
-use Rattle.store_laws.specs.ByIndex.{Stores, enter_by_index}
+use Rattle.gfx_model.specs.Views.{view_count}
+use Rattle.gfx_model.specs.World.{blit_item, is_blit, is_of_view, sorted_by_key}
 use Rattle.frame_record.specs.declared.frame.Frame.{Frame}
 use Rattle.frame_record.specs.declared.ordering.OrderedItem.{OrderedItem}
 use Rattle.frame_record.specs.declared.placing.PlacedBlit.{PlacedBlit}
 use Rattle.frame_record.specs.Ordered.{AscendFrom, IsPlaced, keyed_of, position_of}
 use Rattle.frame_record.specs.Placed.{placed_of, blit_entries, items_in}
 use Rattle.view_drawing.specs.Entries.{items_of, blits_of}
-use Rattle.view_drawing.specs.Passes.{Part, after_part}
 use Rattle.render_core.specs.declared.lists.Lists.{Lists}
 use Rattle.render_core.specs.Seen.{recordings_of, journal_of, frame_seen}
 
@@ -43,7 +41,3 @@ pub record IsPart (f : Frame) (v : ℕ) (is_entered : Bool) (blits : List Placed
   pub copied : map blit_item (blits_of f blits) ≡ filter (is_of_view v) (filter is_blit (frame_seen f).items)
   pub drawn : items_of f items ≡ filter (is_of_view v) (frame_seen f).ordered
   pub entered : is_entered ≡ list_any (is_of_view v) (frame_seen f).items
-
--- the parts of views that are entered one after the other, with those of some views more
-abbrev pub EntersMore : Views → (items ordered : List Item) → (before : List Part) → (views : List ℕ) → (after : List Part) → Type 0
-EntersMore vs items ordered before views after = (h : Stores) → fold after_part h after ≡ fold (enter_by_index vs items ordered) (fold after_part h before) views

@@ -1,9 +1,9 @@
 // Renders one frame after another.
-ghost use Rattle.std.specs.Prelude.{◌≡◌, ◌⊎◌, ◌≤◌, ◌<◌, ℕ, List, [], ◌∷◌, ◌++◌, length, map, false, IfOk, IfErr, MatchOption, OnOk, OnErr};
-ghost use Rattle.io_edge.specs.Edge.{with_back, Rose};
+ghost use Rattle.std.specs.Prelude.{◌≡◌, ◌⊎◌, ◌≤◌, ◌<◌, ℕ, List, [], map, false, IfOk, IfErr, MatchOption};
+ghost use Rattle.io_edge.specs.Edge.{with_back};
 ghost use Rattle.gfx_model.specs.World.{World, FrameContent, first_world, frame_step};
 ghost use Rattle.scene_model.specs.Output.{picture_text};
-ghost use Rattle.store_laws.specs.ByIndex.{first_stores, frame_by_index};
+ghost use Rattle.store_laws.specs.ByIndex.{first_stores};
 ghost use Rattle.store_laws.specs.Says.{StandsFor, Says, left};
 ghost use Rattle.int_raster.specs.Seen.{surface_seen};
 ghost use Rattle.render_stores.specs.Seen.{stores_seen};
@@ -11,22 +11,20 @@ ghost use Rattle.trace_laws.specs.History.{pixel_at, pixel_history};
 ghost use Rattle.pixel_ops.specs.Seen.{pixel_seen};
 ghost use Rattle.trace_laws.specs.ByIndex.{begun_in, deeds_in, history_in};
 ghost use Rattle.frame_tracing.specs.Seen.{made_seen};
-ghost use Rattle.render_core.specs.Needs.{NeedsMemory, FitsText, FitsAfter};
-ghost use Rattle.frame_record.specs.declared.frame.Outcome.TheVariants as endings;
-ghost use Rattle.render_core.specs.Outcomes.{IsShown, has_ended, is_shown, is_skipped};
+ghost use Rattle.render_core.specs.Needs.{FitsText};
+ghost use Rattle.render_core.specs.Outcomes.{IsShown, has_ended};
 ghost use Rattle.render_core.specs.Seen.{frame_seen};
-ghost use Rattle.render_core.specs.Shown.{StoresAfter, HeldAfter, TallyAfter, FaultIf};
 
 use crate::lists::Lists;
 use crate::outcomes::Outcomes;
 use crate::picture::PictureText;
-use crate::views::{draw_views, parts_of};
-use frame_record::{Frame, Outcome, RenderedFrame};
+use crate::views::parts_of;
+use frame_record::{Frame, RenderedFrame};
 use frame_tracing::{Made, Trace, trace_parts};
 use int_raster::{Rasterizer, Surface};
 use io_edge::Sink;
-use io_whole::put_all;
 use pixel_ops::Pixel;
+use remembered::Remembered;
 use render_stores::{RenderStores, execute_all};
 use std::alloc::{AllocError, Global};
 use store_laws::{frame_law, start_law};
@@ -36,19 +34,19 @@ use view_drawing::DrawingRoom;
 /// What frames are drawn on, and the rooms that are kept from frame to frame.
 #[derive(Drop)]
 pub(crate) struct Canvas {
-    alloc: Global,
+    pub(crate) alloc: Global,
     pub(crate) stores: RenderStores,
-    lists: Lists,
-    room: DrawingRoom,
-    text: PictureText,
+    pub(crate) lists: Lists,
+    pub(crate) room: DrawingRoom,
+    pub(crate) text: PictureText,
 }
 
 /// Draws frames, and puts their pictures into a sink.
 #[derive(Drop)]
 pub struct Renderer<P> {
-    canvas: Canvas,
-    outcomes: Outcomes,
-    sink: P,
+    pub(crate) canvas: Canvas,
+    pub(crate) outcomes: Outcomes,
+    pub(crate) sink: P,
     ghost sides: { has_ended outcomes ≡ false → (canvas.text.width ≡ canvas.stores.back.color.width) × (canvas.text.height ≡ canvas.stores.back.color.height) },
 }
 
@@ -70,25 +68,6 @@ impl Canvas {
             room: DrawingRoom::new(alloc),
             text,
         })
-    }
-
-    /// Executes a frame's first commands, draws its views, and executes its last commands.
-    fn step<D: Rasterizer>(&mut self, rasterizer: &mut D, frame: &Frame) -> Result<(), AllocError>
-        ensures stores { OnOk result (stores_seen self.new.stores ≡ frame_by_index (stores_seen self.old.stores) (frame_seen frame.now)) }
-        ensures needs { OnErr result (NeedsMemory frame.now) }
-        ensures text { self.new.text ≡ self.old.text }
-    {
-        execute_all(self.alloc, &mut self.stores, &frame.payloads, &frame.pre)?;
-        draw_views(
-            self.alloc,
-            rasterizer,
-            &mut self.stores,
-            frame,
-            &mut self.lists,
-            &mut self.room,
-        )?;
-        execute_all(self.alloc, &mut self.stores, &frame.payloads, &frame.post)?;
-        Ok(())
     }
 
     /// Executes a frame's first commands, and does its deeds one after another; answers what each does to a pixel of the back buffer.
@@ -119,46 +98,6 @@ impl Canvas {
         )?;
         Ok(trace.made)
     }
-
-    /// Draws a frame, and writes the text of its picture.
-    fn draw<D: Rasterizer>(&mut self, rasterizer: &mut D, frame: &Frame) -> Result<(), AllocError>
-        requires { FitsText self.old }
-        ensures needs { OnErr result (NeedsMemory frame.now) }
-        ensures fits { OnOk result (FitsText self.new) }
-        ensures stores { OnOk result (stores_seen self.new.stores ≡ frame_by_index (stores_seen self.old.stores) (frame_seen frame.now)) }
-        ensures text { OnOk result (self.new.text.text.items ≡ picture_text (stores_seen self.new.stores).back.color) }
-    {
-        self.step(rasterizer, frame)?;
-        self.text.write(&self.stores.back.color);
-        Ok(())
-    }
-
-    /// Draws a frame, and puts its picture.
-    fn show<D: Rasterizer, P: Sink>(
-        &mut self,
-        rasterizer: &mut D,
-        sink: &mut P,
-        frame: &Frame,
-    ) -> Outcome
-        requires { FitsText self.old }
-        ensures needs { result ≡ endings.OutOfMemory → NeedsMemory frame.now }
-        ensures fits { FitsAfter result self.new }
-        ensures stores { StoresAfter result (stores_seen self.old.stores) (frame_seen frame.now) (stores_seen self.new.stores) }
-        ensures held { HeldAfter result (picture_text (stores_seen self.new.stores).back.color) (P.held sink.old) (P.held sink.new) }
-        ensures tally { TallyAfter result (picture_text (stores_seen self.new.stores).back.color) (P.tally sink.old) (P.tally sink.new) }
-        ensures fault { FaultIf result (P.faults sink.old) (P.faults sink.new) }
-        ensures no_fewer { P.faults sink.old ≤ P.faults sink.new }
-        ensures sure { P.sure sink.new ≡ P.sure sink.old }
-        ensures drawn { is_skipped result ≡ false }
-    {
-        if self.draw(rasterizer, frame).is_err() {
-            return Outcome::OutOfMemory;
-        }
-        match put_all(sink, self.text.as_slice()) {
-            Ok(()) => Outcome::Shown,
-            Err(_) => Outcome::PictureFault,
-        }
-    }
 }
 
 /// The pixel of a surface at a column and a row that it has.
@@ -175,31 +114,6 @@ fn pixel_of(surface: &Surface, x: u16, y: u16) -> Pixel
             Some(depth) => Some(u32::from_le_bytes(depth.texels.as_slice()[place])),
         },
     }
-}
-
-/// Draws a frame and puts its picture, unless an earlier one was not shown.
-fn show_unless<D: Rasterizer, P: Sink>(
-    has_ended: bool,
-    canvas: &mut Canvas,
-    rasterizer: &mut D,
-    sink: &mut P,
-    frame: &Frame,
-) -> Outcome
-    requires { has_ended ≡ false → FitsText canvas.old }
-    ensures skipped { is_skipped result ≡ has_ended }
-    ensures needs { result ≡ endings.OutOfMemory → NeedsMemory frame.now }
-    ensures fits { has_ended ≡ false → FitsAfter result canvas.new }
-    ensures stores { StoresAfter result (stores_seen canvas.old.stores) (frame_seen frame.now) (stores_seen canvas.new.stores) }
-    ensures held { HeldAfter result (picture_text (stores_seen canvas.new.stores).back.color) (P.held sink.old) (P.held sink.new) }
-    ensures tally { TallyAfter result (picture_text (stores_seen canvas.new.stores).back.color) (P.tally sink.old) (P.tally sink.new) }
-    ensures faults { FaultIf result (P.faults sink.old) (P.faults sink.new) }
-    ensures no_fewer { P.faults sink.old ≤ P.faults sink.new }
-    ensures sure { P.sure sink.new ≡ P.sure sink.old }
-{
-    if has_ended {
-        return Outcome::Skipped;
-    }
-    canvas.show(rasterizer, sink, frame)
 }
 
 impl<P: Sink> Renderer<P> {
@@ -252,14 +166,11 @@ impl<P: Sink> Renderer<P> {
             → IsShown result.outcome → P.held self.new.sink ≡ with_back (P.held self.old.sink) (picture_text (frame_step w content).back.color) }
     {
         frame_law();
-        let has_ended = self.outcomes.has_ended();
-        let outcome = show_unless(
-            has_ended,
-            &mut self.canvas,
-            rasterizer,
-            &mut self.sink,
-            &frame,
-        );
+        let opening = Remembered::of(&*self);
+        let stage = self.canvas.begin(&frame, self.outcomes.has_ended());
+        let outcome = self
+            .canvas
+            .finish(rasterizer, &mut self.sink, &frame, stage, &opening);
         self.outcomes.add(outcome);
         RenderedFrame { frame, outcome }
     }

@@ -1,24 +1,21 @@
 // Draws a frame's views in their order.
-ghost use Rattle.std.specs.Prelude.{◌≡◌, ◌≢◌, ◌<◌, ◌+◌, [], ◌∷◌, ◌++◌, fold, filter, flat_map, map, IfOk, OnOk, OnErr};
+ghost use Rattle.std.specs.Prelude.{◌≡◌, ◌<◌, ◌+◌, [], ◌∷◌, ◌++◌, filter, flat_map, map, IfOk, OnOk};
 ghost use Rattle.std.specs.List.{list_any, AllByRecursion};
 ghost use Rattle.gfx_model.specs.Views.{view_count, position_of_view};
 ghost use Rattle.gfx_model.specs.World.{is_of_view};
-ghost use Rattle.store_laws.specs.ByIndex.{enter_by_index, entered_by_index};
 ghost use Rattle.trace_laws.specs.ByIndex.{deeds_in, deeds_in_view};
 ghost use Rattle.frame_tracing.specs.Tracing.{deeds_of_parts};
 ghost use Rattle.frame_record.specs.Ordered.{position_of};
-ghost use Rattle.render_stores.specs.Seen.{stores_seen};
 ghost use Rattle.view_drawing.specs.Passes.{part_seen, IsPlain};
-ghost use Rattle.render_core.specs.Lists.{AreListed, IsPart, EntersMore};
+ghost use Rattle.render_core.specs.Lists.{AreListed, IsPart};
 ghost use Rattle.render_core.specs.Runs.{RunsFrom};
 ghost use Rattle.render_core.specs.Seen.{frame_seen};
+ghost use Rattle.render_core.specs.ViewParts.{part_of, parts_in};
 
 use crate::lists::Lists;
 use frame_record::{Frame, OrderedItem, PlacedBlit, end_of_blits, end_of_run};
-use int_raster::Rasterizer;
-use render_stores::RenderStores;
 use std::alloc::{AllocError, Global};
-use view_drawing::{DrawingRoom, ViewPart, enter_views};
+use view_drawing::ViewPart;
 
 /// Puts a view with its blits and items behind the others, where it has an item.
 fn put_where<'a>(
@@ -31,8 +28,8 @@ fn put_where<'a>(
 ) -> Result<(), AllocError>
     requires there { view < view_count frame.now.views }
     requires part { IsPart frame.now view is_entered blits.now items.now }
-    ensures entered { let f = frame_seen frame.now in
-        OnOk result (EntersMore f.views f.items f.ordered (map part_seen parts.old.items) (filter (λ v. list_any (is_of_view v) f.items) (view ∷ [])) (map part_seen parts.new.items)) }
+    ensures parts { let f = frame_seen frame.now in
+        OnOk result (map part_seen parts.new.items ≡ map part_seen parts.old.items ++ map (part_of f) (filter (λ v. list_any (is_of_view v) f.items) (view ∷ []))) }
     ensures plain { OnOk result (AllByRecursion IsPlain (map part_seen parts.old.items) → AllByRecursion IsPlain (map part_seen parts.new.items)) }
     ensures deeds { let f = frame_seen frame.now in
         OnOk result (deeds_of_parts (map part_seen parts.new.items) ≡ deeds_of_parts (map part_seen parts.old.items) ++ flat_map (deeds_in_view f.views f.items f.ordered) (filter (λ v. list_any (is_of_view v) f.items) (view ∷ []))) }
@@ -98,7 +95,7 @@ pub(crate) fn parts_of<'a>(
     lists: &'a Lists,
 ) -> Result<Vec<ViewPart<'a>>, AllocError>
     requires { AreListed frame.now lists.now }
-    ensures entered { let f = frame_seen frame.now in IfOk result (λ parts. EntersMore f.views f.items f.ordered [] (entered_by_index f) (map part_seen parts.items)) }
+    ensures parts { IfOk result (λ parts. map part_seen parts.items ≡ parts_in (frame_seen frame.now)) }
     ensures plain { IfOk result (λ parts. AllByRecursion IsPlain (map part_seen parts.items)) }
     ensures deeds { IfOk result (λ parts. deeds_of_parts (map part_seen parts.items) ≡ deeds_in (frame_seen frame.now)) }
 {
@@ -121,25 +118,4 @@ pub(crate) fn parts_of<'a>(
         copied = part.copied;
     }
     Ok(parts)
-}
-
-/// Draws each view that has an item, in the order of the views. It fills the lists with those of the frame, where it has an item, and
-/// takes memory only then.
-pub(crate) fn draw_views<D: Rasterizer>(
-    alloc: Global,
-    rasterizer: &mut D,
-    stores: &mut RenderStores,
-    frame: &Frame,
-    lists: &mut Lists,
-    room: &mut DrawingRoom,
-) -> Result<(), AllocError>
-    ensures entered { let f = frame_seen frame.now in OnOk result (stores_seen stores.new ≡ fold (enter_by_index f.views f.items f.ordered) (stores_seen stores.old) (entered_by_index f)) }
-    ensures needs { OnErr result (frame.now.journal.items ≢ []) }
-{
-    if frame.journal.is_empty() {
-        return Ok(());
-    }
-    lists.fill(frame)?;
-    let parts = parts_of(alloc, frame, lists)?;
-    enter_views(rasterizer, stores, &parts, room)
 }

@@ -1,14 +1,13 @@
 use Rattle.std.proofs.Common.{◌<◌, length, map, arith}
-use Rattle.std.specs.Prelude.{fold}
 use Rattle.std.specs.List.{list_any}
 use Rattle.gfx_model.specs.World.{is_of_view}
-use Rattle.store_laws.specs.ByIndex.{enter_by_index}
-use Rattle.view_drawing.specs.Passes.{after_part, part_seen}
+use Rattle.view_drawing.specs.Passes.{part_seen}
 use Rattle.trace_laws.specs.ByIndex.{deeds_in_view}
 use Rattle.frame_tracing.specs.Tracing.{deeds_of_parts}
 use Rattle.render_core.specs.Seen.{frame_seen}
+use Rattle.render_core.specs.ViewParts.{part_of}
 use Rattle.trace_laws.proofs.Lists.{lists-turn}
-use Rattle.render_core.proofs.Turns.{number_turn}
+use Rattle.render_core.proofs.Turns.{map_turn}
 use Rattle.render_core.proofs.views.parts_of.Goals as goal
 
 pub loop-position-preserved : goal.loop-position-preserved
@@ -20,9 +19,9 @@ loop-position-preserved c =
     record {
       draws = c.next_part-part.ensures.draws;
       blits = c.next_part-part.ensures.blits;
-      entered = λ h. number_turn (enter_by_index f.views f.items f.ordered) (λ n. list_any (is_of_view n) f.items) h f.sequence i.position v.result (fold after_part h (map part_seen i.parts.items))
-          (fold after_part h (map part_seen c.put_where.new.parts.items)) within v.ensures.view (i.invariant.entered h) (c.in_ok-put_where.ensures.entered h);
       deeds = lists-turn (deeds_in_view f.views f.items f.ordered) (λ n. list_any (is_of_view n) f.items) f.sequence i.position v.result (deeds_of_parts (map part_seen i.parts.items)) (deeds_of_parts (map part_seen c.put_where.new.parts.items))
           within v.ensures.view i.invariant.deeds c.in_ok-put_where.ensures.deeds;
+      parts = map_turn (part_of f) (λ n. list_any (is_of_view n) f.items) f.sequence i.position v.result (map part_seen i.parts.items) (map part_seen c.put_where.new.parts.items)
+          within v.ensures.view i.invariant.parts c.in_ok-put_where.ensures.parts;
       plain = c.in_ok-put_where.ensures.plain i.invariant.plain;
     }
