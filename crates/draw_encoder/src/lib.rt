@@ -23,6 +23,3 @@ pub use lists::{Bytes, Items, UniformSets};
 pub use naming::Naming;
 pub use recorder::Recorder;
 pub use shared::Shared;
-
-#[cfg(test)]
-mod tests;

@@ -6,7 +6,6 @@ use context_core::*;
 use gfx_words::ProgramKind;
 use hold_table::HoldTable;
 use std::alloc::Global;
-use std::test::Fail;
 
 const START: Start = Start {
     frame: 7,
@@ -38,8 +37,9 @@ fn opened(alloc: Global) -> Option<(HoldTable, ContextCore)>
     Some((table, core))
 }
 
-// A program is made and destroyed: its index and its serial.
-fn made(alloc: Global) -> Option<(u16, u32)> {
+// A program is made and destroyed, an encoder is begun, and the end of the frame is not prepared while it is off: the program's index and its
+// serial, whether it is so, how many encoders are begun, and how many off.
+fn encoder_off(alloc: Global) -> Option<(u16, u32, bool, u32, u32)> {
     let (table, mut core) = opened(alloc)?;
     let Ok(program) = core.create_program(&table, ProgramKind::Solid) else {
         return None;
@@ -47,18 +47,6 @@ fn made(alloc: Global) -> Option<(u16, u32)> {
     let Ok(_) = core.destroy(&table, program) else {
         return None;
     };
-    Some((program.index(), program.serial()))
-}
-
-#[test]
-fn a_program_is_made_and_destroyed(rt: HostRuntime) -> Result<(), Fail> {
-    assert_eq!(rt; made(rt.alloc()), Some((0, 1)));
-    Ok(())
-}
-
-// An encoder is begun, and the end of the frame is not prepared while it is off: how many are begun, and how many off.
-fn encoder_off(alloc: Global) -> Option<(bool, u32, u32)> {
-    let (table, mut core) = opened(alloc)?;
     let Ok(recorder) = core.begin(&table, ROOM) else {
         return None;
     };
@@ -67,13 +55,13 @@ fn encoder_off(alloc: Global) -> Option<(bool, u32, u32)> {
         _ => false,
     };
     drop(recorder);
-    Some((is_off, core.begun(), core.off()))
-}
-
-#[test]
-fn no_frame_ends_while_an_encoder_is_off(rt: HostRuntime) -> Result<(), Fail> {
-    assert_eq!(rt; encoder_off(rt.alloc()), Some((true, 1, 1)));
-    Ok(())
+    Some((
+        program.index(),
+        program.serial(),
+        is_off,
+        core.begun(),
+        core.off(),
+    ))
 }
 
 // A frame ends and comes back: its number and its recordings, whether it is given before and after the next one starts, how many
@@ -99,12 +87,6 @@ fn one_frame(alloc: Global) -> Option<(u32, usize, [bool; 2], u32, u32, u32)> {
     ))
 }
 
-#[test]
-fn a_frame_ends(rt: HostRuntime) -> Result<(), Fail> {
-    assert_eq!(rt; one_frame(rt.alloc()), Some((7, 0, [true, false], 1, 0, 8)));
-    Ok(())
-}
-
 // A frame that is ended where the one before was not shown: whether there is a frame, and whether the core is ended.
 fn not_shown(alloc: Global) -> Option<(bool, bool)> {
     let (table, mut core) = opened(alloc)?;
@@ -116,7 +98,8 @@ fn not_shown(alloc: Global) -> Option<(bool, bool)> {
 }
 
 #[test]
-fn no_frame_follows(rt: HostRuntime) -> Result<(), Fail> {
+fn a_frame_ends_with_no_encoder_off(rt: HostRuntime) {
+    assert_eq!(rt; encoder_off(rt.alloc()), Some((0, 1, true, 1, 1)));
+    assert_eq!(rt; one_frame(rt.alloc()), Some((7, 0, [true, false], 1, 0, 8)));
     assert_eq!(rt; not_shown(rt.alloc()), Some((false, true)));
-    Ok(())
 }

@@ -1,5 +1,5 @@
-// What no clause says at once: when an index comes again, and what encoders answer to the program that had it; the limits; who
-// holds a texture; a thread that records while a frame ends, or while the context does; and an encoder that is begun again.
+// What no case of worked_cases can say: the limits; who holds a texture; an encoder that is begun again, a program that comes and goes beside it,
+// and a frame without a queue; and a thread that records while the context ends.
 ghost use Rattle.std.specs.Prelude.{◌≡◌, ◌≤◌, ◌+◌, ◌++◌, ℕ, List, [], map, IfSome};
 ghost use Rattle.gfx_model.specs.Views.{fewest_views};
 ghost use Rattle.gfx_model.specs.World.{Item as SeenItem};
@@ -7,6 +7,7 @@ ghost use Rattle.hold_table.specs.Seats.{table_of, api_table, api_view};
 ghost use Rattle.hold_table.specs.Views.{first_view};
 ghost use Rattle.frame_record.specs.Links.{frames_of};
 
+use draw_encoder::{Item, Recording};
 use frame_record::{Frame, FrameLink, Outcome, RenderedFrame};
 use gfx_context::*;
 use gfx_words::{Format, Handle, ProgramKind, Refusal};
@@ -29,7 +30,7 @@ const START: Start = Start {
 };
 
 const ROOM: Room = Room {
-    items: 2,
+    items: 3,
     bytes: 0,
     uniforms: 0,
 };
@@ -42,11 +43,11 @@ fn refusal_of<T: Drop>(answer: Result<T, Refusal>) -> Option<Refusal> {
     }
 }
 
-// Frames wait in a list, and come back as shown, the oldest first.
+// Frames wait in a list, and come back with one outcome, the oldest first.
 #[derive(Drop)]
-struct ListLink<'r, R> {
+pub(crate) struct ListLink<'r, R> {
     rt: &'r R,
-    latency: u8,
+    outcome: Outcome,
     out: Vec<Frame>,
     backs: Vec<Snapshot<RenderedFrame>>,
 }
@@ -67,7 +68,7 @@ impl<'r, R: Wait> FrameLink for ListLink<'r, R> {
 
     ghost back = { λ l. map (λ s. s.value) l.backs.items };
 
-    ghost latency = { λ l. l.latency };
+    ghost latency = { λ l. 1 };
 
     ghost Origin = { Unit {0} };
 
@@ -87,7 +88,7 @@ impl<'r, R: Wait> FrameLink for ListLink<'r, R> {
         let frame = self.out.remove(0);
         let rendered = RenderedFrame {
             frame,
-            outcome: Outcome::Shown,
+            outcome: self.outcome,
         };
         if self.backs.push(Snapshot::of(&rendered)).is_err() {
             wait(self.rt);
@@ -96,31 +97,36 @@ impl<'r, R: Wait> FrameLink for ListLink<'r, R> {
     }
 }
 
+// Frames that come back with the outcome.
+pub(crate) fn list_link<R>(rt: &R, alloc: Global, outcome: Outcome) -> ListLink<'_, R>
+    ensures { (result.out.items ≡ []) × (result.backs.items ≡ []) }
+{
+    ListLink {
+        rt,
+        outcome,
+        out: Vec::new(alloc),
+        backs: Vec::new(alloc),
+    }
+}
+
 // ---- what is tried of one context
 
 // The cases, each with what is told of it.
 #[derive(Clone, Copy, Drop)]
 enum Case {
-    // the indices of the programs of frames 1 to 4, where one dies in frame 0
-    Again,
-    // what encoders of frames 0 to 2 answer to a draw by a program that dies in frame 0
-    Dead,
     // the refusals of a second program where one serial is left, of a ninth encoder, and of the last frame's end
     Limits,
-    // the answer to the destroy of a texture that a frame buffer holds, and the frame buffer
+    // of a texture that a frame buffer holds, and of one that two hold, of which one has the index of one that died: whether its destroy is
+    // refused for the one of least index, and the index and the serial of this one
     Held,
-    // the same where of two frame buffers the first dies, and a third one has its index
-    HeldAgain,
-    // the items and the dropped of a frame whose encoder a thread ends beside it
-    Beside,
-    // the number of an encoder, how many were begun, and the items of its frame
-    Begun,
-    // the items and the dropped of a frame whose bundle goes into no queue
+    // what encoders answer to draws by a program: one that is created behind the begin, is then destroyed, and in the next frame is dead; the
+    // number of the first encoder, how many were begun, the items and the dropped of its frame, whose bundle goes into no queue, and the digits of
+    // what was recorded in each frame
     Gathered,
 }
 
 // Refusals and numbers, as the case says; where there are fewer, none and 0.
-type Told = ([Option<Refusal>; 3], [u64; 4]);
+type Told = ([Option<Refusal>; 3], [u64; 6]);
 
 // What came back at the close of a context.
 type Backs = [Option<BackNote>; 3];
@@ -169,67 +175,6 @@ fn frame_told<C: Naming, R: Wait>(
     }
 }
 
-// A program of the next frame.
-fn next_program<C: Naming, R: Wait>(
-    rt: &R,
-    context: &mut Context<'_, C, ListLink<'_, R>>,
-) -> Option<Handle> {
-    frame_told(rt, context)?;
-    match context.create_program(ProgramKind::Solid) {
-        Ok(program) => Some(program),
-        Err(_) => None,
-    }
-}
-
-fn indices_again<C: Naming, R: Wait>(
-    rt: &R,
-    context: &mut Context<'_, C, ListLink<'_, R>>,
-) -> Option<Told> {
-    let Ok(first) = context.create_program(ProgramKind::Solid) else {
-        return None;
-    };
-    let Ok(_) = context.destroy(first) else {
-        return None;
-    };
-    let mut indices = [0u64; 4];
-    for place in &mut indices {
-        *place = u64::from(next_program(rt, context)?.index());
-    }
-    Some((NONE, indices))
-}
-
-// The program is destroyed, which is accepted in its first frame. What an encoder that was begun before answers to a draw by it.
-fn submitted<C: Naming, R: Wait>(
-    rt: &R,
-    context: &mut Context<'_, C, ListLink<'_, R>>,
-    program: Handle,
-) -> Option<Option<Refusal>>
-    requires admits { (e f d : ℕ) (items : List SeenItem) → C.admits e f items d }
-{
-    let mut encoder = next_encoder(context)?;
-    let _ = context.destroy(program);
-    let answer = refusal_of(encoder.submit(0, program, 0, 255));
-    encoder.end(rt, 0);
-    Some(answer)
-}
-
-fn stale_answers<C: Naming, R: Wait>(
-    rt: &R,
-    context: &mut Context<'_, C, ListLink<'_, R>>,
-) -> Option<Told>
-    requires admits { (e f d : ℕ) (items : List SeenItem) → C.admits e f items d }
-{
-    let Ok(program) = context.create_program(ProgramKind::Solid) else {
-        return None;
-    };
-    let mut answers = NONE;
-    for answer in &mut answers {
-        *answer = submitted(rt, context, program)?;
-        next_program(rt, context)?;
-    }
-    Some((answers, [0; 4]))
-}
-
 // The refusal of a program, by whatever answers the calls.
 fn refused<B: ResourceCalls>(calls: &mut B) -> Option<Refusal> {
     refusal_of(calls.create_program(ProgramKind::Solid))
@@ -268,7 +213,7 @@ fn refusals_at_the_limits<C: Naming, R: Wait>(
     }
     let ninth = refusal_of(begun_one(context)?);
     let frames = refusal_of(ended(rt, context)?);
-    Some(([serials, ninth, frames], [0; 4]))
+    Some(([serials, ninth, frames], [0; 6]))
 }
 
 fn texture<C: Naming, R: Wait>(context: &mut Context<'_, C, ListLink<'_, R>>) -> Option<Handle> {
@@ -293,56 +238,39 @@ fn held_by<C: Naming, R: Wait>(
     context: &mut Context<'_, C, ListLink<'_, R>>,
     texture: Handle,
     holder: Handle,
-) -> Told {
+) -> [u64; 3] {
     let (index, serial) = (u64::from(holder.index()), u64::from(holder.serial()));
     let answer = context.destroy(texture);
     let same = u64::from(answer == Err(Refusal::Attached { holder }));
-    (NONE, [same, index, serial, 0])
+    [same, index, serial]
 }
 
-fn held<C: Naming, R: Wait>(context: &mut Context<'_, C, ListLink<'_, R>>) -> Option<Told> {
-    let texture = texture(context)?;
-    let holder = frame_buffer(context, texture)?;
-    Some(held_by(context, texture, holder))
-}
-
-fn held_again<C: Naming, R: Wait>(
+// Of two frame buffers the first dies, and two frames later a third one has its index.
+fn third_holder<C: Naming, R: Wait>(
     rt: &R,
     context: &mut Context<'_, C, ListLink<'_, R>>,
-) -> Option<Told> {
-    let texture = texture(context)?;
-    let first = frame_buffer(context, texture)?;
+    texture: Handle,
+    first: Handle,
+) -> Option<Handle> {
     frame_buffer(context, texture)?;
     let Ok(_) = context.destroy(first) else {
         return None;
     };
     frame_told(rt, context)?;
     frame_told(rt, context)?;
-    let third = frame_buffer(context, texture)?;
-    Some(held_by(context, texture, third))
+    frame_buffer(context, texture)
 }
 
-// A thread records and ends the encoder while this one ends the frame.
-fn ended_beside<C: Naming + Send + Sync, R: Threads + Wait + Sync>(
-    rt: &R,
-    context: &mut Context<'_, C, ListLink<'_, R>>,
-) -> Option<Told>
-    requires admits { (e f d : ℕ) (items : List SeenItem) → C.admits e f items d }
-{
-    let mut encoder = next_encoder(context)?;
-    let (_, told) = thread::join(
-        rt,
-        || -> ()
-            requires admits { (e f d : ℕ) (items : List SeenItem) → C.admits e f items d }
-        {
-            let _ = encoder.touch(0);
-            let _ = encoder.touch(1);
-            encoder.end(rt, 5);
-        },
-        || frame_told(rt, context),
-    );
-    let (items, dropped) = told?;
-    Some((NONE, [items, dropped, 0, 0]))
+fn held<C: Naming, R: Wait>(rt: &R, context: &mut Context<'_, C, ListLink<'_, R>>) -> Option<Told> {
+    let texture = texture(context)?;
+    let first = frame_buffer(context, texture)?;
+    let [same, index, serial] = held_by(context, texture, first);
+    let third = third_holder(rt, context, texture, first)?;
+    let [same_again, index_again, serial_again] = held_by(context, texture, third);
+    Some((
+        NONE,
+        [same, index, serial, same_again, index_again, serial_again],
+    ))
 }
 
 // An encoder, begun again where there was no memory.
@@ -354,31 +282,6 @@ fn begun_twice<'t, C: Naming, R: Wait>(
         Err(Refusal::OutOfMemory) => next_encoder(context),
         Err(_) => None,
     }
-}
-
-// It records one touch: its number, and how many were begun.
-fn touched<C: Naming, R: Wait>(
-    rt: &R,
-    context: &mut Context<'_, C, ListLink<'_, R>>,
-) -> Option<(u64, u64)>
-    requires admits { (e f d : ℕ) (items : List SeenItem) → C.admits e f items d }
-{
-    let mut encoder = begun_twice(context)?;
-    let told = (u64::from(encoder.number()), u64::from(context.begun()));
-    let _ = encoder.touch(0);
-    encoder.end(rt, 0);
-    Some(told)
-}
-
-fn begun_again<C: Naming, R: Wait>(
-    rt: &R,
-    context: &mut Context<'_, C, ListLink<'_, R>>,
-) -> Option<Told>
-    requires admits { (e f d : ℕ) (items : List SeenItem) → C.admits e f items d }
-{
-    let (number, begun) = touched(rt, context)?;
-    let (items, _) = frame_told(rt, context)?;
-    Some((NONE, [number, begun, items, 0]))
 }
 
 // The items and the dropped of a frame that ends, where the context is not ended and no encoder is off.
@@ -397,17 +300,84 @@ fn ended_here<C: Naming, R: Wait>(
     }
 }
 
-fn gathered<C: Naming, R: Wait>(context: &mut Context<'_, C, ListLink<'_, R>>) -> Option<Told>
+// The digits of an encoder's number, its frame, and the numbers of its items.
+fn digits(recording: &Recording) -> u64 {
+    let mut digits = u64::from(recording.encoder)
+        .wrapping_mul(10)
+        .wrapping_add(u64::from(recording.frame));
+    for item in recording.items.as_slice() {
+        let number = match item {
+            Item::Draw(draw) => draw.number,
+            Item::Touch(touch) => touch.number,
+            Item::Blit(blit) => blit.number,
+        };
+        digits = digits.wrapping_mul(10).wrapping_add(number);
+    }
+    digits
+}
+
+// Those of the encoder that was gathered.
+fn recorded<C: Naming, R: Wait>(context: &Context<'_, C, ListLink<'_, R>>) -> Option<u64> {
+    let recording = context.gathered().first()?;
+    Some(digits(recording))
+}
+
+fn program<C: Naming, R: Wait>(context: &mut Context<'_, C, ListLink<'_, R>>) -> Option<Handle> {
+    match context.create_program(ProgramKind::Solid) {
+        Ok(program) => Some(program),
+        Err(_) => None,
+    }
+}
+
+// Of two programs that are created while it records the encoder draws by the second one, before and after its destroy. The program, and what the
+// draws answer.
+fn draws_beside<C: Naming, R: Wait>(
+    context: &mut Context<'_, C, ListLink<'_, R>>,
+    encoder: &mut Encoder<'_, C>,
+) -> Option<(Handle, [Option<Refusal>; 2])> {
+    program(context)?;
+    let program = program(context)?;
+    let live = refusal_of(encoder.submit(0, program, 0, 255));
+    let Ok(_) = context.destroy(program) else {
+        return None;
+    };
+    let dying = refusal_of(encoder.submit(0, program, 0, 255));
+    Some((program, [live, dying]))
+}
+
+// An encoder of the next frame draws by the program and touches a view: what the draw answers, and what was recorded.
+fn draws_behind<C: Naming, R: Wait>(
+    context: &mut Context<'_, C, ListLink<'_, R>>,
+    program: Handle,
+) -> Option<(Option<Refusal>, u64)>
     requires admits { (e f d : ℕ) (items : List SeenItem) → C.admits e f items d }
 {
     let mut encoder = next_encoder(context)?;
-    let _ = encoder.touch(0);
-    context.gather(encoder.finish(5));
-    let (items, dropped) = ended_here(context)?;
-    Some((NONE, [items, dropped, 0, 0]))
+    let dead = refusal_of(encoder.submit(0, program, 0, 255));
+    let _ = encoder.touch(255);
+    context.gather(encoder.finish(0));
+    Some((dead, recorded(context)?))
 }
 
-fn told_in<C: Naming + Send + Sync, R: Threads + Wait + Sync>(
+fn gathered<C: Naming, R: Wait>(context: &mut Context<'_, C, ListLink<'_, R>>) -> Option<Told>
+    requires admits { (e f d : ℕ) (items : List SeenItem) → C.admits e f items d }
+{
+    let mut encoder = begun_twice(context)?;
+    let (number, begun) = (u64::from(encoder.number()), u64::from(context.begun()));
+    let _ = encoder.touch(255);
+    let drawn = draws_beside(context, &mut encoder);
+    context.gather(encoder.finish(5));
+    let (program, [live, dying]) = drawn?;
+    let first = recorded(context)?;
+    let (items, dropped) = ended_here(context)?;
+    let (dead, second) = draws_behind(context, program)?;
+    Some((
+        [live, dying, dead],
+        [number, begun, items, dropped, first, second],
+    ))
+}
+
+fn told_in<C: Naming, R: Wait>(
     rt: &R,
     context: &mut Context<'_, C, ListLink<'_, R>>,
     case: Case,
@@ -415,13 +385,8 @@ fn told_in<C: Naming + Send + Sync, R: Threads + Wait + Sync>(
     requires admits { (e f d : ℕ) (items : List SeenItem) → C.admits e f items d }
 {
     match case {
-        Case::Again => indices_again(rt, context),
-        Case::Dead => stale_answers(rt, context),
         Case::Limits => refusals_at_the_limits(rt, context),
-        Case::Held => held(context),
-        Case::HeldAgain => held_again(rt, context),
-        Case::Beside => ended_beside(rt, context),
-        Case::Begun => begun_again(rt, context),
+        Case::Held => held(rt, context),
         Case::Gathered => gathered(context),
     }
 }
@@ -439,14 +404,9 @@ fn begun<'t, 'r, C: Naming, R: Wait>(
     requires seat { api_view seat ≡ first_view start.frame }
     requires start { (start.frame ≤ 1073741823) × (1 ≤ start.serial) × (start.views ≡ fewest_views) }
     requires views { C.views ≡ fewest_views }
-    requires latency { (1 ≤ start.latency) × (start.latency ≤ 3) }
+    requires latency { start.latency ≡ 1 }
 {
-    let link = ListLink {
-        rt,
-        latency: start.latency,
-        out: Vec::new(alloc),
-        backs: Vec::new(alloc),
-    };
+    let link = list_link(rt, alloc, Outcome::Shown);
     match Context::init(alloc, shared, seat, link, start) {
         Ok(context) => Some(context),
         Err(_) => None,
@@ -462,7 +422,7 @@ fn closed_here<C: Naming, R: Wait>(context: Context<'_, C, ListLink<'_, R>>) -> 
     }
 }
 
-fn in_shared<C: Naming + Send + Sync, R: Threads + Wait + Sync>(
+fn in_shared<C: Naming, R: Wait>(
     rt: &R,
     alloc: Global,
     shared: &Shared<C>,
@@ -472,7 +432,7 @@ fn in_shared<C: Naming + Send + Sync, R: Threads + Wait + Sync>(
 ) -> (Option<Told>, Option<Backs>)
     requires table { (api_table seat ≡ C.table) × (api_view seat ≡ first_view start.frame) }
     requires start { (start.frame ≤ 1073741823) × (1 ≤ start.serial) × (start.views ≡ fewest_views) }
-    requires latency { (1 ≤ start.latency) × (start.latency ≤ 3) }
+    requires latency { start.latency ≡ 1 }
     requires views { C.views ≡ fewest_views }
     requires admits { (e f d : ℕ) (items : List SeenItem) → C.admits e f items d }
 {
@@ -485,7 +445,7 @@ fn in_shared<C: Naming + Send + Sync, R: Threads + Wait + Sync>(
     }
 }
 
-fn by_case<C: Naming + Send + Sync, R: Threads + Wait + Sync>(
+fn by_case<C: Naming, R: Wait>(
     rt: &R,
     alloc: Global,
     table: HoldTable,
@@ -495,7 +455,7 @@ fn by_case<C: Naming + Send + Sync, R: Threads + Wait + Sync>(
 ) -> (Option<Told>, Option<Backs>)
     requires table { (table_of table ≡ C.table) × (api_table seat ≡ C.table) × (api_view seat ≡ first_view start.frame) }
     requires start { (start.frame ≤ 1073741823) × (1 ≤ start.serial) × (start.views ≡ fewest_views) }
-    requires latency { (1 ≤ start.latency) × (start.latency ≤ 3) }
+    requires latency { start.latency ≡ 1 }
     requires views { C.views ≡ fewest_views }
     requires admits { (e f d : ℕ) (items : List SeenItem) → C.admits e f items d }
 {
@@ -506,52 +466,14 @@ fn by_case<C: Naming + Send + Sync, R: Threads + Wait + Sync>(
 }
 
 // What is told of a case by a context of its own, and what came back at its close.
-fn told<R: Threads + Wait + Sync>(
-    rt: &R,
-    alloc: Global,
-    start: Start,
-    case: Case,
-) -> (Option<Told>, Option<Backs>)
+fn told<R: Wait>(rt: &R, alloc: Global, start: Start, case: Case) -> (Option<Told>, Option<Backs>)
     requires start { (start.frame ≤ 1073741823) × (1 ≤ start.serial) × (start.views ≡ fewest_views) }
-    requires latency { (1 ≤ start.latency) × (start.latency ≤ 3) }
+    requires latency { start.latency ≡ 1 }
 {
     match HoldTable::new(alloc, start.frame) {
         Ok((table, seat)) => by_case::<Brand, R>(rt, alloc, table, seat, start, case),
         Err(_) => (None, None),
     }
-}
-
-fn of_latency(latency: u8) -> Start
-    ensures { (result.frame ≡ 0) × (result.serial ≡ 1) × (result.views ≡ 256) × (result.latency ≡ latency) }
-{
-    Start {
-        frame: 0,
-        serial: 1,
-        views: 256,
-        latency,
-    }
-}
-
-#[test]
-fn an_index_comes_again(rt: HostRuntime) {
-    let (one, _) = told(&rt, rt.alloc(), of_latency(1), Case::Again);
-    let (two, _) = told(&rt, rt.alloc(), of_latency(2), Case::Again);
-    let (three, _) = told(&rt, rt.alloc(), of_latency(3), Case::Again);
-    assert_eq!(rt; one, Some((NONE, [1, 0, 2, 3])));
-    assert_eq!(rt; two, Some((NONE, [1, 2, 0, 3])));
-    assert_eq!(rt; three, Some((NONE, [1, 2, 3, 0])));
-}
-
-// Its place is dying in frame 1, and has serial 3 in frame 2.
-#[test]
-fn a_dead_program_is_stale(rt: HostRuntime) {
-    let (answers, _) = told(&rt, rt.alloc(), START, Case::Dead);
-    let wanted = [
-        None,
-        Some(Refusal::Stale { word: 6 }),
-        Some(Refusal::Stale { word: 13 }),
-    ];
-    assert_eq!(rt; answers, Some((wanted, [0; 4])));
 }
 
 // The last frame and the last serial.
@@ -562,51 +484,26 @@ const LAST: Start = Start {
     latency: 1,
 };
 
+// `rt try --test --fail-alloc N` tries it with the Nth allocation failing.
 #[test]
-fn the_limits(rt: HostRuntime) {
+fn what_a_context_tells(rt: HostRuntime) {
     let (refusals, _) = told(&rt, rt.alloc(), LAST, Case::Limits);
+    let (held, _) = told(&rt, rt.alloc(), START, Case::Held);
+    let (frame, backs) = told(&rt, rt.alloc(), START, Case::Gathered);
     let wanted = [
         Some(Refusal::SerialsSpent),
         Some(Refusal::NoEncoder),
         Some(Refusal::FramesSpent),
     ];
-    assert_eq!(rt; refusals, Some((wanted, [0; 4])));
-}
-
-#[test]
-fn a_texture_is_held(rt: HostRuntime) {
-    let (held, _) = told(&rt, rt.alloc(), START, Case::Held);
-    assert_eq!(rt; held, Some((NONE, [1, 0, 2, 0])));
-}
-
-#[test]
-fn the_holder_of_least_index(rt: HostRuntime) {
-    let (held, _) = told(&rt, rt.alloc(), START, Case::HeldAgain);
-    assert_eq!(rt; held, Some((NONE, [1, 0, 4, 0])));
-}
-
-#[test]
-fn a_thread_records(rt: HostRuntime) {
-    let (frame, _) = told(&rt, rt.alloc(), START, Case::Beside);
-    assert_eq!(rt; frame, Some((NONE, [2, 5, 0, 0])));
-}
-
-#[test]
-fn a_frame_without_a_queue(rt: HostRuntime) {
-    let (frame, backs) = told(&rt, rt.alloc(), START, Case::Gathered);
+    let late = [None, None, Some(Refusal::Stale { word: 10 })];
     let first = BackNote {
         number: 0,
         outcome: Outcome::Shown,
     };
-    assert_eq!(rt; frame, Some((NONE, [1, 5, 0, 0])));
+    assert_eq!(rt; refusals, Some((wanted, [0; 6])));
+    assert_eq!(rt; held, Some((NONE, [1, 0, 2, 1, 0, 4])));
+    assert_eq!(rt; frame, Some((late, [0, 1, 3, 5, 12, 13])));
     assert_eq!(rt; backs, Some([Some(first), None, None]));
-}
-
-// `rt try --test --fail-alloc N` tries it with the Nth allocation failing.
-#[test]
-fn an_encoder_is_begun_again(rt: HostRuntime) {
-    let (begun, _) = told(&rt, rt.alloc(), START, Case::Begun);
-    assert_eq!(rt; begun, Some((NONE, [0, 1, 1, 0])));
 }
 
 // ---- the shutdown

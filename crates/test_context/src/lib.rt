@@ -4,10 +4,6 @@
 #[cfg(test)]
 mod context_core_tests;
 #[cfg(test)]
-mod gfx_context_order_tests;
-#[cfg(test)]
 mod gfx_context_tests;
-#[cfg(test)]
-mod res_lock_order_tests;
 #[cfg(test)]
 mod res_lock_tests;

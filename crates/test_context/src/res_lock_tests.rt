@@ -1,5 +1,6 @@
-// What no clause says at once: that each call is accepted once, a context that is ended.
-ghost use Rattle.std.specs.Prelude.{◌≡◌, ◌<◌, ◌≤◌, ◌++◌, ◌∷◌, ℕ, List, [], map, IfSome};
+// What no clause says at once: that each call is accepted once, that the journal is the order drawn also where an encoder is gathered, and a
+// context that is ended.
+ghost use Rattle.std.specs.Prelude.{◌≡◌, ◌<◌, ◌≤◌, ◌∷◌, ℕ, List, [], IfSome};
 ghost use Rattle.gfx_model.specs.Resources.{opening};
 ghost use Rattle.gfx_model.specs.FrameCalls.{opened};
 ghost use Rattle.gfx_model.specs.Views.{fewest_views};
@@ -12,10 +13,11 @@ ghost use Rattle.res_lock.specs.Seats.{table_of, pass_table, pass_view, made_by,
 ghost use Rattle.res_lock.specs.Views.{first_view};
 ghost use Rattle.res_lock.specs.Called.{IsSamePass};
 
-use crate::res_lock_order_tests::journal_in;
+use crate::gfx_context_tests::{ListLink, list_link};
+use draw_encoder::Encoder;
 use fix_math::{Affine, Rect};
-use frame_record::{Frame, FrameLink, Outcome, RenderedFrame};
-use gfx_context::{Context, Naming, Shared, Start};
+use frame_record::{FrameLink, Outcome};
+use gfx_context::{Context, FrameReport, Naming, Shared, Start};
 use gfx_words::{
     Format, Handle, JournalEntry, ProgramKind, Refusal, Room, TexSource, UniformKind, ViewMode,
 };
@@ -23,7 +25,6 @@ use hold_table::{ApiSeat, HoldTable};
 use res_lock::*;
 use std::alloc::Global;
 use std::marker::Brand;
-use std::snapshot::Snapshot;
 use std::sync::Wait;
 use std::thread::Threads;
 use vertex_layout::{Attr, AttrType, LayoutBuilder, VertexLayout};
@@ -40,72 +41,6 @@ const ROOM: Room = Room {
     bytes: 0,
     uniforms: 0,
 };
-
-// Frames wait in a list, and come back with one outcome, the oldest first.
-#[derive(Drop)]
-pub(crate) struct ListLink<'r, R> {
-    rt: &'r R,
-    outcome: Outcome,
-    out: Vec<Frame>,
-    backs: Vec<Snapshot<RenderedFrame>>,
-}
-
-// Where memory is wanting it waits for ever.
-fn wait<R: Wait>(rt: &R)
-    ensures { ⊥ }
-{
-    for _ in rt.forever() {}
-    unreachable!()
-}
-
-impl<'r, R: Wait> FrameLink for ListLink<'r, R> {
-    ghost use Rattle.std.specs.Prelude.{map, ◌++◌};
-    ghost use Rattle.frame_record.specs.Links.{frames_of};
-
-    ghost given = { λ l. frames_of (map (λ s. s.value) l.backs.items) ++ l.out.items };
-
-    ghost back = { λ l. map (λ s. s.value) l.backs.items };
-
-    ghost latency = { λ l. 1 };
-
-    ghost Origin = { Unit {0} };
-
-    ghost origin = { λ l. tt };
-
-    fn give(&mut self, frame: Frame) {
-        if self.out.push(frame).is_err() {
-            wait(self.rt);
-        }
-    }
-
-    fn try_take_back(&mut self) -> Option<RenderedFrame> {
-        None
-    }
-
-    fn take_back(&mut self) -> RenderedFrame {
-        let frame = self.out.remove(0);
-        let rendered = RenderedFrame {
-            frame,
-            outcome: self.outcome,
-        };
-        if self.backs.push(Snapshot::of(&rendered)).is_err() {
-            wait(self.rt);
-        }
-        rendered
-    }
-}
-
-// Frames that come back with the outcome.
-fn list_link<R>(rt: &R, alloc: Global, outcome: Outcome) -> ListLink<'_, R>
-    ensures { (result.out.items ≡ []) × (result.backs.items ≡ []) }
-{
-    ListLink {
-        rt,
-        outcome,
-        out: Vec::new(alloc),
-        backs: Vec::new(alloc),
-    }
-}
 
 fn locked<'t, C: Naming, L: FrameLink + Drop, H: HistoryNaming>(
     alloc: Global,
@@ -303,35 +238,82 @@ fn orders_views<C: Naming, H: HistoryNaming, R: Wait>(
     Some(())
 }
 
-// An encoder that ends, and its frame.
-fn frames<C: Naming, H: HistoryNaming, R: Threads + Wait + Sync>(
+// Two encoders touch view 0: the first one, the second one and the first one again. Whether all touches are accepted.
+fn by_turns<C: Naming>(first: &mut Encoder<'_, C>, second: &mut Encoder<'_, C>) -> bool {
+    let touched = [first.touch(0), second.touch(0), first.touch(0)];
+    touched[0].is_ok() && touched[1].is_ok() && touched[2].is_ok()
+}
+
+// The next encoder of a frame.
+fn next<'t, C: Naming, H: HistoryNaming, R: Wait>(
+    rt: &R,
+    lock: &ResLock<'t, C, ListLink<'_, R>, H>,
+    pass: &mut ResPass,
+) -> Option<Encoder<'t, C>>
+    requires { pass_table pass.old ≡ H.table }
+    ensures { IfSome result (λ _. IsSamePass pass.old pass.new) }
+{
+    few(pass)?;
+    match lock.begin(rt, pass, ROOM) {
+        Ok(encoder) => Some(encoder),
+        Err(_) => None,
+    }
+}
+
+// The second one ends first, and the first one is gathered: whether all touches were accepted.
+fn both<C: Naming, H: HistoryNaming, R: Wait>(
     rt: &R,
     lock: &ResLock<'_, C, ListLink<'_, R>, H>,
     pass: &mut ResPass,
-) -> Option<()>
+) -> Option<bool>
     requires table { pass_table pass.old ≡ H.table }
     requires admits { (e f d : ℕ) (items : List SeenItem) → C.admits e f items d }
     ensures { IfSome result (λ _. IsSamePass pass.old pass.new) }
 {
-    few(pass)?;
-    let Ok(encoder) = lock.begin(rt, pass, ROOM) else {
-        return None;
-    };
-    encoder.end(rt, 0);
-    few(pass)?;
-    let Ok(_) = lock.frame(rt, pass) else {
-        return None;
-    };
-    Some(())
+    let mut first = next(rt, lock, pass)?;
+    let mut second = next(rt, lock, pass)?;
+    let all = by_turns(&mut first, &mut second);
+    second.end(rt, 0);
+    lock.gather(rt, first.finish(0));
+    Some(all)
 }
 
-// Each call of the lock, once.
+fn entries_of(report: &FrameReport) -> Journal {
+    let journal = report.journal.as_slice();
+    [
+        journal.first().copied(),
+        journal.get(1).copied(),
+        journal.get(2).copied(),
+    ]
+}
+
+// The journal of their frame.
+fn frames<C: Naming, H: HistoryNaming, R: Threads + Wait + Sync>(
+    rt: &R,
+    lock: &ResLock<'_, C, ListLink<'_, R>, H>,
+    pass: &mut ResPass,
+) -> Option<Journal>
+    requires table { pass_table pass.old ≡ H.table }
+    requires admits { (e f d : ℕ) (items : List SeenItem) → C.admits e f items d }
+    ensures { IfSome result (λ _. IsSamePass pass.old pass.new) }
+{
+    if !both(rt, lock, pass)? {
+        return None;
+    }
+    few(pass)?;
+    match lock.frame(rt, pass) {
+        Ok(report) => Some(entries_of(&report)),
+        Err(_) => None,
+    }
+}
+
+// Each call of the lock once, but for `begin`, which comes twice.
 fn calls_each<C: Naming, H: HistoryNaming, R: Threads + Wait + Sync>(
     rt: &R,
     lock: &ResLock<'_, C, ListLink<'_, R>, H>,
     pass: &mut ResPass,
     layout: VertexLayout,
-) -> Option<()>
+) -> Option<Journal>
     requires table { pass_table pass.old ≡ H.table }
     requires admits { (e f d : ℕ) (items : List SeenItem) → C.admits e f items d }
     ensures { IfSome result (λ _. IsSamePass pass.old pass.new) }
@@ -446,18 +428,20 @@ fn are_of_the_end(refused: &[Option<LockRefusal>]) -> bool {
 
 // ---- what is told by a lock of its own
 
-/// The cases: each call once; a context that a fault ends; and two encoders that touch a view by turns.
+// The cases: each call once; and a context that a fault ends.
 #[derive(Clone, Copy, Drop)]
-pub(crate) enum Case {
+enum Case {
     Each,
     Fault,
-    Order([bool; 3]),
 }
 
-/// What is told: whether the calls behind a fault answer as they should; the journal of the turns; and of the history how many entries there
-/// are, how many of accepted calls, and how many of calls on a context that ended in frame 1; and whether entry 3 is of frame 0, and entry 4
-/// of the fault in frame 1.
-pub(crate) type Told = ([bool; 4], [Option<JournalEntry>; 3], [usize; 3], [bool; 2]);
+// The first three entries of a frame's journal.
+type Journal = [Option<JournalEntry>; 3];
+
+// What is told: whether the calls behind a fault answer as they should; the journal of the frame; and of the history how many entries there
+// are, how many of accepted calls, and how many of calls on a context that ended in frame 1; and whether entry 3 is of frame 0, and entry 4
+// of the fault in frame 1.
+type Told = ([bool; 4], Journal, [usize; 3], [bool; 2]);
 
 fn is_accepted(entry: &Entry) -> bool {
     matches!(
@@ -498,7 +482,7 @@ fn faulted(history: &[Entry]) -> [bool; 2] {
 }
 
 // What the calls of a case answered.
-type Answered = ([bool; 4], [Option<JournalEntry>; 3]);
+type Answered = ([bool; 4], Journal);
 
 fn answered<C: Naming, H: HistoryNaming, R: Threads + Wait + Sync>(
     rt: &R,
@@ -511,19 +495,15 @@ fn answered<C: Naming, H: HistoryNaming, R: Threads + Wait + Sync>(
     ensures { IfSome result (λ _. IsSamePass pass.old pass.new) }
 {
     match case {
-        Case::Each => {
-            calls_each(rt, lock, pass, position()?)?;
-            Some(([false; 4], [None; 3]))
-        }
+        Case::Each => Some(([false; 4], calls_each(rt, lock, pass, position()?)?)),
         Case::Fault => Some((refused_behind(rt, lock, pass)?, [None; 3])),
-        Case::Order(turns) => Some(([false; 4], journal_in(rt, lock, pass, turns)?)),
     }
 }
 
 fn outcome_of(case: Case) -> Outcome {
     match case {
+        Case::Each => Outcome::Shown,
         Case::Fault => Outcome::PictureFault,
-        _ => Outcome::Shown,
     }
 }
 
@@ -574,8 +554,8 @@ fn by_case<C: Naming, H: HistoryNaming, R: Threads + Wait + Sync>(
     }
 }
 
-/// What is told of a case.
-pub(crate) fn told<R: Threads + Wait + Sync>(rt: &R, alloc: Global, case: Case) -> Option<Told> {
+// What is told of a case.
+fn told<R: Threads + Wait + Sync>(rt: &R, alloc: Global, case: Case) -> Option<Told> {
     let Ok((table, pass)) = HistoryTable::new(alloc) else {
         return None;
     };
@@ -585,17 +565,18 @@ pub(crate) fn told<R: Threads + Wait + Sync>(rt: &R, alloc: Global, case: Case) 
     }
 }
 
-// All 20 calls are accepted.
-#[test]
-fn each_call_is_accepted(rt: HostRuntime) {
-    let (_, _, counted, _) = told(&rt, rt.alloc(), Case::Each).expect(&rt, "refused");
-    assert_eq!(rt; counted, [20, 20, 0]);
+fn entry(encoder: u8, ordinal: u32) -> Option<JournalEntry> {
+    Some(JournalEntry { encoder, ordinal })
 }
 
-// Of eight entries the fourth is of frame 0, the fifth of the fault, and the last three are told of it.
+// All 20 calls are accepted, and `begin` a second time. Of the eight entries where a fault ends the context the fourth is of frame 0, the fifth
+// of the fault, and the last three are told of it.
 #[test]
-fn a_fault_ends_the_context(rt: HostRuntime) {
+fn each_call_is_accepted_until_a_fault(rt: HostRuntime) {
+    let each = told(&rt, rt.alloc(), Case::Each).expect(&rt, "refused");
     let (answers, _, counted, faulted) = told(&rt, rt.alloc(), Case::Fault).expect(&rt, "refused");
+    assert_eq!(rt; each.1, [entry(0, 0), entry(1, 0), entry(0, 1)]);
+    assert_eq!(rt; each.2, [21, 21, 0]);
     assert_eq!(rt; answers, [true, true, false, true]);
     assert_eq!(rt; (counted[0], counted[2], faulted), (8, 3, [true; 2]));
 }

@@ -216,36 +216,6 @@ where
     Some(collected(rt, shared))
 }
 
-fn played<C: Naming + Send + Sync, R: Threads + Wait + Sync, G: Gate + Sync>(
-    rt: &R,
-    alloc: Global,
-    gate: &G,
-    table: HoldTable,
-    api: ApiSeat,
-) -> Option<(Sums, Sums)>
-    requires table { (table_of table ≡ C.table) × (api_table api ≡ C.table) × (api_view api ≡ first_view 0) }
-    requires views { C.views ≡ fewest_views }
-    requires admits { (e f d : ℕ) (items : List SeenItem) → C.admits e f items d }
-{
-    let lines = touches();
-    let Ok(shared) = Shared::<C>::new(alloc, table) else {
-        return None;
-    };
-    by_desk(rt, alloc, gate, &shared, api, &lines)
-}
-
-#[test]
-fn no_job_is_lost(rt: HostRuntime) -> Result<(), Fail> {
-    let gate = Notes {
-        calls: AtomicU32::new(0),
-    };
-    let (table, api) = HoldTable::new(rt.alloc(), 0)?;
-    let (a, b) = played::<Brand, _, _>(&rt, rt.alloc(), &gate, table, api).ok_or("memory")?;
-    assert_eq!(rt; (a.0 ^ b.0, a.2, b.2), (1, 1, 1));
-    assert_eq!(rt; gate.calls.load(Ordering::SeqCst), 0x111111);
-    Ok(())
-}
-
 // ---- by steps
 
 fn by_steps<'t, C: Naming>(
@@ -276,11 +246,19 @@ fn by_steps<'t, C: Naming>(
     ))
 }
 
-fn replayed<C: Naming>(
+// ---- either way
+
+// Whether each step by turns found an item, none where no steps are made, and what was recorded.
+type Told = ([bool; 5], Sums, Sums);
+
+fn played<C: Naming + Send + Sync, R: Threads + Wait + Sync, G: Gate + Sync>(
+    rt: &R,
     alloc: Global,
+    gate: &G,
     table: HoldTable,
     api: ApiSeat,
-) -> Option<([bool; 5], Sums, Sums)>
+    is_stepped: bool,
+) -> Option<Told>
     requires table { (table_of table ≡ C.table) × (api_table api ≡ C.table) × (api_view api ≡ first_view 0) }
     requires views { C.views ≡ fewest_views }
     requires admits { (e f d : ℕ) (items : List SeenItem) → C.admits e f items d }
@@ -289,15 +267,37 @@ fn replayed<C: Naming>(
     let Ok(shared) = Shared::<C>::new(alloc, table) else {
         return None;
     };
-    by_steps(alloc, &shared, api, &lines)
+    if is_stepped {
+        return by_steps(alloc, &shared, api, &lines);
+    }
+    let (one, other) = by_desk(rt, alloc, gate, &shared, api, &lines)?;
+    Some(([false; 5], one, other))
 }
 
+// The same on a table of its own.
+fn told<R: Threads + Wait + Sync, G: Gate + Sync>(
+    rt: &R,
+    alloc: Global,
+    gate: &G,
+    is_stepped: bool,
+) -> Option<Told> {
+    match HoldTable::new(alloc, 0) {
+        Ok((table, api)) => played::<Brand, R, G>(rt, alloc, gate, table, api, is_stepped),
+        Err(_) => None,
+    }
+}
+
+// Each item line of both jobs comes to the gate once where the desk has them; by steps, items are numbered in the order of steps.
 #[test]
-fn items_are_numbered_in_the_order_of_steps(rt: HostRuntime) -> Result<(), Fail> {
-    let (table, api) = HoldTable::new(rt.alloc(), 0)?;
-    let (found, a, b) = replayed::<Brand>(rt.alloc(), table, api).ok_or("memory")?;
+fn no_job_is_lost(rt: HostRuntime) -> Result<(), Fail> {
+    let gate = Notes {
+        calls: AtomicU32::new(0),
+    };
+    let (_, a, b) = told(&rt, rt.alloc(), &gate, false).ok_or("memory")?;
+    assert_eq!(rt; (a.0 ^ b.0, a.2, b.2), (1, 1, 1));
+    assert_eq!(rt; gate.calls.load(Ordering::SeqCst), 0x111111);
+    let (found, a, b) = told(&rt, rt.alloc(), &gate, true).ok_or("memory")?;
     assert_eq!(rt; found, [true, true, true, true, false]);
-    assert_eq!(rt; a, (0, 2, 1));
-    assert_eq!(rt; b, (1, 13, 1));
+    assert_eq!(rt; (a, b), ((0, 2, 1), (1, 13, 1)));
     Ok(())
 }

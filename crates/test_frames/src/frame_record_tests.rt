@@ -197,32 +197,6 @@ fn interleaved(
     framed(alloc, recordings)
 }
 
-// Whether the journal and the order are by the numbers.
-fn is_by_number(alloc: Global, frame: &Frame) -> Result<[bool; 2], AllocError> {
-    let by_number = [entry(3, 0), entry(1, 0), entry(1, 1), entry(3, 1)];
-    let mut all = Vec::new(alloc);
-    frame.ordered(&mut all)?;
-    Ok([
-        frame.journal.as_slice() == by_number.as_slice(),
-        has_entries(&all, &by_number),
-    ])
-}
-
-#[test]
-fn equal_keys_by_number(rt: HostRuntime) -> Result<(), Fail> {
-    let frame = interleaved(
-        rt.alloc(),
-        touch(0, 2),
-        touch(0, 3),
-        touch(0, 4),
-        touch(0, 5),
-    )?;
-    let told = is_by_number(rt.alloc(), &frame);
-    drop(frame);
-    assert!(rt; told? == [true; 2]);
-    Ok(())
-}
-
 // Of an order of two items: whether they are of these entries, and where the runs of positions 5 and 0 end. None where there are not two.
 fn two_placed(alloc: Global, frame: &Frame) -> Option<(bool, usize, usize)> {
     let mut all = Vec::new(alloc);

@@ -243,8 +243,8 @@ enum Way {
     Full,
 }
 
-/// What is told of the frames that came back: the first two, how many came as shown or in all, and how many had all that they should have.
-pub(crate) type Told = ([Option<Came>; 2], u32, u32);
+// What is told of the frames that came back: the first two, how many came as shown or in all, and how many had all that they should have.
+type Told = ([Option<Came>; 2], u32, u32);
 
 fn both_by_link<R: Wait>(rt: &R, api: ApiEnd, first: Frame, second: Frame) -> (ApiEnd, Told)
     requires out { length (api_knows api).given ≡ length (api_knows api).back }
@@ -360,36 +360,24 @@ fn sent<R: Threads + Wait + Sync>(
     }
 }
 
+// All frames came as they were given: two by a link, six with all their fields, as many out at a time as may be, and one a thousand times.
 #[test]
 fn a_thread_renders_at_each_latency(rt: HostRuntime) -> Result<(), Fail> {
     for latency in 1..4u8 {
-        let told = sent(&rt, rt.alloc(), latency, frames(rt.alloc(), 2)?, Way::Link);
-        let first = Some((3, Some(3), Outcome::Shown));
-        let second = Some((4, Some(4), Outcome::Skipped));
-        assert!(rt; told == Some(([first, second], 0, 0)));
-    }
-    Ok(())
-}
-
-#[test]
-fn who_waits_for_a_frame_wakes(rt: HostRuntime) -> Result<(), Fail> {
-    let told = sent(&rt, rt.alloc(), 2, frames(rt.alloc(), 1)?, Way::Late);
-    assert!(rt; told == Some(([None; 2], 1000, 0)));
-    Ok(())
-}
-
-// All six came, and each with all fields and its outcome.
-#[test]
-fn frames_come_back_in_order_with_their_fields(rt: HostRuntime) -> Result<(), Fail> {
-    for latency in 1..4u8 {
-        let told = sent(
+        let linked = sent(&rt, rt.alloc(), latency, frames(rt.alloc(), 2)?, Way::Link);
+        let full = sent(
             &rt,
             rt.alloc(),
             latency,
             full_frames(rt.alloc())?,
             Way::Full,
         );
-        assert!(rt; told == Some(([None; 2], 6, 6)));
+        let first = Some((3, Some(3), Outcome::Shown));
+        let second = Some((4, Some(4), Outcome::Skipped));
+        assert!(rt; linked == Some(([first, second], 0, 0)));
+        assert!(rt; full == Some(([None; 2], 6, 6)));
     }
+    let late = sent(&rt, rt.alloc(), 2, frames(rt.alloc(), 1)?, Way::Late);
+    assert!(rt; late == Some(([None; 2], 1000, 0)));
     Ok(())
 }

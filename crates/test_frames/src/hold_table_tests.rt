@@ -1,13 +1,30 @@
-// What no clause says: place words as numbers, the answers of names over two frames, and whole frames with threads.
+// What no clause says: place words as numbers, the answers of names over two frames, and whole frames with threads. What dies in a later
+// frame than the first has its word in `three_frames`.
 ghost use Rattle.std.specs.Prelude.{◌≡◌, suc, ◌+◌, ◌<◌, ◌≤◌, [], length};
 ghost use Rattle.schedule_model.specs.Held.{count_of};
 ghost use Rattle.hold_table.specs.Seats.{table_of, api_table, enc_table, api_view, enc_view};
 
 use gfx_words::{Handle, Info, Kind, Refusal};
 use hold_table::*;
+use std::alloc::{AllocError, Global};
 use std::test::Fail;
 use std::thread;
 use std::thread::Threads;
+
+type Answer = Result<(), Refusal>;
+
+// What a thing answers whose place has the third serial.
+fn third_serial(alloc: Global) -> Result<Answer, AllocError> {
+    let (table, mut api) = HoldTable::new(alloc, 0)?;
+    let third = Handle::of(Kind::Layout, 1, 3, Info::Plain);
+    let other = Handle::of(Kind::Layout, 1, 4, Info::Plain);
+    table.place_live(&mut api, third);
+    let mut enc = table.split(&mut api, 7);
+    let answer = table.name(&mut enc, other);
+    table.join(&mut api, enc);
+    table.close(api);
+    Ok(answer)
+}
 
 // The answers come of a thing that is not there yet, created after the split, dying in the recorder's frame, and dead before the frame.
 #[test]
@@ -31,90 +48,7 @@ fn words_of_places(rt: HostRuntime) -> Result<(), Fail> {
     assert_eq!(rt; live, [Ok(()), Err(Refusal::Stale { word: 5 })]);
     assert_eq!(rt; dying, [Ok(()), Err(Refusal::Stale { word: 6 })]);
     assert_eq!(rt; dead, Err(Refusal::Stale { word: 6 }));
-    Ok(())
-}
-
-#[test]
-fn word_of_a_third_serial(rt: HostRuntime) -> Result<(), Fail> {
-    let (table, mut api) = HoldTable::new(rt.alloc(), 0)?;
-    let third = Handle::of(Kind::Layout, 1, 3, Info::Plain);
-    let other = Handle::of(Kind::Layout, 1, 4, Info::Plain);
-    table.place_live(&mut api, third);
-    let mut enc = table.split(&mut api, 7);
-    let answer = table.name(&mut enc, other);
-    table.join(&mut api, enc);
-    table.close(api);
-    assert_eq!(rt; answer, Err(Refusal::Stale { word: 13 }));
-    Ok(())
-}
-
-#[test]
-fn word_of_a_later_death(rt: HostRuntime) -> Result<(), Fail> {
-    let (table, mut api) = HoldTable::new(rt.alloc(), 1)?;
-    let thing = Handle::of(Kind::Layout, 0, 1, Info::Plain);
-    let other = Handle::of(Kind::Layout, 0, 2, Info::Plain);
-    table.place_live(&mut api, thing);
-    table.place_dying(&mut api, thing);
-    let mut enc = table.split(&mut api, 0);
-    let answer = table.name(&mut enc, other);
-    table.join(&mut api, enc);
-    table.close(api);
-    let word = 17_179_869_190;
-    assert_eq!(rt; answer, Err(Refusal::Stale { word }));
-    Ok(())
-}
-
-#[test]
-fn word_of_a_freed_place(rt: HostRuntime) -> Result<(), Fail> {
-    let (table, mut api) = HoldTable::new(rt.alloc(), 0)?;
-    let thing = Handle::of(Kind::Layout, 0, 1, Info::Plain);
-    table.place_live(&mut api, thing);
-    table.place_dying(&mut api, thing);
-    table.advance(&mut api);
-    table.place_free(&mut api, 0);
-    let mut enc = table.split(&mut api, 0);
-    let answer = table.name(&mut enc, thing);
-    table.join(&mut api, enc);
-    table.close(api);
-    assert_eq!(rt; answer, Err(Refusal::Stale { word: 0 }));
-    Ok(())
-}
-
-fn draw_two(table: &HoldTable, mut enc: EncSeat) -> (u64, u64, EncSeat)
-    requires table { enc_table enc ≡ table_of table.now }
-    requires fresh { (enc_view enc).numbers ≡ [] }
-    ensures order { result.0 < result.1 }
-    ensures table { enc_table result.2 ≡ table_of table.now }
-    ensures whose { (enc_view result.2).encoder ≡ (enc_view enc).encoder }
-{
-    let first = table.draw_number(&mut enc);
-    let second = table.draw_number(&mut enc);
-    (first, second, enc)
-}
-
-// No number is in both.
-fn are_apart(one: [u64; 2], other: [u64; 2]) -> bool {
-    one[0] != other[0] && one[0] != other[1] && one[1] != other[0] && one[1] != other[1]
-}
-
-#[test]
-fn two_recorders(rt: HostRuntime) -> Result<(), Fail> {
-    let (table, mut api) = HoldTable::new(rt.alloc(), 5)?;
-    let one = table.split(&mut api, 0);
-    let two = table.split(&mut api, 1);
-    let shared = &table;
-    let (a, b) = thread::join(
-        &rt,
-        move || draw_two(shared, one),
-        move || draw_two(shared, two),
-    );
-    table.join(&mut api, a.2);
-    table.join(&mut api, b.2);
-    let next = table.advance(&mut api);
-    table.close(api);
-    let (one, other) = ([a.0, a.1], [b.0, b.1]);
-    assert_eq!(rt; (next, are_apart(one, other)), (4, true));
-    assert!(rt; one[1] < 4 && other[1] < 4);
+    assert_eq!(rt; third_serial(rt.alloc())?, Err(Refusal::Stale { word: 13 }));
     Ok(())
 }
 
@@ -144,8 +78,6 @@ fn unused_seat(rt: HostRuntime) -> Result<(), Fail> {
     assert_eq!(rt; (number, next), (0, 1));
     Ok(())
 }
-
-type Answer = Result<(), Refusal>;
 
 // Names the thing and draws a number.
 fn name_and_draw(table: &HoldTable, mut enc: EncSeat, thing: Handle) -> (Answer, u64, EncSeat)

@@ -9,7 +9,6 @@ use hold_table::HoldTable;
 use letter_boxes::{Posting, Shared, Unclaimed};
 use std::alloc::Global;
 use std::marker::Brand;
-use std::test::Fail;
 
 const ROOM: Room = Room {
     items: 2,
@@ -63,13 +62,7 @@ fn given_up(alloc: Global) -> Option<(bool, bool, bool, bool)> {
 }
 
 #[test]
-fn a_letter_is_found_once(rt: HostRuntime) -> Result<(), Fail> {
+fn a_letter_and_one_given_up_are_found_once(rt: HostRuntime) {
     assert_eq!(rt; ended(rt.alloc()), Some((true, 9, true)));
-    Ok(())
-}
-
-#[test]
-fn one_given_up_is_found_once(rt: HostRuntime) -> Result<(), Fail> {
     assert_eq!(rt; given_up(rt.alloc()), Some((true, true, true, true)));
-    Ok(())
 }

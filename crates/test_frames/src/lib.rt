@@ -17,5 +17,3 @@ mod hold_table_tests;
 mod letter_boxes_tests;
 #[cfg(test)]
 mod recorded_keys_tests;
-#[cfg(test)]
-mod shared_keys_tests;

@@ -1,4 +1,4 @@
-// The shared views of one frame's recordings. The expected values are worked by hand.
+// The shared views of one frame's recordings, and their lines. The expected values are worked by hand.
 use draw_encoder::{
     BlitCall, BlitItem, Bytes, DrawItem, IndexSet, Item, Items, Recording, TouchItem, UniformSet,
     UniformSets, VertexSet,
@@ -6,7 +6,7 @@ use draw_encoder::{
 use fix_math::{Affine, Rect};
 use gfx_words::{Handle, Info, Kind, StateWord, StencilWord, UniformKind, UniformValue, ViewMode};
 use recorded_keys::recorded_views;
-use shared_keys::SharedView;
+use shared_keys::{SharedView, push_lines};
 use std::alloc::{AllocError, Global};
 use std::test::Fail;
 use view_table::ViewTable;
@@ -138,12 +138,12 @@ fn plain_words() -> Result<Words, Fail> {
     Ok(Words { state, stencil })
 }
 
-// Whether the shared views of the recordings are these.
-fn are_shared(alloc: Global, words: &Words, wanted: &[SharedView]) -> Result<bool, Fail> {
+// The shared views of the recordings.
+fn shared(alloc: Global, words: &Words) -> Result<Vec<SharedView>, Fail> {
     let views = views(alloc)?;
     let recordings = three(alloc, words)?;
     let found = recorded_views(alloc, &views, &recordings);
-    Ok(found?.as_slice() == wanted)
+    Ok(found?)
 }
 
 // View 3 is Sequential. In view 7 two draws have depth 5; in view 4 the touches carry nothing; in view 9 the depths differ.
@@ -167,6 +167,13 @@ fn views_of_three_encoders(rt: HostRuntime) -> Result<(), Fail> {
         },
     ];
     let words = plain_words()?;
-    assert!(rt; are_shared(rt.alloc(), &words, &wanted)?);
+    let found = shared(rt.alloc(), &words)?;
+    let mut lines = Vec::new(rt.alloc());
+    push_lines(rt.alloc(), &mut lines, 12, found.as_slice())?;
+    assert!(rt; found.as_slice() == wanted.as_slice());
+    assert_eq!(rt;
+        lines.as_slice(),
+        b"frame 12 view 0 encoders 1 2\nframe 12 view 3 encoders 1 2\nframe 12 view 7 encoders 0 2\n".as_slice()
+    );
     Ok(())
 }

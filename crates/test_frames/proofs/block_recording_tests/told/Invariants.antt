@@ -1,6 +1,6 @@
 use Rattle.std.proofs.Common.{inl, refl}
 use Rattle.gfx_model.specs.Views.{fewest_views}
-use Rattle.test_frames.proofs.block_recording_tests.no_job_is_lost.Given as goal
+use Rattle.test_frames.proofs.block_recording_tests.told.Given as goal
 
 -- the table that was just made; anything is admitted
 abbrev pub ghosts-played : goal.ghosts-played

@@ -1,7 +1,0 @@
-use Rattle.std.proofs.Common.{inl, refl}
-use Rattle.gfx_model.specs.Views.{fewest_views}
-use Rattle.draw_encoder.proofs.tests.room_of_items.Given as goal
-
--- the table that was just made; anything is admitted
-abbrev pub ghosts-fill : goal.ghosts-fill
-ghosts-fill g a = record { table = a.table.table.shared.table_id; admits = λ e f items d. Unit {0}; views = fewest_views; counted = inl refl }
