@@ -19,3 +19,4 @@ pub mod Rowed
 pub mod Covered
 pub mod Twice
 pub mod Two
+pub mod FourPixels

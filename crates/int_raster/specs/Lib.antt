@@ -14,3 +14,4 @@ pub mod Filled
 pub mod Covered
 pub mod Joined
 pub mod Repainted
+pub mod Texts

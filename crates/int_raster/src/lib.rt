@@ -26,6 +26,7 @@ mod sampling;
 mod spans;
 mod stores;
 mod surfaces;
+mod texts;
 mod tiles;
 mod wipe;
 mod wipes;

@@ -1,5 +1,5 @@
 // Who makes wipes and the draws of a list.
-ghost use Rattle.std.specs.Prelude.{◌≡◌, ◌≤◌, fold, length, option_map};
+ghost use Rattle.std.specs.Prelude.{◌≡◌, ◌≤◌, ◌*◌, ◌%◌, ◌^◌, fold, flat_map, length, option_map, sum, take, is_some, IfSome};
 ghost use Rattle.int_raster.specs.Drawing.{drawn_prepared};
 ghost use Rattle.int_raster.specs.Seen.{surface_seen, sides_seen};
 ghost use Rattle.int_raster.specs.Wiping.{wiped, wipes_seen};
@@ -7,6 +7,7 @@ ghost use Rattle.int_raster.specs.Wiping.{wiped, wipes_seen};
 use crate::drawing::{draw_bands, draw_view};
 use crate::lists::DrawList;
 use crate::surfaces::Surface;
+use crate::texts::{write_parts, write_pieces};
 use crate::wipe::Wipe;
 use std::thread;
 use std::thread::Threads;
@@ -19,6 +20,17 @@ pub trait Rasterizer {
         ensures color { sides_seen surface.new.color ≡ sides_seen surface.old.color }
         ensures depth { option_map sides_seen surface.new.depth ≡ option_map sides_seen surface.old.depth }
         ensures counts { (length surface.new.color.texels ≡ length surface.old.color.texels) × (option_map (λ d. length d.texels) surface.new.depth ≡ option_map (λ d. length d.texels) surface.old.depth) };
+
+    /// Writes the text of colours, red, green and blue of each, by one thread or by several, and answers the sum of its bytes where it is
+    /// wanted.
+    fn write_text(&mut self, room: &mut [u8], colors: &[[u8; 4]], wants_sum: bool) -> Option<u32>
+        requires { length room.old ≡ 3 * length colors.now }
+        ensures text { room.new ≡ flat_map (take 3) colors.now }
+        ensures told { is_some result ≡ wants_sum }
+        ensures total { IfSome result (λ total. total ≡ sum room.new % 2 ^ 32) }
+    {
+        write_pieces(room, colors, wants_sum)
+    }
 }
 
 /// Makes all draws by the thread that calls. It starts no thread and never waits.
@@ -34,12 +46,15 @@ impl Rasterizer for SerialRasterizer {
 // The work, in pixels, that pays for one more thread: about 0.1 to 0.2 ms.
 const WORK_A_BAND: u64 = 131_072;
 
+// The text of a texel is so many pixels' work.
+const WORK_OF_TEXT: u64 = 2;
+
 // More bands than this do not pay for their threads.
 const MOST_PAID: u64 = 8;
 
 /// Makes the draws in bands of whole rows, side by side, where their work is worth more threads than the one that calls: one
 /// band for each 131,072 pixels that the triangles cover by their areas, a triangle itself counting as 400 more, at most 8, and no
-/// more than there are processors, which are asked for once.
+/// more than there are processors, which are asked for once. Texts are written in as many parts, the text of a texel counting as two pixels.
 #[derive(Drop)]
 pub struct BandRasterizer<'r, R> {
     rt: &'r R,
@@ -85,5 +100,10 @@ impl<'r, R: Threads> Rasterizer for BandRasterizer<'r, R> {
     fn draw(&mut self, surface: &mut Surface, wipes: &[Wipe], list: &DrawList<'_>) {
         let bands = self.bands(list.work());
         draw_bands(self.rt, surface, wipes, list, bands);
+    }
+
+    fn write_text(&mut self, room: &mut [u8], colors: &[[u8; 4]], wants_sum: bool) -> Option<u32> {
+        let parts = self.bands((colors.len() as u64).saturating_mul(WORK_OF_TEXT));
+        write_parts(self.rt, room, colors, wants_sum, parts)
     }
 }

@@ -1,5 +1,5 @@
 // What a source and a sink promise. Each counts its faults, and a fault comes only where the count rose.
-ghost use Rattle.std.specs.Prelude.{◌≡◌, ◌<◌, ◌≤◌, List, ℕ, Option, length, take, IfOk, OnErr};
+ghost use Rattle.std.specs.Prelude.{◌≡◌, ◌<◌, ◌≤◌, ◌%◌, ◌^◌, List, ℕ, Option, length, sum, take, IfOk, OnErr};
 ghost use Rattle.io_edge.specs.Edge.{with_front, with_back, counted, IsShort, IsSpent, Rose};
 
 /// A source or a sink gave up. Its count of faults rose.
@@ -61,6 +61,33 @@ pub trait Sink {
         ensures tally_stays { OnErr result (tally self.new ≡ tally self.old) }
         ensures no_fewer { faults self.old ≤ faults self.new }
         ensures failed { OnErr result (Rose (faults self.old) (faults self.new)) };
+
+    /// Whether the sink keeps a sum of what is put, so that a sum that is told spares it the work.
+    fn wants_sum(&self) -> bool {
+        false
+    }
+
+    /// The same as `put` of a piece whose sum modulo 2^32 is told.
+    ///
+    /// # Errors
+    ///
+    /// As those of `put`.
+    fn put_summed(&mut self, piece: &[u8], total: u32) -> Result<usize, Failed>
+        requires some { 0 < length piece.now }
+        requires total { total ≡ sum piece.now % 2 ^ 32 }
+        ensures some { IfOk result (λ n. 0 < n) }
+        ensures fits { IfOk result (λ n. n ≤ length piece.now) }
+        ensures held { IfOk result (λ n. held self.new ≡ with_back (held self.old) (take n piece.now)) }
+        ensures tally { IfOk result (λ n. tally self.new ≡ counted (tally self.old) (take n piece.now)) }
+        ensures sure { sure self.new ≡ sure self.old }
+        ensures stays { OnErr result (held self.new ≡ held self.old) }
+        ensures tally_stays { OnErr result (tally self.new ≡ tally self.old) }
+        ensures no_fewer { faults self.old ≤ faults self.new }
+        ensures failed { OnErr result (Rose (faults self.old) (faults self.new)) }
+    {
+        let _ = total;
+        self.put(piece)
+    }
 
     /// While fewer bytes are held than the sure length, there was no fault.
     ghost never_short: { (s : Self) → IsShort (held s) (sure s) → faults s ≡ 0 };

@@ -9,10 +9,12 @@ mod edge;
 mod gate;
 mod memory;
 mod standard;
+mod sums;
 mod sure;
 
 pub use edge::{Failed, Sink, Source};
 pub use gate::{Gate, NoGate};
 pub use memory::{MemSink, MemSource};
 pub use standard::{StdSink, StdSource};
+pub use sums::sum_of;
 pub use sure::SureSink;

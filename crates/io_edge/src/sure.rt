@@ -2,7 +2,7 @@
 ghost use Rattle.std.specs.Prelude.{◌≡◌, ◌≤◌, ◌<◌, ◌+◌, ◌%◌, ◌^◌, length, sum, take, None, Some, IfOk, OnErr, IsOk};
 ghost use Rattle.io_edge.specs.Edge.{counted};
 
-use crate::{Failed, Sink};
+use crate::{Failed, Sink, sum_of};
 
 /// Counts what is put and never fails. It keeps the number of bytes and their sum alone.
 #[derive(Clone, Copy, Debug, Drop)]
@@ -47,37 +47,16 @@ impl Sink for SureSink {
     ghost never_short = { λ s short. absurd short };
 
     fn put(&mut self, piece: &[u8]) -> Result<usize, Failed> {
+        self.put_summed(piece, sum_of(piece))
+    }
+
+    fn wants_sum(&self) -> bool {
+        true
+    }
+
+    fn put_summed(&mut self, piece: &[u8], total: u32) -> Result<usize, Failed> {
         self.count = self.count.wrapping_add(piece.len() as u64);
-        self.sum = self.sum.wrapping_add(sum_of(piece));
+        self.sum = self.sum.wrapping_add(total);
         Ok(piece.len())
     }
-}
-
-// How many bytes are summed in 16 bits: their sum is at most 65,280.
-const BLOCK: usize = 256;
-
-// The sum of so many bytes, which vectors of 16 bits take.
-fn sum_of_block(block: &[u8]) -> u16
-    requires { length block.now ≤ 256 }
-    ensures { result ≡ sum block.now }
-{
-    let mut total: u16 = 0;
-    for byte in block {
-        total += u16::from(*byte);
-    }
-    total
-}
-
-// The sum of the bytes modulo 2^32.
-fn sum_of(piece: &[u8]) -> u32
-    ensures { result ≡ sum piece.now % 2 ^ 32 }
-{
-    let mut total: u32 = 0;
-    let mut rest = piece;
-    while rest.len() > BLOCK {
-        let (block, after) = rest.split_at(BLOCK);
-        total = total.wrapping_add(u32::from(sum_of_block(block)));
-        rest = after;
-    }
-    total.wrapping_add(u32::from(sum_of_block(rest)))
 }

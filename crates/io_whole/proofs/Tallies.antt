@@ -1,5 +1,5 @@
 -- Numbers and sums of pieces that are put one after another.
-use Rattle.std.proofs.Common.{◌≡◌, ◌<◌, ℕ, zero, suc, ◌+◌, ◌%◌, ◌^◌, List, ◌++◌, length, take, drop, Option, Some, None, refl, sym, ap, ◌∙◌, arith, length-append}
+use Rattle.std.proofs.Common.{◌≡◌, ◌<◌, ℕ, zero, suc, ◌+◌, ◌%◌, ◌^◌, List, [], ◌∷◌, ◌++◌, length, take, drop, Option, Some, None, refl, sym, ap, ◌∙◌, arith, length-append}
 use Rattle.std.specs.Prelude.{sum}
 use Rattle.std.proofs.Math.Nat.{mod-add-mod}
 use Rattle.std.proofs.Math.Seq.{take-add}
@@ -30,3 +30,13 @@ counted_more old mid new text piece zero n none some e is = e ∙ ap (λ m. coun
 counted_more old mid new text piece (suc k) n none some e is =
     e ∙ ap (λ m. counted m piece) (some (omega arith)) ∙ counted_both old (take (suc k) text) piece
     ∙ ap (λ p. counted old (take (suc k) text ++ p)) is ∙ ap (counted old) (sym (take-add (suc k) n text))
+
+take_and_rest : {A : Type 0} (n : ℕ) (xs : List A) → take n xs ++ drop n xs ≡ xs
+take_and_rest zero xs = refl
+take_and_rest (suc n) [] = refl
+take_and_rest (suc n) (x ∷ xs) = ap (λ l. x ∷ l) (take_and_rest n xs)
+
+-- what is left behind a piece
+pub counted_rest : (old mid new : Option (ℕ × ℕ)) (text rest : List ℕ) (n : ℕ) → mid ≡ counted old (take n text) → rest ≡ drop n text → new ≡ counted mid rest → new ≡ counted old text
+counted_rest old mid new text rest n before is e =
+    e ∙ ap (λ m. counted m rest) before ∙ counted_both old (take n text) rest ∙ ap (λ r. counted old (take n text ++ r)) is ∙ ap (counted old) (take_and_rest n text)

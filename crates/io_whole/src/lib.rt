@@ -4,5 +4,5 @@
 mod putting;
 mod reading;
 
-pub use putting::put_all;
+pub use putting::{put_all, put_told};
 pub use reading::{InputError, LONGEST_INPUT, read_all};

@@ -1,7 +1,6 @@
 mod Begins
 mod Counts
 mod EndedFrames
-mod FourPixels
 mod OneWay
 mod Parts
 mod PartsIn

@@ -18,7 +18,7 @@ use crate::views::parts_of;
 use frame_record::{Frame, Outcome};
 use int_raster::Rasterizer;
 use io_edge::Sink;
-use io_whole::put_all;
+use io_whole::put_told;
 use remembered::Remembered;
 use render_stores::execute_all;
 use std::alloc::AllocError;
@@ -75,6 +75,7 @@ impl Canvas {
         rasterizer: &mut D,
         frame: &Frame,
         entered: usize,
+        wants_sum: bool,
         opening: &Remembered<Renderer<P>>,
     ) -> Result<(), AllocError>
         requires within { IsWithin (stores_seen opening.now.value.canvas.stores) frame.now self.old.lists entered (stores_seen self.old.stores) }
@@ -86,7 +87,8 @@ impl Canvas {
         ensures text { OnOk result (self.new.text.text.items ≡ picture_text (stores_seen self.new.stores).back.color) }
     {
         self.end(rasterizer, frame, entered, opening)?;
-        self.text.write(&self.stores.back.color);
+        self.text
+            .write(rasterizer, &self.stores.back.color, wants_sum);
         Ok(())
     }
 
@@ -112,10 +114,12 @@ impl Canvas {
         ensures sure { P.sure sink.new ≡ P.sure sink.old }
         ensures drawn { is_skipped result ≡ false }
     {
-        if self.draw_rest(rasterizer, frame, entered, opening).is_err() {
+        let wants_sum = sink.wants_sum();
+        let drawn = self.draw_rest(rasterizer, frame, entered, wants_sum, opening);
+        if drawn.is_err() {
             return Outcome::OutOfMemory;
         }
-        match put_all(sink, self.text.as_slice()) {
+        match put_told(sink, self.text.as_slice(), self.text.total()) {
             Ok(()) => Outcome::Shown,
             Err(_) => Outcome::PictureFault,
         }

@@ -1,20 +1,25 @@
 // The text of a picture, in the P6 format of Netpbm.
-ghost use Rattle.std.specs.Prelude.{◌≡◌, ◌≤◌, ◌+◌, ◌-◌, ◌*◌, ◌++◌, length, take, flat_map, IfOk};
+ghost use Rattle.std.specs.Prelude.{◌≡◌, ◌+◌, ◌*◌, ◌%◌, ◌^◌, length, sum, take, IfOk, IfSome};
+ghost use Rattle.std.specs.Option.{ForSome};
 ghost use Rattle.scene_model.specs.Output.{picture_header, picture_text};
 ghost use Rattle.fix_math.specs.Seen.{texels_seen};
 
 use fix_math::Texels;
+use int_raster::Rasterizer;
+use io_edge::sum_of;
 use std::alloc::{AllocError, Global};
 
-/// The text of a picture, which is written anew for each frame. Its room is kept.
+/// The text of a picture, which is written anew for each frame, and the sum of its bytes where it was wanted. Its room is kept.
 #[derive(Drop)]
 pub(crate) struct PictureText {
     width: u16,
     height: u16,
     text: Vec<u8>,
     head: usize,
+    total: Option<u32>,
     ghost header: { take head text.items ≡ picture_header width height },
     ghost many: { length text.items ≡ head + 3 * (width * height) },
+    ghost told: { ForSome total (λ told. told ≡ sum text.items % 2 ^ 32) },
 }
 
 impl PictureText {
@@ -33,17 +38,28 @@ impl PictureText {
             height,
             text,
             head,
+            total: None,
         })
     }
 
-    /// Writes the picture of texels of the same sides. It takes no memory.
-    pub(crate) fn write(&mut self, texels: &Texels)
+    /// Writes the picture of texels of the same sides by a rasterizer. It takes no memory.
+    pub(crate) fn write<D: Rasterizer>(
+        &mut self,
+        rasterizer: &mut D,
+        texels: &Texels,
+        wants_sum: bool,
+    )
         requires width { self.old.width ≡ texels.now.width }
         requires height { self.old.height ≡ texels.now.height }
         ensures text { self.new.text.items ≡ picture_text (texels_seen texels.now) }
         ensures sides { (self.new.width ≡ self.old.width) × (self.new.height ≡ self.old.height) }
     {
-        write_colors(&mut self.text[self.head..], texels.texels.as_slice());
+        let room = &mut self.text[self.head..];
+        let told = rasterizer.write_text(room, texels.texels.as_slice(), wants_sum);
+        self.total = match told {
+            Some(total) => Some(total.wrapping_add(sum_of(&self.text[..self.head]))),
+            None => None,
+        };
     }
 
     /// The text that was written last.
@@ -52,50 +68,11 @@ impl PictureText {
     {
         &self.text
     }
-}
 
-/// Writes red, green and blue of four pixels. Their fourth bytes are written behind them, for one store of sixteen bytes is faster than
-/// several of fewer; what follows takes their place.
-fn write_four(room: &mut [u8], colors: &[[u8; 4]])
-    requires room { length room.old ≡ 16 }
-    requires four { length colors.now ≡ 4 }
-    ensures many { length room.new ≡ 16 }
-    ensures written { take 12 room.new ≡ flat_map (take 3) colors.now }
-{
-    let [red0, green0, blue0, alpha0] = colors[0];
-    let [red1, green1, blue1, alpha1] = colors[1];
-    let [red2, green2, blue2, alpha2] = colors[2];
-    let [red3, green3, blue3, alpha3] = colors[3];
-    room.copy_from_slice(&[
-        red0, green0, blue0, red1, green1, blue1, red2, green2, blue2, red3, green3, blue3, alpha0,
-        alpha1, alpha2, alpha3,
-    ]);
-}
-
-/// Writes red, green and blue of as many times four pixels.
-fn write_most(room: &mut [u8], colors: &[[u8; 4]], fours: usize)
-    requires room { length room.old ≡ 3 * length colors.now }
-    requires less { 4 * fours ≤ length colors.now - 2 }
-    ensures many { length room.new ≡ length room.old }
-    ensures written { take (12 * fours) room.new ≡ flat_map (take 3) (take (4 * fours) colors.now) }
-{
-    for i in 0..fours {
-        write_four(&mut room[12 * i..12 * i + 16], &colors[4 * i..4 * i + 4]);
-    }
-}
-
-/// Writes red, green and blue of each pixel.
-fn write_colors(room: &mut [u8], colors: &[[u8; 4]])
-    requires { length room.old ≡ 3 * length colors.now }
-    ensures { room.new ≡ flat_map (take 3) colors.now }
-{
-    let fours = colors.len().saturating_sub(2) / 4;
-    write_most(room, colors, fours);
-    for i in 4 * fours..colors.len() {
-        let [red, green, blue, _] = colors[i];
-        let end = 3 * i;
-        room[end] = red;
-        room[end + 1] = green;
-        room[end + 2] = blue;
+    /// The sum of its bytes modulo 2^32, where it was wanted.
+    pub(crate) fn total(&self) -> Option<u32>
+        ensures { IfSome result (λ told. told ≡ sum self.now.text.items % 2 ^ 32) }
+    {
+        self.total
     }
 }

@@ -3,8 +3,11 @@ ghost use Rattle.std.specs.Prelude.{◌≤◌};
 
 use fix_math::{Affine, Point, Rect, Texels};
 use gfx_words::{StateWord, StencilWord};
-use int_raster::{DrawList, Paint, Prepared, Surface, draw_bands, draw_view};
-use std::alloc::Global;
+use int_raster::{
+    BandRasterizer, DrawList, Paint, Prepared, Rasterizer, SerialRasterizer, Surface, draw_bands,
+    draw_view,
+};
+use std::alloc::{AllocError, Global};
 use std::process::Abort;
 use std::test::Fail;
 use std::thread::Threads;
@@ -175,4 +178,28 @@ fn a_cleared_list_draws_nothing(rt: HostRuntime) -> Result<(), Fail> {
     draw_whole(&mut surface, &list);
     assert_eq!(rt; reds(alloc, &surface)?.as_slice(), [0; 16].as_slice());
     Ok(())
+}
+
+// The sum of the text of 200,000 equal colours, and whether the text has the colour each time.
+fn written<D: Rasterizer>(
+    alloc: Global,
+    rasterizer: &mut D,
+) -> Result<(Option<u32>, bool), AllocError> {
+    let colors = vec![in alloc; [1u8, 2, 3, 4]; 200_000]?;
+    let mut room = vec![in alloc; 0u8; 600_000]?;
+    let told = rasterizer.write_text(&mut room, &colors, true);
+    Ok((
+        told,
+        room.chunks_exact(3).all(|it| it == [1, 2, 3].as_slice()),
+    ))
+}
+
+#[test]
+fn a_text_by_one_thread_and_by_several(rt: HostRuntime) {
+    let one = written(rt.alloc(), &mut SerialRasterizer).expect(&rt, "memory");
+    let several = written(rt.alloc(), &mut BandRasterizer::new(&rt)).expect(&rt, "memory");
+    assert_eq!(rt;
+        (one, several),
+        ((Some(1_200_000), true), (Some(1_200_000), true))
+    );
 }
