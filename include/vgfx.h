@@ -7,12 +7,14 @@
  *   context    what draws: resources, views, a back buffer, and the frame that is being recorded
  *   resource   a layout, buffer, texture, frame buffer, program or uniform. It is named by an id of 64 bits; 0 is no resource
  *   encoder    what records draws for one frame, on any thread. It is out from its begin until a collect or a frame takes it in
+ *   pass       the views of a frame that are drawn at one go; its target's rows are lent in bands
+ *   band       rows of a pass, which one thread draws. It is out from vgfx_pass_next to vgfx_pass_end
  *   item       a draw, a touch or a blit: what an encoder records, in one view
  *
- * Handles. A vgfx_context or a vgfx_encoder starts as VGFX_HANDLE_NULL and is passed by its address. The caller never reads, writes or
+ * Handles. A vgfx_context, a vgfx_encoder or a vgfx_band starts as VGFX_HANDLE_NULL and is passed by its address. The caller never reads, writes or
  * copies it; it may be moved while no call has it. One call at a time has a handle. Another thread may have it next, where the two are
  * ordered by a mutex, a condition variable, a semaphore, the start or the end of a thread, or a seq_cst atomic. Calls on different
- * handles need no order: encoders record beside one another and beside the calls of their context.
+ * handles need no order: encoders record beside one another and beside the calls of their context, and bands are drawn beside one another.
  *
  * Ids. Any number may be passed. One that names no resource that this context made is refused as VGFX_ERROR_UNKNOWN. An id does not tell
  * of which context it is: that of another context is a number like any other.
@@ -82,18 +84,20 @@ extern "C" {
 #define VGFX_HANDLE(name) \
     struct name { \
         void *at; \
-        name() noexcept : at(nullptr) {} \
+        constexpr name() noexcept : at(nullptr) {} \
         name(name &&other) noexcept : at(other.at) { other.at = nullptr; } \
         name(const name &) = delete; \
         name &operator=(const name &) = delete; \
     };
 VGFX_HANDLE(vgfx_context)
 VGFX_HANDLE(vgfx_encoder)
+VGFX_HANDLE(vgfx_band)
 #undef VGFX_HANDLE
 #else
 /* A handle is not to be copied: two copies that are both used are two owners of one object. */
 typedef struct vgfx_context { void *at; } vgfx_context;
 typedef struct vgfx_encoder { void *at; } vgfx_encoder;
+typedef struct vgfx_band { void *at; } vgfx_band;
 #endif
 
 /* The id of a resource; 0 is none. */
@@ -120,11 +124,11 @@ enum {
     VGFX_ERROR_TEXELS_FULL = 14,    /* all textures would have more than VGFX_MAX_TEXELS texels */
     VGFX_ERROR_BAD_STATE = 16,      /* a state word, a stencil word or a clear setting is not admitted */
     VGFX_ERROR_OUT_OF_MEMORY = 17,
-    VGFX_ERROR_NO_OBJECT = 100,     /* the handle is null, or of the other kind */
-    VGFX_ERROR_TRY_AGAIN = 101,     /* an encoder has not come back yet */
+    VGFX_ERROR_NO_OBJECT = 100,     /* the handle is null, or of another kind */
+    VGFX_ERROR_TRY_AGAIN = 101,     /* an encoder or a band has not come back yet */
     VGFX_ERROR_ENDED = 102,         /* memory was wanting in an earlier frame's render, or an encoder was dropped: no encoder begins, no frame ends */
     VGFX_ERROR_TOO_SMALL = 103,     /* a buffer that is to be written is too small */
-    VGFX_ERROR_BAD_VALUE = 104,     /* a number is none of its enumeration */
+    VGFX_ERROR_BAD_VALUE = 104,     /* a number is none of its enumeration; or the call is not one for now: a frame is begun, or none is */
     VGFX_ERROR_TAKEN = 105,         /* the handle that is to be set is not null */
     VGFX_ERROR_NO_SCENE = 106,      /* the text is no scene */
     VGFX_ERROR_TOO_LONG = 107,      /* the text has more than VGFX_MAX_SCENE_BYTES bytes */
@@ -302,14 +306,16 @@ uint32_t vgfx_version(void);
  *   VGFX_ERROR_OUT_OF_MEMORY  `played` and the buffers are as before */
 VGFX_CALL vgfx_play(const void *text, size_t text_length, void *pictures, size_t pictures_length, void *report, size_t report_length, vgfx_play_report *played);
 
-/* ---- a context; each of its calls by one thread at a time. VGFX_ERROR_NO_OBJECT is in each list, first */
+/* ---- a context; each of its calls by one thread at a time. VGFX_ERROR_NO_OBJECT is in each list, first. From vgfx_frame_begin to
+ * vgfx_frame_end each call on the context but vgfx_shutdown and those of a frame in passes is VGFX_ERROR_BAD_VALUE, with nothing changed */
 
 /* Makes a context with pictures of these sides, 1 to VGFX_MAX_SIDE, and a back buffer of zeros with depth and stencil, for a handle that is
  * null. The sides stay.
  * Returns: VGFX_OK, VGFX_ERROR_TAKEN, VGFX_ERROR_BAD_SIZE, VGFX_ERROR_OUT_OF_MEMORY. */
 VGFX_CALL vgfx_init(vgfx_context *context, uint16_t width, uint16_t height);
 
-/* Gives a context up with all that was made. Encoders that are out may still record, and be ended or dropped.
+/* Gives a context up with all that was made, also from vgfx_frame_begin to vgfx_frame_end. Encoders that are out may still record, and be
+ * ended or dropped; bands that are out may still be drawn, and vgfx_pass_end with the null handle takes them back.
  * Returns: VGFX_OK. */
 VGFX_CALL vgfx_shutdown(vgfx_context *context);
 
@@ -339,6 +345,60 @@ VGFX_CALL vgfx_collect(vgfx_context *context, uint32_t *out);
  *   VGFX_ERROR_OUT_OF_MEMORY  where memory was wanting before the frame was rendered, what has come is kept, the pixels are those of the last
  *                             frame, and it can be called again; else the pixels are drawn in part, and from then on it is VGFX_ERROR_ENDED */
 VGFX_CALL vgfx_frame(vgfx_context *context, void *picture, size_t picture_length, vgfx_frame_report *report);
+
+/* ---- a frame in passes, which the caller's threads draw. In place of one vgfx_frame:
+ *
+ *     vgfx_frame_begin(&context);
+ *     while (vgfx_pass_next(&context, bands, threads, &count) == VGFX_OK && count > 0) {
+ *         (each of `count` threads)  vgfx_band_draw(&bands[its number]);
+ *         (behind them all)          vgfx_pass_end(&context, bands, count);
+ *     }
+ *     vgfx_frame_end(&context, picture, sizeof picture, &report);
+ *
+ * The picture is that of vgfx_frame, byte for byte, however many bands there are, whoever draws them and in which order. A pass is the views
+ * of one target that come behind each other, or one view with blits: so what it samples, an earlier pass drew. The threads meet between two
+ * passes, as by a join */
+
+/* Begins the frame: takes in the encoders that have ended, makes the frame and does its first commands. It is drawn by the calls below. No
+ * encoder begins and nothing is made, changed or read until vgfx_frame_end.
+ * Returns:
+ *   VGFX_OK
+ *   VGFX_ERROR_BAD_VALUE      a frame is begun already
+ *   VGFX_ERROR_ENDED          also where an encoder was dropped, and from then on
+ *   VGFX_ERROR_TRY_AGAIN      an encoder is still out. What has come is kept and nothing is lost: call again when it has ended
+ *   VGFX_ERROR_FRAMES_SPENT   what has come is kept
+ *   VGFX_ERROR_OUT_OF_MEMORY  what has come is kept, and it can be called again */
+VGFX_CALL vgfx_frame_begin(vgfx_context *context);
+
+/* Begins the next pass and lends its bands, to the first of `bands_length` handles, all of which are null before; tells how many there are:
+ * at most 64, and one for each row. Passes that lend none are drawn by this call. It tells 0 where no pass is left, as where memory is
+ * wanting to prepare one, which vgfx_frame_end tells then. A caller that is in no hurry may stop asking: vgfx_frame_end draws what is left.
+ * Where memory for bands is wanting there are fewer, and vgfx_pass_end draws their rows.
+ * Returns:
+ *   VGFX_OK
+ *   VGFX_ERROR_TAKEN          before VGFX_ERROR_NO_OBJECT: one of the handles is not null
+ *   VGFX_ERROR_BAD_VALUE      no frame is begun, or a pass is not ended */
+VGFX_CALL vgfx_pass_next(vgfx_context *context, vgfx_band *bands, size_t bands_length, size_t *count);
+
+/* Draws a band, by any thread, beside the other bands of its pass. One that was drawn is left as it is. It takes no memory and never waits.
+ * Returns: VGFX_OK, VGFX_ERROR_NO_OBJECT. */
+VGFX_CALL vgfx_band_draw(vgfx_band *band);
+
+/* Takes bands back, whose handles are null from then on, whatever is answered; other handles among them are left as they are. Then ends the
+ * pass: rows that were not drawn are drawn by this call, also those of bands that were lost.
+ * Returns:
+ *   VGFX_OK
+ *   VGFX_ERROR_BAD_VALUE      no frame is begun, or no pass
+ *   VGFX_ERROR_TRY_AGAIN      a band of the pass is still out: call again with it. Nothing is lost */
+VGFX_CALL vgfx_pass_end(vgfx_context *context, vgfx_band *bands, size_t bands_length);
+
+/* Ends the frame: draws on the calling thread what no pass drew, does its last commands, and writes its picture as vgfx_frame does.
+ * Returns:
+ *   VGFX_OK
+ *   VGFX_ERROR_BAD_VALUE      no frame is begun, or a pass is not ended
+ *   VGFX_ERROR_TOO_SMALL      the frame stays begun
+ *   VGFX_ERROR_OUT_OF_MEMORY  the pixels are drawn in part, and from then on vgfx_frame and vgfx_frame_begin are VGFX_ERROR_ENDED */
+VGFX_CALL vgfx_frame_end(vgfx_context *context, void *picture, size_t picture_length, vgfx_frame_report *report);
 
 /* Reads the back buffer by 0, or a texture, as the last frame left it: row by row from the top, four bytes a pixel, with `stride` bytes from
  * the start of a row to that of the next. What lies behind a row and before the next is left as it is, and what lies behind the last row too.
@@ -578,9 +638,16 @@ VGFX_INLINE const uint16_t *vgfx_or_view(const uint16_t *views) {
     static const uint16_t none = 0;
     return views ? views : &none;
 }
+VGFX_INLINE vgfx_band *vgfx_or_band(vgfx_band *bands) {
+    static vgfx_band none;
+    return bands ? bands : &none;
+}
 #define vgfx_play(text, text_length, pictures, pictures_length, report, report_length, played) \
     vgfx_play(vgfx_or_byte(text), text_length, vgfx_or_room(pictures), pictures_length, vgfx_or_room(report), report_length, played)
 #define vgfx_frame(context, picture, picture_length, report) vgfx_frame(context, vgfx_or_room(picture), picture_length, report)
+#define vgfx_pass_next(context, bands, bands_length, count) vgfx_pass_next(context, vgfx_or_band(bands), bands_length, count)
+#define vgfx_pass_end(context, bands, bands_length) vgfx_pass_end(context, vgfx_or_band(bands), bands_length)
+#define vgfx_frame_end(context, picture, picture_length, report) vgfx_frame_end(context, vgfx_or_room(picture), picture_length, report)
 #define vgfx_read_pixels(context, texture, pixels_format, pixels, pixels_length, stride) \
     vgfx_read_pixels(context, texture, pixels_format, vgfx_or_room(pixels), pixels_length, stride)
 #define vgfx_create_layout(context, parts, parts_length, made) vgfx_create_layout(context, vgfx_or_part(parts), parts_length, made)

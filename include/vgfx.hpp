@@ -81,6 +81,30 @@ struct Sides { std::uint16_t width, height; };
 
 class Context;
 
+/* Rows of a pass, which one thread draws. One that goes out of scope before the end of its pass is given up, and its rows are drawn then. */
+class Band {
+  public:
+    Band() noexcept = default;
+    Band(Band &&other) noexcept = default;
+    Band &operator=(Band &&other) noexcept {
+        if (this != &other) { close(); handle_.at = std::exchange(other.handle_.at, nullptr); }
+        return *this;
+    }
+    ~Band() { close(); }
+
+    Status draw() noexcept { return vgfx_band_draw(&handle_); }
+    explicit operator bool() const noexcept { return handle_.at != nullptr; }
+    vgfx_band *handle() noexcept { return &handle_; }
+
+  private:
+    void close() noexcept {
+        vgfx_context none;
+        if (handle_.at && vgfx_pass_end(&none, &handle_, 1) != VGFX_OK) handle_.at = nullptr;
+    }
+    vgfx_band handle_;
+};
+static_assert(sizeof(Band) == sizeof(vgfx_band) && std::is_standard_layout_v<Band>);
+
 /* An encoder. One that goes out of scope before its end is ended, so that its frame can go on; the calls that it recorded are drawn. */
 class Encoder {
   public:
@@ -149,6 +173,16 @@ class Context {
 
     /* Without a picture's text; read_pixels reads the pixels. */
     Status frame(vgfx_frame_report &report) noexcept { return vgfx_frame(&handle_, nullptr, 0, &report); }
+
+    /* A frame in passes. Each band that next_pass lends may be drawn by a thread of its own. */
+    Status begin_frame() noexcept { return vgfx_frame_begin(&handle_); }
+    Status next_pass(Span<Band> bands, std::size_t &count) noexcept { return vgfx_pass_next(&handle_, raw(bands), bands.size(), &count); }
+    Status end_pass(Span<Band> bands) noexcept { return vgfx_pass_end(&handle_, raw(bands), bands.size()); }
+    Status end_frame(Span<std::uint8_t> picture, vgfx_frame_report &report) noexcept {
+        return vgfx_frame_end(&handle_, picture.data(), picture.size(), &report);
+    }
+    Status end_frame(vgfx_frame_report &report) noexcept { return vgfx_frame_end(&handle_, nullptr, 0, &report); }
+
     Status read_pixels(Id texture, Pixels format, Span<std::uint8_t> pixels, std::size_t stride) noexcept {
         return vgfx_read_pixels(&handle_, texture, static_cast<vgfx_pixels>(format), pixels.data(), pixels.size(), stride);
     }
@@ -191,6 +225,7 @@ class Context {
     vgfx_context *handle() noexcept { return &handle_; }
 
   private:
+    static vgfx_band *raw(Span<Band> bands) noexcept { return bands.size() > 0 ? bands.data()->handle() : nullptr; }
     void close() noexcept {
         if (handle_.at && vgfx_shutdown(&handle_) != VGFX_OK) handle_.at = nullptr;
     }

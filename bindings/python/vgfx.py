@@ -103,6 +103,11 @@ CALLS = {
     "vgfx_encoder_begin": [HANDLE, HANDLE, c_uint32, c_uint32, c_uint32],
     "vgfx_collect": [HANDLE, POINTER(c_uint32)],
     "vgfx_frame": [HANDLE, c_void_p, c_size_t, POINTER(FrameReport)],
+    "vgfx_frame_begin": [HANDLE],
+    "vgfx_pass_next": [HANDLE, HANDLE, c_size_t, POINTER(c_size_t)],
+    "vgfx_band_draw": [HANDLE],
+    "vgfx_pass_end": [HANDLE, HANDLE, c_size_t],
+    "vgfx_frame_end": [HANDLE, c_void_p, c_size_t, POINTER(FrameReport)],
     "vgfx_read_pixels": [HANDLE, ID, c_uint32, c_void_p, c_size_t, c_size_t],
     "vgfx_create_layout": [HANDLE, POINTER(Part), c_size_t, POINTER(ID)],
     "vgfx_create_vertex_buffer": [HANDLE, ID, c_void_p, c_size_t, POINTER(ID)],
@@ -293,6 +298,21 @@ class Encoder(Owner):
         self._call("vgfx_encoder_end", dropped)
 
 
+class Band(Owner):
+    """Rows of a pass, which one thread draws. One that is let go before the end of its pass is given up, and its rows are drawn then."""
+
+    def __init__(self, handle):
+        super().__init__()
+        self._handle = handle
+
+    def __del__(self):
+        if _library is not None:
+            _library.vgfx_pass_end(byref(Handle(None)), byref(self._handle), 1)  # no context: it takes the band back, and refuses
+
+    def draw(self):
+        self._call("vgfx_band_draw")
+
+
 class Context(Owner):
     """What draws: resources, views, a back buffer, and the frame that is being recorded. `with` shuts it down."""
 
@@ -337,6 +357,29 @@ class Context(Owner):
         """Ends the frame and writes its picture, a P6 text, into PICTURE, a buffer of at least `picture_bytes` bytes, or nowhere."""
         report = FrameReport()
         self._call("vgfx_frame", *room_of(picture), byref(report))
+        return report
+
+    def begin_frame(self):
+        """Begins the frame, which is drawn in passes: in place of `frame`."""
+        self._call("vgfx_frame_begin")
+
+    def next_pass(self, bands=1):
+        """Begins the next pass, and answers its bands, at most so many, each of which one thread draws; none where no pass is left."""
+        lent, count = (Handle * max(bands, 1))(), c_size_t()
+        self._call("vgfx_pass_next", lent, bands, byref(count))
+        return [Band(Handle(lent[number].at)) for number in range(count.value)]
+
+    def end_pass(self, bands):
+        """Takes the bands of the pass back and ends it: rows that were not drawn are drawn now."""
+        given = (Handle * max(len(bands), 1))(*[Handle(band._handle.at) for band in bands])
+        for band in bands:
+            band._handle = Handle(None)
+        self._call("vgfx_pass_end", given, len(bands))
+
+    def end_frame(self, picture=b""):
+        """Ends the frame that was drawn in passes, and writes its picture as `frame` does."""
+        report = FrameReport()
+        self._call("vgfx_frame_end", *room_of(picture), byref(report))
         return report
 
     def pixels(self, picture, report):
@@ -449,9 +492,9 @@ def same_as_the_header():
         text = re.sub(r"/\*.*?\*/", "", file.read(), flags=re.S)
     values = {f"uint{bits}_t": f"c_uint{bits}" for bits in (8, 16, 32, 64)}
     values.update({"int32_t": "c_int32", "size_t": "c_size_t", "vgfx_id": "c_uint64"})
-    pointed = {"vgfx_context": HANDLE, "vgfx_encoder": HANDLE, "vgfx_layout_part": POINTER(Part), "vgfx_transform": POINTER(Transform)}
+    pointed = {"vgfx_context": HANDLE, "vgfx_encoder": HANDLE, "vgfx_band": HANDLE, "vgfx_layout_part": POINTER(Part), "vgfx_transform": POINTER(Transform)}
     pointed.update({"vgfx_frame_report": POINTER(FrameReport), "vgfx_play_report": POINTER(PlayReport), "void": c_void_p, "char": c_char_p})
-    pointed.update({"uint16_t": POINTER(c_uint16), "uint32_t": POINTER(c_uint32), "vgfx_id": POINTER(ID)})
+    pointed.update({"uint16_t": POINTER(c_uint16), "uint32_t": POINTER(c_uint32), "vgfx_id": POINTER(ID), "size_t": POINTER(c_size_t)})
     found = {}
     for name, words in re.findall(r"^(?:VGFX_CALL|uint32_t) (vgfx_\w+)\(([^)]*)\);", text, re.M):
         kinds = [re.match(r"(.*?)\w+$", word.strip())[1].strip() for word in words.split(",") if word.strip() != "void"]
@@ -551,12 +594,40 @@ def threads():
         assert bytes(pixels) == bytes(part for view in range(8) for part in (view, 0, 255))
 
 
+def passes():
+    """Four threads draw a frame's rows, but for one band, and the picture is that of a frame."""
+    with Context(4, 8) as context:
+        context.set_view_clear(0, color=(1, 2, 3, 255))
+        pictures = [bytearray(context.picture_bytes) for _ in range(2)]
+        for number, picture in enumerate(pictures):
+            with context.begin(items=1) as encoder:
+                encoder.touch(0)
+            if number == 0:
+                context.frame(picture)
+                continue
+            context.begin_frame()
+            refused("BAD_VALUE", context.begin, 1)
+            refused("BAD_VALUE", context.frame, picture)
+            bands = context.next_pass(5)
+            refused("BAD_VALUE", context.end_frame, picture)
+            workers = [threading.Thread(target=band.draw) for band in bands[1:]]
+            for worker in workers:
+                worker.start()
+            for worker in workers:
+                worker.join()
+            refused("TRY_AGAIN", context.end_pass, bands[1:])
+            context.end_pass(bands[:1])
+            assert len(bands) == 5 and context.next_pass(5) == []
+            assert context.end_frame(picture).number == 1
+        assert pictures[0] == pictures[1]
+
+
 def main():
     words = sys.argv[1:]
     if words != ["--test"]:
         print(__doc__, file=sys.stdout if words in (["--help"], ["-h"]) else sys.stderr)
         return 0 if words in (["--help"], ["-h"]) else 2
-    for test in (same_as_the_header, draws, plays, threads):
+    for test in (same_as_the_header, draws, plays, threads, passes):
         test()
     print("the calls from Python are those of the header, and draw")
     return 0

@@ -1,6 +1,6 @@
-/* Random calls, by a seed: handles that are null, of the other kind or ended, words that name nothing, numbers that stand for nothing, buffers
+/* Random calls, by a seed: handles that are null, of another kind or ended, words that name nothing, numbers that stand for nothing, buffers
  * too small. Each is answered by a status of the header, none by want of memory, and a call that is not done changes no word that it is given.
- * The program writes how often each status came. Among 100,000 calls or more each of the 42 is done at least once, or the program fails.
+ * The program writes how often each status came. Among 100,000 calls or more each of the 47 is done at least once, or the program fails.
  *
  * usage: random [SEED [CALLS]] */
 #include "vgfx.h"
@@ -10,7 +10,7 @@
 #include <stdlib.h>
 #include <string.h>
 
-enum { WIDTH = 17, HEIGHT = 5, PICTURE = 3 * WIDTH * HEIGHT + 17, WORDS = 32, ENCODERS = 10, CALLS = 42 };
+enum { WIDTH = 17, HEIGHT = 5, PICTURE = 3 * WIDTH * HEIGHT + 17, WORDS = 32, ENCODERS = 10, BANDS = 6, CALLS = 47, FIRST_OF_PASSES = 42 };
 
 enum kind { LAYOUT, VERTEX_BUFFER, INDEX_BUFFER, TEXTURE, FRAME_BUFFER, PROGRAM, UNIFORM, KINDS };
 
@@ -40,21 +40,33 @@ static vgfx_id word(uint32_t kind) {
     return k == 4 ? made ^ (UINT64_C(1) << below(64)) : made;
 }
 
-/* A handle whose use is no encoder's or no context's, too. A handle is one pointer, so one may be passed as the other. */
+/* A handle whose use is no encoder's, no band's or no context's, too. A handle is one pointer, so one may be passed as the other. */
 static vgfx_context context;
 static vgfx_encoder encoders[ENCODERS];
+static vgfx_band bands[BANDS];
+static int is_begun;
 
 static vgfx_context *some_context(void) {
     static vgfx_context none;
     uint32_t k = below(16);
     if (k == 0) return &none;
     if (k == 1) return (vgfx_context *)(void *)&encoders[below(ENCODERS)];
+    if (k == 2) return (vgfx_context *)(void *)&bands[below(BANDS)];
     return &context;
 }
 
 static vgfx_encoder *some_encoder(void) {
-    if (below(16) == 0) return (vgfx_encoder *)(void *)&context;
+    uint32_t k = below(16);
+    if (k == 0) return (vgfx_encoder *)(void *)&context;
+    if (k == 1) return (vgfx_encoder *)(void *)&bands[below(BANDS)];
     return &encoders[below(ENCODERS)];
+}
+
+static vgfx_band *some_band(void) {
+    uint32_t k = below(16);
+    if (k == 0) return (vgfx_band *)(void *)&context;
+    if (k == 1) return (vgfx_band *)(void *)&encoders[below(ENCODERS)];
+    return &bands[below(BANDS)];
 }
 
 static void fail(const char *what) {
@@ -120,7 +132,8 @@ static vgfx_status any_call(uint32_t call) {
         case 18: { uint16_t ids[3] = {view, (uint16_t)below(6), (uint16_t)below(6)}; return vgfx_set_view_order(c, ids, below(4)); }
         case 19: return vgfx_reset_view(c, view);
         case 20: case 21:
-            /* two arguments of one call lie apart */
+            /* two arguments of one call lie apart, and an encoder does not begin where a band lies */
+            e = below(16) ? &encoders[below(ENCODERS)] : (vgfx_encoder *)(void *)&context;
             if ((void *)c == (void *)e) return VGFX_ERROR_NO_OBJECT;
             return vgfx_encoder_begin(c, e, below(40), below(400), below(20));
         case 22: return vgfx_encoder_set_state(e, below(2) ? 15 : next());
@@ -145,12 +158,34 @@ static vgfx_status any_call(uint32_t call) {
             size_t stride = below(8) ? 4 * WIDTH + below(8) : below(80), length = below(8) ? sizeof pixels : below(sizeof pixels);
             return vgfx_read_pixels(c, below(2) ? word(TEXTURE) : 0, (vgfx_pixels)below(4), pixels, length, stride);
         }
-        default: {
-            /* most frames end their encoders first */
-            if (below(4)) for (int i = 0; i < ENCODERS; i++) (void)!vgfx_encoder_end(&encoders[i], 1);
+        case 42: {
+            /* a view that is touched is a pass */
+            for (int i = 0; i < ENCODERS && c == &context && below(32); i++) {
+                (void)!vgfx_encoder_touch(&encoders[i], (uint16_t)below(6));
+                (void)!vgfx_encoder_end(&encoders[i], 1);
+            }
+            vgfx_status status = vgfx_frame_begin(c);
+            if (status == VGFX_OK) is_begun = 1;
+            return status;
+        }
+        case 43: case 45: {
+            /* the context is no band among those that are given */
+            size_t first = below(2) ? 0 : below(BANDS), length = below(BANDS + 1 - (uint32_t)first), count = 77;
+            if (c != &context) return VGFX_ERROR_NO_OBJECT;
+            if (call == 45) return vgfx_pass_end(c, bands + first, length);
+            vgfx_status status = vgfx_pass_next(c, bands + first, length, &count);
+            if (status == VGFX_OK ? count > length : count != 77) fail("bands are told wrongly");
+            return status;
+        }
+        case 44: return vgfx_band_draw(some_band());
+        case 46: default: {
+            /* most frames end their encoders first, and take their bands back */
+            if (call != 46 && below(4)) for (int i = 0; i < ENCODERS; i++) (void)!vgfx_encoder_end(&encoders[i], 1);
+            if (call == 46 && c == &context && below(4)) (void)!vgfx_pass_end(c, bands, BANDS);
             vgfx_frame_report framed;
             size_t length = below(4) ? sizeof picture : below(2) ? below(sizeof picture) : 0;
-            vgfx_status status = vgfx_frame(c, picture, length, &framed);
+            vgfx_status status = call == 46 ? vgfx_frame_end(c, picture, length, &framed) : vgfx_frame(c, picture, length, &framed);
+            if (status == VGFX_OK && call == 46) is_begun = 0;
             if (status == VGFX_OK && length == 0 && framed.picture != 0) fail("a picture where no buffer was given");
             if (status == VGFX_OK && length > 0 && (framed.picture != 3 * WIDTH * HEIGHT + 12 || memcmp(picture, "P6\n17 5\n255\n", 12) != 0)) fail("a picture is not whole");
             return status;
@@ -168,7 +203,8 @@ int main(int argc, char **argv) {
     if (vgfx_init(&context, WIDTH, HEIGHT) != VGFX_OK) fail("no context");
     if (vgfx_init(&context, WIDTH, HEIGHT) != VGFX_ERROR_TAKEN) fail("a context was made over another");
     for (uint64_t i = 0; i < calls; i++) {
-        uint32_t call = below(CALLS);
+        /* while a frame is begun, all other calls are refused */
+        uint32_t call = is_begun && below(16) ? FIRST_OF_PASSES + below(CALLS - FIRST_OF_PASSES) : below(CALLS);
         vgfx_status status = any_call(call);
         size_t k = 0;
         while (k < sizeof known / sizeof known[0] && known[k] != status) k++;
@@ -180,7 +216,10 @@ int main(int argc, char **argv) {
         for (int i = 0; i < CALLS; i++)
             if (done[i] == 0) fail("one of the calls was never done");
     for (int i = 0; i < ENCODERS; i++) (void)!vgfx_encoder_drop(&encoders[i]);
+    (void)!vgfx_frame_begin(&context);
     if (vgfx_shutdown(&context) != VGFX_OK || vgfx_shutdown(&context) != VGFX_ERROR_NO_OBJECT) fail("the context was not given up once");
+    /* bands that outlive their context are taken back by the null handle */
+    if (vgfx_pass_end(&context, bands, BANDS) != VGFX_ERROR_NO_OBJECT || vgfx_band_draw(&bands[0]) != VGFX_ERROR_NO_OBJECT) fail("a band was not taken back");
     for (size_t s = 0; s < sizeof counts / sizeof counts[0]; s++)
         if (counts[s]) printf("status %zu: %" PRIu64 "\n", s, counts[s]);
     return 0;

@@ -109,13 +109,27 @@ static void is_read(vgfx_context *context, const uint8_t *colors) {
         if (memcmp(pixels + 4 * i, colors + 3 * i, 3) != 0) wrong("the pixels that were read");
 }
 
-/* Ends a frame, and where that wants memory ends it again. Answers whether it has a picture: where its render wanted memory the context is ended. */
+/* Ends a frame that is drawn in passes. Want of memory for a band only costs time: no call but the first and the last is refused for it. */
+static vgfx_status in_passes(vgfx_context *context, int frame, vgfx_frame_report *framed) {
+    vgfx_band bands[3] = {{0}, {0}, {0}};
+    size_t count = 9;
+    vgfx_status status = vgfx_frame_begin(context);
+    if (status != VGFX_OK) return status;
+    for (;;) {
+        if (vgfx_pass_next(context, bands, 3, &count) != VGFX_OK || count > 3) wrong("vgfx_pass_next");
+        if (count == 0) break;
+        if (vgfx_band_draw(&bands[0]) != VGFX_OK || vgfx_pass_end(context, bands, count) != VGFX_OK) wrong("a pass");
+    }
+    return vgfx_frame_end(context, picture[frame], PICTURE, framed);
+}
+
+/* Ends a frame, each other one in passes, and where that wants memory ends it again. Answers whether it has a picture: where its render wanted memory the context is ended. */
 static bool is_shown(vgfx_context *context, int frame) {
     vgfx_frame_report framed = {7, 7, 7};
     vgfx_encoder encoder = {0};
     memset(picture[frame], 9, PICTURE);
     failed = false;
-    vgfx_status status = vgfx_frame(context, picture[frame], PICTURE, &framed);
+    vgfx_status status = frame % 2 ? in_passes(context, frame, &framed) : vgfx_frame(context, picture[frame], PICTURE, &framed);
     if (status == VGFX_ERROR_OUT_OF_MEMORY) {
         if (!failed) wrong("no allocation failed in vgfx_frame");
         wants++;

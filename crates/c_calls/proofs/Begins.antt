@@ -1,25 +1,20 @@
 -- How encoders begin.
-use Rattle.std.proofs.Common.{◌≡◌, ℕ, false, List, Option, Some, None, Result, Ok, Err, refl, ap, sym, ◌∙◌, subst}
-use Rattle.std.specs.Prelude.{MatchOption, IfOk, ⊤}
-use Rattle.gfx_model.specs.FrameCalls.{Begun, begin_encoder, frame_refusal}
+use Rattle.std.proofs.Common.{◌≡◌, ℕ, List, Option, Some, Result, Ok, Err, refl, ap, sym, ◌∙◌, subst}
+use Rattle.std.specs.Prelude.{IfOk}
+use Rattle.gfx_model.specs.FrameCalls.{Begun}
 use Rattle.gfx_model.specs.Recorder.{Room}
-use Rattle.gfx_model.specs.Resources as model
 use Rattle.gfx_model.specs.Views.{view_count}
 use Rattle.gfx_model.specs.Words.{Handle}
 use Rattle.gfx_words.specs.declared.refusals.Refusal.{Refusal}
-use Rattle.gfx_words.specs.Seen.{refusal_seen}
 use Rattle.atomic_table.specs.Seated.{TableId}
 use Rattle.draw_encoder.specs.Calls as encoders
 use Rattle.draw_encoder.specs.Calls.{RecorderView}
-use Rattle.resource_book.specs.Answered.{IsFirstRefusalOrOutOfMemory}
 use Rattle.context_core.specs.Calls.{Begins, IsBegin}
 use Rattle.context_core.specs.States.{CoreView, own}
 use Rattle.render_core.specs.Rendered.{Rendering}
-use Rattle.c_words.specs.declared.faults.Fault.{Fault}
-use Rattle.c_calls.specs.Calls.{BeginsHere, BeginsEncoder, BeginsRecorder, IsFirstRefusalOrWant, is_over}
-use Rattle.c_words.specs.Statuses.{told_of}
+use Rattle.c_calls.specs.Calls.{BeginsRecorder}
 use Rattle.c_calls.specs.declared.standing.Standing.{Standing}
-use Rattle.c_calls.specs.Views.{ContextView, EncoderView, IsOn}
+use Rattle.c_calls.specs.Views.{ContextView, IsOn}
 use Rattle.c_calls.proofs.Told.{context_with}
 
 same_begun : (x y : Begun) → Some x ≡ Some y → x ≡ y

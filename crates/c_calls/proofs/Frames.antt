@@ -1,8 +1,7 @@
 -- The end of a frame, step by step.
-use Rattle.std.proofs.Common.{◌≡◌, ℕ, ◌+◌, ◌-◌, ◌<◌, ◌≤◌, ◌==◌, inl, inr, Bool, true, false, if◌then◌else◌, List, [], ◌∷◌, map, length, drop, ◌++◌, Option, Some, None, Result, Ok, Err, refl, sym, ap, ◌∙◌, subst, arith}
+use Rattle.std.proofs.Common.{◌≡◌, ℕ, ◌+◌, ◌-◌, ◌<◌, ◌≤◌, ◌==◌, inr, Bool, true, false, if◌then◌else◌, List, [], ◌∷◌, map, length, drop, ◌++◌, Option, Some, None, Result, Ok, Err, refl, sym, ap, ◌∙◌, subst, arith}
 use Rattle.std.proofs.lemmas.Bool.{eqb-true}
 use Rattle.std.proofs.lemmas.List.{length-map}
-use Rattle.scene_model.specs.Output.{picture_text}
 use Rattle.gfx_model.specs.Frames.{collected}
 use Rattle.gfx_model.specs.FrameCalls.{end_frame, frame_refusal}
 use Rattle.gfx_model.specs.Views.{view_count}
@@ -19,7 +18,7 @@ use Rattle.context_core.specs.Ended as cores
 use Rattle.context_core.specs.States.{CoreView, state_of, frames_end}
 use Rattle.context_core.specs.declared.ending.Prepared.{Prepared}
 use Rattle.render_core.specs.Outcomes.{is_shown}
-use Rattle.render_core.specs.Rendered.{Rendering, IsRendered}
+use Rattle.render_core.specs.Rendered.{Rendering}
 use Rattle.render_core.specs.Shown.{HeldAfter}
 use Rattle.c_words.specs.declared.faults.Fault.{Fault}
 use Rattle.c_calls.specs.declared.frame.Framed.{Framed}
@@ -55,7 +54,7 @@ pub made_none : (work : Work) (o : Option Frame) (a b : CoreView) → o ≡ None
 made_none work o a b is m = absurd (cc (subst (λ (x : Option Frame). Finishes true work x a b) is m).0)
 
 module _ (work : Work) (f : Frame) (now made : CoreView) (none : now.state.out ≡ 0) (g : Gives work f now made) where
-  one_out : made.state.out ≡ now.state.out + 1
+  pub one_out : made.state.out ≡ now.state.out + 1
   one_out = ap (λ (c : CoreView). c.state.out) g.same
 
   pub some_out : 0 < made.state.out

@@ -7,3 +7,5 @@ mod Recorded
 mod Frames
 mod Begins
 mod Openings
+mod Handles
+mod InPasses

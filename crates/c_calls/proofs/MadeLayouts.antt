@@ -2,7 +2,7 @@
 use Rattle.std.proofs.Common.{◌≡◌, List, Option, Some, None, Result, Ok, Err, ap, sym, ◌∙◌, subst}
 use Rattle.std.specs.Prelude.{MatchOption}
 use Rattle.gfx_model.specs.Resources.{create_layout}
-use Rattle.gfx_model.specs.Vertex.{Layout, LayoutPart, layout_of_parts}
+use Rattle.gfx_model.specs.Vertex.{Layout, LayoutPart}
 use Rattle.gfx_model.specs.Words.{Handle}
 use Rattle.gfx_words.specs.declared.refusals.Refusal.TheVariants as refusals
 use Rattle.c_words.specs.declared.faults.Fault.{Fault}

@@ -1,5 +1,5 @@
 -- A new core is on its table, and a new renderer has drawn nothing.
-use Rattle.std.proofs.Common.{◌≡◌, ℕ, ◌+◌, ◌*◌, List, [], Option, Some, None, sym, ap, ◌∙◌}
+use Rattle.std.proofs.Common.{◌≡◌, ℕ, ◌+◌, ◌*◌, List, [], Some, None, sym, ap, ◌∙◌}
 use Rattle.std.proofs.lemmas.List.{length-replicate}
 use Rattle.gfx_model.specs.Views.{view_count, plain_view}
 use Rattle.gfx_model.specs.World.{first_world}

@@ -1,5 +1,4 @@
 -- What a slot owns: nothing at null, and else a box.
-use Rattle.std.specs.Prelude.{◌≡◌}
 use base.Fml.{Fml, feq}
 use denote.RawPtr.{Ptr, null_ptr}
 use Rattle.std.specs.Box.Ownership.{box_owns}

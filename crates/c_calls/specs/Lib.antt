@@ -6,5 +6,8 @@ pub mod Rendered
 pub mod Calls
 pub mod Frames
 pub mod Pixels
+pub mod Begun
+pub mod Passes
 pub mod Exports
+pub mod Bands
 pub mod Opening

@@ -7,7 +7,7 @@ use crate::slot::{Slot, put, take};
 use c_words::{Fault, NO_OBJECT};
 use std::alloc::Global;
 
-/// Gives a context up. Its handle is null from then on. The status is 100 where the handle stands for none.
+/// Gives a context up, also one with a frame that is begun. Its handle is null from then on. The status is 100 where the handle stands for none.
 pub fn shut_down(alloc: Global, context: &mut Slot) -> u32
     ensures { ShutsDown context.old.value context.new.value result }
 {
@@ -16,6 +16,7 @@ pub fn shut_down(alloc: Global, context: &mut Slot) -> u32
     };
     match &*object {
         Object::Api(_) => 0,
+        Object::Drawing(_) => 0,
         _ => {
             put(context, object);
             NO_OBJECT

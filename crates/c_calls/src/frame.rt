@@ -34,7 +34,7 @@ pub struct Framed {
 }
 
 // Why a frame is not made, as C is told it.
-fn not_made(cause: NotReady) -> Fault
+pub(crate) fn not_made(cause: NotReady) -> Fault
     ensures { result ≡ fault_of cause }
 {
     match cause {
@@ -83,7 +83,7 @@ fn finish(
     }
 }
 
-fn was_shown(outcome: &Outcome) -> bool
+pub(crate) fn was_shown(outcome: &Outcome) -> bool
     ensures { result ≡ is_shown outcome.now }
 {
     matches!(outcome, Outcome::Shown)
@@ -99,13 +99,13 @@ fn copy_front(text: &[u8], buffer: &mut [u8])
 
 impl Context {
     // The sum of the numbers that the encoders whose recordings have come ended with.
-    fn dropped(&self) -> u64
+    pub(crate) fn dropped(&self) -> u64
         ensures { result ≡ dropped_in self.now.core.state.gathered }
     {
         self.core.dropped()
     }
 
-    fn prepare(&mut self) -> Result<Prepared, NotReady>
+    pub(crate) fn prepare(&mut self) -> Result<Prepared, NotReady>
         ensures prepares { Prepares result self.old.core self.new.core }
         ensures same { self.new ≡ record self.old { core = self.new.core } }
     {
@@ -157,7 +157,12 @@ impl Context {
     }
 
     // Hands out the picture of a frame that was rendered, where it was shown.
-    fn deliver(&self, number: u32, dropped: u64, buffer: &mut [u8]) -> Result<Framed, Fault>
+    pub(crate) fn deliver(
+        &self,
+        number: u32,
+        dropped: u64,
+        buffer: &mut [u8],
+    ) -> Result<Framed, Fault>
         requires { self.now.most ≤ length buffer.old }
         ensures { (frame : Frame) (before : ContextView) → number ≡ frame.number → Shows frame before self.now → Delivers result frame dropped buffer.old buffer.new before self.now }
     {
@@ -173,7 +178,7 @@ impl Context {
     }
 
     // Tells a frame that was rendered without a buffer, where it was shown.
-    fn tell(&self, number: u32, dropped: u64) -> Result<Framed, Fault>
+    pub(crate) fn tell(&self, number: u32, dropped: u64) -> Result<Framed, Fault>
         ensures { (frame : Frame) (before : ContextView) → number ≡ frame.number → Shows frame before self.now → Tells result frame dropped before self.now }
     {
         if !self.is_shown() {
@@ -236,7 +241,7 @@ impl Context {
     }
 
     // Whether an encoder has not come back and one was given up, whose letter is kept then.
-    fn is_abandoned(&mut self) -> bool
+    pub(crate) fn is_abandoned(&mut self) -> bool
         ensures abandoned { result ≡ true → IsAbandoned self.old self.new }
         ensures same { result ≡ false → self.new ≡ self.old }
     {

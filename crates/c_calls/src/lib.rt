@@ -5,6 +5,7 @@
 //! contracts see of the object.
 #![tactic(auto)]
 
+mod bands;
 mod begin;
 mod context;
 mod creates;
@@ -16,10 +17,13 @@ mod objects;
 mod on_contexts;
 mod on_creates;
 mod on_encoders;
+mod on_passes;
 mod on_updates;
 mod on_views;
+mod open_frames;
 mod opening;
 mod parts;
+mod passes;
 mod picture;
 mod pixels;
 mod recording;
@@ -45,11 +49,13 @@ pub use on_encoders::{
     encoder_set_transient_indices, encoder_set_transient_vertices, encoder_set_vec4,
     encoder_set_vertices, encoder_submit, encoder_touch,
 };
+pub use on_passes::{begin_frame, close_frame, draw_band, end_pass, next_pass};
 pub use on_updates::{destroy, update_buffer, update_texture};
 pub use on_views::{
     reset_view, set_view_clear, set_view_mode, set_view_order, set_view_rect, set_view_scissor,
     set_view_target, set_view_transform,
 };
+pub use open_frames::{OpenFrame, Place};
 pub use opening::{begin_into, open_into};
 pub use picture::PictureSink;
 pub use slot::Slot;

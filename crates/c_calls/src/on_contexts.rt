@@ -7,13 +7,14 @@ ghost use Rattle.c_calls.specs.Pixels.{ReadsHere};
 ghost use Rattle.c_words.specs.Statuses.{status_of};
 
 use crate::frame::Framed;
+use crate::held::put_other;
 use crate::objects::Object;
 use crate::slot::{Slot, put, take};
 use c_words::{Fault, NO_OBJECT, status};
 use std::alloc::Global;
 
 // Hands what is told of a frame to C.
-fn tell(answer: Result<Framed, Fault>, framed: &mut Framed) -> u32
+pub(crate) fn tell(answer: Result<Framed, Fault>, framed: &mut Framed) -> u32
     ensures status { result ≡ status_of answer }
     ensures told { framed.new ≡ framed_after answer framed.old }
 {
@@ -39,10 +40,7 @@ pub fn end_frame(alloc: Global, context: &mut Slot, picture: &mut [u8], framed: 
             put(context, object);
             tell(answer, framed)
         }
-        _ => {
-            put(context, object);
-            NO_OBJECT
-        }
+        _ => put_other(context, object),
     }
 }
 
@@ -66,10 +64,7 @@ pub fn read_pixels(
             put(context, object);
             status(answer)
         }
-        _ => {
-            put(context, object);
-            NO_OBJECT
-        }
+        _ => put_other(context, object),
     }
 }
 
@@ -86,10 +81,7 @@ pub fn collect(alloc: Global, context: &mut Slot, off: &mut u32) -> u32
             put(context, object);
             0
         }
-        _ => {
-            put(context, object);
-            NO_OBJECT
-        }
+        _ => put_other(context, object),
     }
 }
 
@@ -106,9 +98,6 @@ pub fn frame_number(alloc: Global, context: &mut Slot, number: &mut u32) -> u32
             put(context, object);
             0
         }
-        _ => {
-            put(context, object);
-            NO_OBJECT
-        }
+        _ => put_other(context, object),
     }
 }

@@ -8,6 +8,7 @@ ghost use Rattle.c_calls.specs.Exports.{OnContext, word_after};
 ghost use Rattle.c_words.specs.Layouts.{parts_of};
 ghost use Rattle.c_words.specs.Statuses.{status_of};
 
+use crate::held::put_other;
 use crate::objects::Object;
 use crate::slot::{Slot, put, take};
 use c_words::{Fault, NO_OBJECT, Part};
@@ -41,10 +42,7 @@ pub fn create_layout(alloc: Global, context: &mut Slot, parts: &[Part], thing: &
             put(context, object);
             word(answer, thing)
         }
-        _ => {
-            put(context, object);
-            NO_OBJECT
-        }
+        _ => put_other(context, object),
     }
 }
 
@@ -67,10 +65,7 @@ pub fn create_vertex_buffer(
             put(context, object);
             word(answer, thing)
         }
-        _ => {
-            put(context, object);
-            NO_OBJECT
-        }
+        _ => put_other(context, object),
     }
 }
 
@@ -87,10 +82,7 @@ pub fn create_index_buffer(alloc: Global, context: &mut Slot, bytes: &[u8], thin
             put(context, object);
             word(answer, thing)
         }
-        _ => {
-            put(context, object);
-            NO_OBJECT
-        }
+        _ => put_other(context, object),
     }
 }
 
@@ -116,10 +108,7 @@ pub fn create_texture(
             put(context, object);
             word(answer, thing)
         }
-        _ => {
-            put(context, object);
-            NO_OBJECT
-        }
+        _ => put_other(context, object),
     }
 }
 
@@ -154,10 +143,7 @@ pub fn create_filled_texture(
             put(context, object);
             word(answer, thing)
         }
-        _ => {
-            put(context, object);
-            NO_OBJECT
-        }
+        _ => put_other(context, object),
     }
 }
 
@@ -180,10 +166,7 @@ pub fn create_frame_buffer(
             put(context, object);
             word(answer, thing)
         }
-        _ => {
-            put(context, object);
-            NO_OBJECT
-        }
+        _ => put_other(context, object),
     }
 }
 
@@ -200,10 +183,7 @@ pub fn create_program(alloc: Global, context: &mut Slot, program: u32, thing: &m
             put(context, object);
             word(answer, thing)
         }
-        _ => {
-            put(context, object);
-            NO_OBJECT
-        }
+        _ => put_other(context, object),
     }
 }
 
@@ -226,9 +206,6 @@ pub fn create_uniform(
             put(context, object);
             word(answer, thing)
         }
-        _ => {
-            put(context, object);
-            NO_OBJECT
-        }
+        _ => put_other(context, object),
     }
 }

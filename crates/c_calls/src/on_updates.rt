@@ -4,6 +4,7 @@ ghost use Rattle.gfx_model.specs.Resources as model;
 ghost use Rattle.c_calls.specs.Calls.{DestroysHere, UpdatesHere, OnThing};
 ghost use Rattle.c_calls.specs.Exports.{OnContext};
 
+use crate::held::put_other;
 use crate::objects::Object;
 use crate::slot::{Slot, put, take};
 use c_words::{NO_OBJECT, status};
@@ -29,10 +30,7 @@ pub fn update_buffer(
             put(context, object);
             status(answer)
         }
-        _ => {
-            put(context, object);
-            NO_OBJECT
-        }
+        _ => put_other(context, object),
     }
 }
 
@@ -58,10 +56,7 @@ pub fn update_texture(
             put(context, object);
             status(answer)
         }
-        _ => {
-            put(context, object);
-            NO_OBJECT
-        }
+        _ => put_other(context, object),
     }
 }
 
@@ -78,9 +73,6 @@ pub fn destroy(alloc: Global, context: &mut Slot, thing: u64) -> u32
             put(context, object);
             status(answer)
         }
-        _ => {
-            put(context, object);
-            NO_OBJECT
-        }
+        _ => put_other(context, object),
     }
 }

@@ -6,6 +6,7 @@ ghost use Rattle.c_calls.specs.Calls.{ChangesHere, OnMaybe};
 ghost use Rattle.c_calls.specs.Exports.{OnContext};
 ghost use Rattle.c_words.specs.Modes.{mode_of_number};
 
+use crate::held::put_other;
 use crate::objects::Object;
 use crate::slot::{Slot, put, take};
 use crate::transform::Transform;
@@ -34,10 +35,7 @@ pub fn set_view_rect(
             put(context, object);
             status(answer)
         }
-        _ => {
-            put(context, object);
-            NO_OBJECT
-        }
+        _ => put_other(context, object),
     }
 }
 
@@ -62,10 +60,7 @@ pub fn set_view_scissor(
             put(context, object);
             status(answer)
         }
-        _ => {
-            put(context, object);
-            NO_OBJECT
-        }
+        _ => put_other(context, object),
     }
 }
 
@@ -93,10 +88,7 @@ pub fn set_view_clear(
             put(context, object);
             status(answer)
         }
-        _ => {
-            put(context, object);
-            NO_OBJECT
-        }
+        _ => put_other(context, object),
     }
 }
 
@@ -113,10 +105,7 @@ pub fn set_view_mode(alloc: Global, context: &mut Slot, view: u16, mode: u32) ->
             put(context, object);
             status(answer)
         }
-        _ => {
-            put(context, object);
-            NO_OBJECT
-        }
+        _ => put_other(context, object),
     }
 }
 
@@ -138,10 +127,7 @@ pub fn set_view_transform(
             put(context, object);
             status(answer)
         }
-        _ => {
-            put(context, object);
-            NO_OBJECT
-        }
+        _ => put_other(context, object),
     }
 }
 
@@ -158,10 +144,7 @@ pub fn set_view_target(alloc: Global, context: &mut Slot, view: u16, target: u64
             put(context, object);
             status(answer)
         }
-        _ => {
-            put(context, object);
-            NO_OBJECT
-        }
+        _ => put_other(context, object),
     }
 }
 
@@ -178,10 +161,7 @@ pub fn set_view_order(alloc: Global, context: &mut Slot, views: &[u16]) -> u32
             put(context, object);
             status(answer)
         }
-        _ => {
-            put(context, object);
-            NO_OBJECT
-        }
+        _ => put_other(context, object),
     }
 }
 
@@ -198,9 +178,6 @@ pub fn reset_view(alloc: Global, context: &mut Slot, view: u16) -> u32
             put(context, object);
             status(answer)
         }
-        _ => {
-            put(context, object);
-            NO_OBJECT
-        }
+        _ => put_other(context, object),
     }
 }

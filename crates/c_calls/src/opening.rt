@@ -8,7 +8,7 @@ ghost use Rattle.c_calls.specs.Opening.{Opens, BeginsInto, opened_into, begun_in
 
 use crate::context::Context;
 use crate::encoder::Encoder;
-use crate::held::{blank_box, put_context, put_encoder};
+use crate::held::{blank_box, put_context, put_encoder, put_other};
 use crate::objects::Object;
 use crate::slot::{Slot, is_null, put, take};
 use c_words::{Fault, NO_OBJECT};
@@ -66,10 +66,7 @@ fn begin_for(
             put(context, object);
             hand_encoder(encoder, blank, begun)
         }
-        _ => {
-            put(context, object);
-            NO_OBJECT
-        }
+        _ => put_other(context, object),
     }
 }
 

@@ -9,6 +9,7 @@ mod c_context;
 mod c_creates;
 mod c_encoder;
 mod c_frame;
+mod c_passes;
 mod c_pixels;
 mod c_play;
 mod c_recording;
@@ -17,6 +18,8 @@ mod c_version;
 mod c_views;
 #[cfg(test)]
 mod drawn_tests;
+#[cfg(test)]
+mod pass_tests;
 #[cfg(test)]
 mod pixel_tests;
 #[cfg(test)]

@@ -31,6 +31,13 @@ pub struct vgfx_encoder {
     at: *mut c_void,
 }
 
+/// A band. It starts as [`vgfx_band::NULL`] and is neither read, written nor copied.
+#[repr(C)]
+#[derive(Debug)]
+pub struct vgfx_band {
+    at: *mut c_void,
+}
+
 impl vgfx_context {
     /// No context.
     pub const NULL: Self = Self { at: core::ptr::null_mut() };
@@ -38,6 +45,11 @@ impl vgfx_context {
 
 impl vgfx_encoder {
     /// No encoder.
+    pub const NULL: Self = Self { at: core::ptr::null_mut() };
+}
+
+impl vgfx_band {
+    /// No band.
     pub const NULL: Self = Self { at: core::ptr::null_mut() };
 }
 
@@ -359,7 +371,7 @@ unsafe extern "C" {
     pub fn vgfx_play(text: *const c_void, text_length: usize, pictures: *mut c_void, pictures_length: usize, report: *mut c_void, report_length: usize, played: *mut vgfx_play_report) -> vgfx_status;
     /// Makes a context with pictures of these sides, 1 to VGFX_MAX_SIDE, and a back buffer of zeros with depth and stencil, for a handle that is null.
     pub fn vgfx_init(context: *mut vgfx_context, width: u16, height: u16) -> vgfx_status;
-    /// Gives a context up with all that was made.
+    /// Gives a context up with all that was made, also from vgfx_frame_begin to vgfx_frame_end.
     pub fn vgfx_shutdown(context: *mut vgfx_context) -> vgfx_status;
     /// Tells the number of the frame that is recorded, from 0.
     pub fn vgfx_frame_number(context: *mut vgfx_context, number: *mut u32) -> vgfx_status;
@@ -369,6 +381,16 @@ unsafe extern "C" {
     pub fn vgfx_collect(context: *mut vgfx_context, out: *mut u32) -> vgfx_status;
     /// Ends the frame, renders it on the calling thread, and writes its picture as a P6 text: "P6\nWIDTH HEIGHT\n255\n" and three bytes a pixel.
     pub fn vgfx_frame(context: *mut vgfx_context, picture: *mut c_void, picture_length: usize, report: *mut vgfx_frame_report) -> vgfx_status;
+    /// Begins the frame: takes in the encoders that have ended, makes the frame and does its first commands.
+    pub fn vgfx_frame_begin(context: *mut vgfx_context) -> vgfx_status;
+    /// Begins the next pass and lends its bands, to the first of `bands_length` handles, all of which are null before.
+    pub fn vgfx_pass_next(context: *mut vgfx_context, bands: *mut vgfx_band, bands_length: usize, count: *mut usize) -> vgfx_status;
+    /// Draws a band, by any thread, beside the other bands of its pass.
+    pub fn vgfx_band_draw(band: *mut vgfx_band) -> vgfx_status;
+    /// Takes bands back, whose handles are null from then on, whatever is answered.
+    pub fn vgfx_pass_end(context: *mut vgfx_context, bands: *mut vgfx_band, bands_length: usize) -> vgfx_status;
+    /// Ends the frame: draws on the calling thread what no pass drew, does its last commands, and writes its picture as vgfx_frame does.
+    pub fn vgfx_frame_end(context: *mut vgfx_context, picture: *mut c_void, picture_length: usize, report: *mut vgfx_frame_report) -> vgfx_status;
     /// Reads the back buffer by 0, or a texture, as the last frame left it: row by row from the top, four bytes a pixel, with `stride` bytes from the start of a row to that of the next.
     pub fn vgfx_read_pixels(context: *mut vgfx_context, texture: vgfx_id, pixels_format: u32, pixels: *mut c_void, pixels_length: usize, stride: usize) -> vgfx_status;
     /// Makes a layout of parts.

@@ -1,4 +1,5 @@
 use std::cell::UnsafeCell;
+use std::ffi::c_void;
 use std::marker::PhantomData;
 use std::mem;
 
@@ -81,6 +82,24 @@ impl Picture {
         }
     }
 
+    /// Has a call write a picture of these sides, whose report it fills; where it is refused there is no picture.
+    pub(crate) fn put(
+        &mut self,
+        sides: (u16, u16),
+        call: impl FnOnce(*mut c_void, usize, &mut sys::vgfx_frame_report) -> Result<(), Error>,
+    ) -> Result<FrameReport, Error> {
+        let pixels = 3 * usize::from(sides.0) * usize::from(sides.1);
+        (self.length, self.pixels) = (0, 0);
+        self.bytes.resize(pixels + 17, 0);
+        let mut told = sys::vgfx_frame_report::default();
+        call(self.bytes.as_mut_ptr().cast(), self.bytes.len(), &mut told)?;
+        (self.length, self.pixels) = (told.picture, pixels);
+        Ok(FrameReport {
+            number: told.number,
+            dropped: told.dropped,
+        })
+    }
+
     /// The pixels, row by row from the top, three bytes each: red, green and blue.
     pub fn pixels(&self) -> &[u8] {
         &self.p6()[self.length - self.pixels..]
@@ -110,7 +129,7 @@ impl Context {
         (self.width, self.height)
     }
 
-    fn call(&self, call: impl FnOnce(*mut sys::vgfx_context) -> sys::vgfx_status) -> Result<(), Error> {
+    pub(crate) fn call(&self, call: impl FnOnce(*mut sys::vgfx_context) -> sys::vgfx_status) -> Result<(), Error> {
         Error::of(call(self.raw.get()))
     }
 
@@ -151,17 +170,9 @@ impl Context {
     /// Ends the frame, renders it on this thread, and puts its picture down; where it is refused there is no picture. [`Error::Ended`], [`Error::FramesSpent`], [`Error::OutOfMemory`], after
     /// which the frame can be ended again, unless memory was wanting in its render; [`Error::TryAgain`] where an encoder was forgotten by [`mem::forget`].
     pub fn frame(&mut self, picture: &mut Picture) -> Result<FrameReport, Error> {
-        let pixels = 3 * usize::from(self.width) * usize::from(self.height);
-        (picture.length, picture.pixels) = (0, 0);
-        picture.bytes.resize(pixels + 17, 0);
-        let mut told = sys::vgfx_frame_report::default();
-        let (at, length) = (picture.bytes.as_mut_ptr(), picture.bytes.len());
         // SAFETY: as above; the pointer and the length are one vector's.
-        self.call(|context| unsafe { sys::vgfx_frame(context, at.cast(), length, &mut told) })?;
-        (picture.length, picture.pixels) = (told.picture, pixels);
-        Ok(FrameReport {
-            number: told.number,
-            dropped: told.dropped,
+        picture.put(self.sides(), |at, length, told| {
+            self.call(|context| unsafe { sys::vgfx_frame(context, at, length, told) })
         })
     }
 

@@ -29,6 +29,8 @@
 //! cannot end and the context cannot go while one is alive; it may be moved to another thread, and records there beside all others and beside the
 //! calls of its context. What Rust has to move a value to another thread (a start, a join, a lock, a channel) orders the two as the library asks.
 //!
+//! A frame may be drawn by several threads, in passes whose [`Band`]s each thread draws: [`Context::frame_in_passes`].
+//!
 //! A frame does not end while an encoder lives:
 //!
 //! ```compile_fail,E0502
@@ -51,6 +53,7 @@ mod context;
 mod encoder;
 mod error;
 mod ids;
+mod passes;
 mod play;
 mod words;
 
@@ -58,6 +61,7 @@ pub use context::{Clear, Context, FrameReport, Picture, Room};
 pub use encoder::{Blit, Encoder};
 pub use error::Error;
 pub use ids::{Buffer, FrameBuffer, IndexBuffer, IntUniform, Layout, Program, Resource, Texture, Vec4Uniform, VertexBuffer};
+pub use passes::{Band, Pass, Passes};
 pub use play::{PlayError, Played, play};
 pub use words::{
     Attribute, Compare, Component, Discard, Factor, Format, LayoutPart, ONE, Pixels, ProgramKind, Rect, State, Stencil, StencilStep, Transform,

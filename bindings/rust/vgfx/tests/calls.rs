@@ -253,3 +253,45 @@ fn a_scene_plays_and_a_text_that_is_none_is_told() {
     assert_eq!(play(b"scene 1\nsize 1 x\n"), Err(PlayError::NoScene { line: 2, cause: 6 }));
     assert_eq!(play(&[]), Err(PlayError::NoScene { line: 1, cause: 2 }));
 }
+
+#[test]
+fn a_frame_in_passes_has_the_picture_of_a_frame() -> Result<(), Error> {
+    let mut context = Context::new(8, 8)?;
+    context.set_view_clear(0, BLACK)?;
+    let (vertices, program) = made(&context, [200, 0, 50, 255])?;
+    let mut pictures = [Picture::new(), Picture::new(), Picture::new()];
+    for (number, picture) in pictures.iter_mut().enumerate() {
+        let mut encoder = context.begin(Room::of_items(1))?;
+        encoder.set_scissor(Rect { x: 1, y: 1, w: 5, h: 6 })?;
+        encoder.set_vertices(vertices, 0, 6)?;
+        encoder.submit(0, program, 0, Discard::ALL)?;
+        encoder.end(3)?;
+        let report = if number == 0 {
+            context.frame(picture)?
+        } else {
+            let mut frame = context.frame_in_passes()?;
+            while let Some(mut pass) = frame.next_pass(3)? {
+                assert_eq!(pass.len(), 3);
+                // In the last of the frames a band is left out: its rows are drawn at the pass's end.
+                let drawn = 4 - number;
+                thread::scope(|scope| {
+                    for band in pass.iter_mut().take(drawn) {
+                        scope.spawn(move || band.draw());
+                    }
+                });
+            }
+            frame.end(picture)?
+        };
+        assert_eq!(report, FrameReport { number: number as u32, dropped: 3 });
+    }
+    assert_eq!(pictures[0].p6(), pictures[1].p6());
+    assert_eq!(pictures[0].p6(), pictures[2].p6());
+    // A frame that is let go is ended, and so is a context with a pass that is out.
+    drop(context.frame_in_passes()?);
+    assert_eq!(context.frame_number()?, 4);
+    context.begin(Room::of_items(1))?.touch(0)?;
+    let mut frame = context.frame_in_passes()?;
+    mem::forget(frame.next_pass(2)?);
+    assert!(frame.next_pass(2).is_err());
+    Ok(())
+}

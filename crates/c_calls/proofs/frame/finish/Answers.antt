@@ -1,4 +1,4 @@
-use Rattle.std.proofs.Common.{◌≡◌, ap, ◌∙◌, arith, subst, sym}
+use Rattle.std.proofs.Common.{ap, ◌∙◌, arith, subst, sym}
 use Rattle.frame_record.specs.declared.frame.Frame.{Frame}
 use Rattle.context_core.specs.Ended.{Gives}
 use Rattle.context_core.specs.States.{CoreView}

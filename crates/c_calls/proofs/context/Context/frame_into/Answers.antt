@@ -1,4 +1,4 @@
-use Rattle.std.proofs.Common.{refl, sym, ◌∙◌}
+use Rattle.std.proofs.Common.{sym, ◌∙◌}
 use Rattle.c_calls.proofs.Frames.{into_none, into_some}
 use Rattle.c_calls.proofs.context.Context.frame_into.Goals as goal
 

@@ -1,9 +1,9 @@
 -- `into_parts` tests the pointer, and hands on what the slot owns.
-use mathlib.Core.Path.{◌≡◌, ap, refl, sym, subst}
+use mathlib.Core.Path.{◌≡◌, refl, sym, subst}
 use mathlib.Core.List.{List, [], ◌∷◌, ◌++◌}
 use Rattle.std.specs.declared.option.Option.TheVariants.{None, Some}
 use seplogic.Ra.Ura.{Ura}
-use mir.Val.{Val, of_list, vptr}
+use mir.Val.{Val, of_list}
 use base.Logic.{SProp, ent, emp, id⊢}
 use base.Fml.{ftrue, fsep}
 use prog.Memory.{Memory}
@@ -20,12 +20,10 @@ use types.ByLocal.{sets_last, env, alloc_all, pass_all, free_all, look_at, get, 
 use denote.Exit.{yes}
 use Rattle.std.proofs.Common.{lit<}
 use denote.RattleType.{Valss}
-use denote.RawPtr.{block_ptr, tests_null, Testable, Ptr, RawPtr, null_ptr, ptr_val}
-use denote.Struct.Struct.{within}
-use denote.Struct.Owning.{shape}
+use denote.RawPtr.{block_ptr, tests_null, Testable, Ptr, null_ptr, ptr_val}
 use mir.Val.{vstruct, vcons, vnil}
 use Rattle.std.proofs.alloc.Calls.{handle_tells}
-use Rattle.std_alloc.proofs.BoxSteps.Form.{P, handle, owning}
+use Rattle.std_alloc.proofs.BoxSteps.Form.{P}
 use Rattle.std_alloc.proofs.ResultValues.{and_tt}
 use Rattle.c_calls.specs.contracts.slot.Slot as slots
 use denote.Signature.{type_at}
@@ -45,7 +43,6 @@ use contract.Monad.{fact_use}
 use base.Logic.{guard_i}
 use mir.Raw.{raw as bare}
 use types.Logic.{sem}
-use Rattle.std.proofs.Common.{ℕ, ◌∙◌}
 use Rattle.std.specs.declared.option.Option.{Option}
 use Rattle.core.proofs.alloc.Shapes.{after}
 use Rattle.core.proofs.option.Made.{Some-of, none_of}

@@ -1,7 +1,7 @@
 -- `none` makes the null slot.
 use mathlib.Core.Path.{refl, sym, subst}
 use mathlib.Core.List.{List, [], ◌∷◌, ◌++◌}
-use Rattle.std.specs.declared.option.Option.TheVariants.{None, Some}
+use Rattle.std.specs.declared.option.Option.TheVariants.{None}
 use seplogic.Ra.Ura.{Ura}
 use mir.Val.{Val}
 use base.Logic.{SProp, ent, emp, id⊢}
@@ -14,9 +14,9 @@ use contract.Monad.{Fun}
 use contract.Running.{tables, tables_of}
 use sound.WpLaws.{WpFn-mono}
 use types.Kit.{fpack, feq_i, Item, ‵, raw, ◌⊛◌, ◌$◌, ◌∵◌, !, qed, by, move, drop, use1, join, split, fsplit, fjoin, suffices, done}
-use types.Part.{whole, sub, agg}
-use types.Run.{stop, fld, lit, no_more, and_then, of_opd, returns, enter}
-use types.ByLocal.{alloc_all, pass_all, free_all, look_at, get, get_in, sets}
+use types.Part.{agg}
+use types.Run.{lit, no_more, and_then, returns, enter}
+use types.ByLocal.{alloc_all, pass_all, free_all, look_at, get, sets}
 use denote.Exit.{yes}
 use Rattle.std.proofs.Common.{lit<}
 use denote.RattleType.{Valss}
@@ -25,16 +25,13 @@ use denote.Struct.Struct.{within}
 use denote.Struct.Owning.{shape}
 use mir.Val.{vstruct, vcons, vnil}
 use Rattle.std.proofs.alloc.Calls.{handle_tells}
-use Rattle.std_alloc.proofs.BoxSteps.Form.{P, handle, owning}
+use Rattle.std_alloc.proofs.BoxSteps.Form.{P, owning}
 use Rattle.std_alloc.proofs.ResultValues.{and_tt}
-use Rattle.c_calls.specs.contracts.slot.Slot as slots
 use denote.Signature.{type_at}
 use denote.Steps.{nothing}
 use denote.Triple.Spec.{triple_of}
 use denote.Triple.Table.{entered}
 use denote.Triple.Walked.{says, Stays, stay_dropped, walk_of, ends_at, Goes-dropped, walk_Meets}
-use Rattle.std_alloc.proofs.BoxSteps.Form.{D, B, word, box_typed}
-use Rattle.std_alloc.proofs.BoxSteps.Steps.{box_out, box_in}
 use Rattle.c_calls.proofs.AsBox.{E, FromGlobal as From}
 use Rattle.c_calls.specs.contracts.slot.Slot.none as F
 use Rattle.c_calls.specs.contracts.slot.Slot.none.Key.{name as #self}
