@@ -4,7 +4,7 @@
 usage: bindings/python/vgfx.py --test     tries the calls, and compares this file with include/vgfx.h
        bindings/python/vgfx.py --help     shows this text
 
-It is a module, for Python 3.8 or later and nothing else. VGFX_SHARED names the shared library; without it libvgfx.so.0.2 is looked for where
+It is a module, for Python 3.8 or later and nothing else. VGFX_SHARED names the shared library; without it libvgfx.so.0.3 is looked for where
 the machine looks for libraries.
 
     import vgfx
@@ -29,8 +29,8 @@ import sys
 import threading
 from ctypes import POINTER, byref, c_char_p, c_int32, c_size_t, c_uint8, c_uint16, c_uint32, c_uint64, c_void_p
 
-SONAME = "libvgfx.so.0.2"
-VERSION = 0x000200
+SONAME = "libvgfx.so.0.3"
+VERSION = 0x000300
 OK, ERROR_TRY_AGAIN, ERROR_TOO_SMALL, ERROR_NO_SCENE = 0, 101, 103, 106
 ERRORS = {
     1: "FULL",

@@ -274,7 +274,7 @@ pub const VGFX_STENCIL_INVERT: u32 = 7;
 /// `VGFX_VERSION_MAJOR`.
 pub const VGFX_VERSION_MAJOR: u32 = 0;
 /// `VGFX_VERSION_MINOR`.
-pub const VGFX_VERSION_MINOR: u32 = 2;
+pub const VGFX_VERSION_MINOR: u32 = 3;
 /// `VGFX_VERSION_PATCH`.
 pub const VGFX_VERSION_PATCH: u32 = 0;
 /// `VGFX_ONE`.
