@@ -1,5 +1,5 @@
-/* A frame that the caller's own threads draw: its passes are lent in bands of rows, and each thread draws one. The picture is that of
- * vgfx_frame, byte for byte; it goes to standard output.
+/* A frame that the caller's own threads draw: its passes are lent in bands of rows, two for each thread, so that one that is late draws
+ * fewer. The picture is that of vgfx_frame, byte for byte; it goes to standard output.
  *
  * usage: bands [THREADS [SIDE [LAYERS [ROUNDS]]]]
  *
@@ -13,7 +13,7 @@
 #include <string.h>
 #include <time.h>
 
-enum { MOST_THREADS = 64, TEXELS = 32, CORNERS = 4 };
+enum { MOST_THREADS = 64, BANDS_A_THREAD = 2, TEXELS = 32, CORNERS = 4 };
 
 static void must(vgfx_status status, const char *call) {
     if (status != VGFX_OK) {
@@ -92,26 +92,41 @@ static void make(struct scene *scene, uint16_t side) {
     }
 }
 
-static void *draw(void *band) {
-    MUST(vgfx_band_draw(band));
+/* The bands of a pass, of which each thread takes the next one that none has taken. */
+struct pass {
+    vgfx_band bands[BANDS_A_THREAD * MOST_THREADS];
+    size_t count, taken;
+    pthread_mutex_t lock;
+};
+
+static size_t next_band(struct pass *pass) {
+    pthread_mutex_lock(&pass->lock);
+    size_t next = pass->taken < pass->count ? pass->taken++ : pass->count;
+    pthread_mutex_unlock(&pass->lock);
+    return next;
+}
+
+static void *draw(void *lent) {
+    struct pass *pass = lent;
+    for (size_t band = next_band(pass); band < pass->count; band = next_band(pass)) MUST(vgfx_band_draw(&pass->bands[band]));
     return 0;
 }
 
-/* Draws a frame by so many threads, this one among them. The start and the join of a thread order its call and those of this one. */
+/* Draws a frame by so many threads, this one among them. The start and the join of a thread order its calls and those of this one. */
 static void frame_by_threads(vgfx_context *context, size_t threads, uint8_t *picture, size_t length) {
-    static vgfx_band bands[MOST_THREADS];
+    static struct pass pass = {.lock = PTHREAD_MUTEX_INITIALIZER};
     pthread_t others[MOST_THREADS];
     vgfx_frame_report report;
-    size_t count;
     MUST(vgfx_frame_begin(context));
     for (;;) {
-        MUST(vgfx_pass_next(context, bands, threads, &count));
-        if (count == 0) break;
-        for (size_t k = 1; k < count; k++)
-            if (pthread_create(&others[k], 0, draw, &bands[k]) != 0) exit(1);
-        draw(&bands[0]);
-        for (size_t k = 1; k < count; k++) pthread_join(others[k], 0);
-        MUST(vgfx_pass_end(context, bands, count));
+        MUST(vgfx_pass_next(context, pass.bands, BANDS_A_THREAD * threads, &pass.count));
+        if (pass.count == 0) break;
+        pass.taken = 0;
+        for (size_t k = 1; k < threads; k++)
+            if (pthread_create(&others[k], 0, draw, &pass) != 0) exit(1);
+        draw(&pass);
+        for (size_t k = 1; k < threads; k++) pthread_join(others[k], 0);
+        MUST(vgfx_pass_end(context, pass.bands, pass.count));
     }
     MUST(vgfx_frame_end(context, picture, length, &report));
 }
