@@ -23,7 +23,7 @@ struct Holding {
 }
 
 // How often a held thread looks at most where it waits for another one, and where a seed holds it: some tenths of a millisecond then.
-const LOOKS: u32 = 50_000_000;
+const LOOKS: u32 = 2_000_000_000;
 
 const SEEDED_LOOKS: u32 = 200_000;
 
