@@ -1,5 +1,5 @@
 -- Changes of colours alone are changes of pixels.
-use Rattle.std.proofs.Common.{◌≡◌, ℕ, ◌+◌, ◌*◌, ◌/◌, ◌%◌, ◌^◌, Bool, true, false, if◌then◌else◌, List, [], ◌∷◌, length, refl, sym, arith}
+use Rattle.std.proofs.Common.{◌≡◌, ℕ, ◌+◌, ◌-◌, ◌*◌, ◌&&◌, nat_le, nat_lt, ◌/◌, ◌%◌, ◌^◌, Bool, true, false, if◌then◌else◌, List, [], ◌∷◌, length, refl, sym, arith}
 use Rattle.gfx_model.specs.Number.{map_from, u32_at}
 use Rattle.gfx_model.specs.Vertex.{Color}
 use Rattle.gfx_model.specs.Pixel.{Pixel}
@@ -10,7 +10,7 @@ use Rattle.tri_cover.specs.Shown.{setup_seen}
 use Rattle.tri_cover.specs.declared.triangles.Setup.{Setup}
 use Rattle.int_raster.specs.declared.lists.Prepared.{Prepared}
 use Rattle.int_raster.specs.declared.opaque.Rule.{Rule}
-use Rattle.int_raster.specs.Places.{flat_pixel, flat_pixels, deep_pixel, deep_pixels, by_place, below, is_drawn}
+use Rattle.int_raster.specs.Places.{flat_pixel, flat_pixels, deep_pixel, deep_pixels, by_place, below, spanned, in_row, is_drawn}
 use Rattle.int_raster.specs.Rules.{IsRule, IsOver, IsFree}
 use Rattle.int_raster.specs.Seen.{paint_seen, facing_seen, step_seen, change_seen, color_seen, color_change}
 use Rattle.int_raster.proofs.Tested.{deep_after, kept_is, over_passes}
@@ -42,6 +42,16 @@ deep_colored d s w top n (c ∷ cs) (z ∷ zs) free e =
     let y = top + n / w in
     (λ i. deep_if (is_drawn (rect_seen d.cut) (facing_seen d s) x y) (color_seen d s x y c) c z (step_seen d s x y (deep_pixel c z)) (free x y c z) i
     ∷ deep_colored d s w top (n + 1) cs zs free (omega (arith, e)) i)
+
+-- in a span of a row
+pub span_colored : (d : Prepared) (s : Setup) (start y first after n : ℕ) (cs zs : List Color) → IsFree d s → length zs ≡ length cs →
+    deep_pixels (map_from (spanned (in_row start y (color_seen d s)) first after) n cs) zs ≡ map_from (spanned (in_row start y (step_seen d s)) first after) n (deep_pixels cs zs)
+span_colored d s start y first after n [] zs free e = refl
+span_colored d s start y first after n (c ∷ cs) [] free e = cc
+span_colored d s start y first after n (c ∷ cs) (z ∷ zs) free e =
+    let x = n - start in
+    (λ i. deep_if (nat_le first n && nat_lt n after) (color_seen d s x y c) c z (step_seen d s x y (deep_pixel c z)) (free x y c z) i
+    ∷ span_colored d s start y first after (n + 1) cs zs free (omega (arith, e)) i)
 
 -- where every depth passes and none is stored
 pub free_where : (r : Rule) (d : Prepared) (s : Setup) → IsRule r d.state → IsOver r → (facing_seen d s).stencil ≡ 0 → IsFree d s

@@ -12,11 +12,13 @@ use Rattle.int_raster.specs.declared.opaque.Tile.{Tile}
 use Rattle.int_raster.specs.declared.spans.Span.{Span}
 use Rattle.int_raster.specs.Places.{deep_pixel, deep_pixels, spanned, in_row}
 use Rattle.int_raster.specs.Rules.{IsLevel, IsTile, IsStored}
-use Rattle.int_raster.specs.Seen.{step_seen}
-use Rattle.int_raster.proofs.Along.{at_place}
+use Rattle.int_raster.specs.Painted.{bytes_of}
+use Rattle.int_raster.specs.Seen.{step_seen, color_seen}
+use Rattle.int_raster.specs.Tiled.{word_bytes}
+use Rattle.int_raster.proofs.Along.{at_place, opaque_color}
 use Rattle.int_raster.proofs.Changes.{spans_joined}
 use Rattle.int_raster.proofs.Tiled.{tiled_deep}
-use Rattle.int_raster.proofs.Windows.{four_changed}
+use Rattle.int_raster.proofs.Windows.{four_changed, four_placed}
 use mathlib.Core.Logic.{inl, inr}
 
 before_stop : {A : Type 0} (g : ℕ → A → A) (stop i : ℕ) (u : A) → i < stop → g i u ≡ spanned g 0 stop i u
@@ -80,3 +82,47 @@ module _ (t : Tile) (l : Level) (d : Prepared) (s : Setup) (span : Span) (x : �
       spans_joined change (span.start + span.first) (span.start + x) (span.start + x + 4) (deep_pixels olds deeps) (deep_pixels colors depths) (deep_pixels news zs) (omega (arith, low)) (omega arith) done
       (four_changed change (span.start + x) colors depths news zs same many.0 many.1 (lane_is level tile low small stored rest) others)
       ∙ ap (λ n. map_from (spanned change (span.start + span.first) n) 0 (deep_pixels olds deeps)) next
+
+module _ (t : Tile) (l : Level) (d : Prepared) (s : Setup) (span : Span) (x : ℕ) (olds colors news : List Color) where
+  abbrev coloring : ℕ → Color → Color
+  coloring = spanned (in_row span.start span.y (color_seen d s)) 0 (span.start + span.after)
+
+  abbrev at : ℕ → ℕ
+  at j = span.start + x + j
+
+  free_lane : IsLevel l d s → IsTile t l.color l.depth l.rule
+      → ((j : ℕ) → j < 4 → j < span.after - x → slice_index_or news (at j) [] ≡ word_bytes t.color)
+      → ((j : ℕ) → j < 4 → span.after - x ≤ j → slice_index_or news (at j) [] ≡ slice_index_or colors (at j) [])
+      → (j : ℕ) → j < 4 → slice_index_or news (at j) [] ≡ coloring (at j) (slice_index_or colors (at j) [])
+  free_lane level tile stored rest j h =
+      let old = slice_index_or colors (at j) [] in
+      elim (cases_lt j (span.after - x)) [
+        | inl less ↦
+            let near : x + j < span.after = omega (arith, less) in
+            let here : span.start + (x + j) ≡ at j = omega arith in
+            let bytes : word_bytes t.color ≡ bytes_of l.color = ap bytes_of tile.color in
+            stored j h less
+            ∙ bytes
+            ∙ opaque_color d s (x + j) span.y l.color old level.plain.opaque (level.paints (x + j) span.y)
+            ∙ at_place (color_seen d s) span.start span.y (x + j) old
+            ∙ ap (λ i. in_row span.start span.y (color_seen d s) i old) here
+            ∙ before_stop (in_row span.start span.y (color_seen d s)) (span.start + span.after) (at j) old (omega (arith, near))
+        | inr more ↦
+            rest j h more
+            ∙ behind_stop (in_row span.start span.y (color_seen d s)) (span.start + span.after) (at j) old (omega (arith, more))
+      ]
+
+  -- the same of its colour alone
+  pub free_more : IsLevel l d s → IsTile t l.color l.depth l.rule
+      → span.first ≤ x
+      → colors ≡ map_from (spanned coloring (span.start + span.first) (span.start + x)) 0 olds
+      → length news ≡ length colors
+      → ((j : ℕ) → j < 4 → j < span.after - x → slice_index_or news (at j) [] ≡ word_bytes t.color)
+      → ((j : ℕ) → j < 4 → span.after - x ≤ j → slice_index_or news (at j) [] ≡ slice_index_or colors (at j) [])
+      → ((i : ℕ) → (nat_le (span.start + x) i && nat_lt i (span.start + x + 4)) ≡ false → slice_index_or news i [] ≡ slice_index_or colors i [])
+      → news ≡ map_from (spanned coloring (span.start + span.first) (span.start + (x + 4))) 0 olds
+  free_more level tile low done many stored rest others =
+      let next : span.start + x + 4 ≡ span.start + (x + 4) = omega arith in
+      spans_joined coloring (span.start + span.first) (span.start + x) (span.start + x + 4) olds colors news (omega (arith, low)) (omega arith) done
+      (four_placed coloring (span.start + x) colors news [] many (free_lane level tile stored rest) others)
+      ∙ ap (λ n. map_from (spanned coloring (span.start + span.first) n) 0 olds) next

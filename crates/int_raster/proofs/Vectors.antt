@@ -79,6 +79,25 @@ keeps left least more low few =
     (lane (nat_lt 2 left) least more w2 b2 a2 low few)
     (lane (nat_lt 3 left) least more w3 b3 a3 low few))))
 
+-- a lane where a mask holds is the first's, and else the second's
+lane_where : (b : Bool) (x y : ℕ) → cond (top 31 (masked b)) x y ≡ (if b then x else y)
+lane_where true x y = refl
+lane_where false x y = refl
+
+abbrev pub KeepsFirst : ℕ → List ℕ → List ℕ → Type 0
+KeepsFirst left old new = (j : ℕ) → j < 4
+    → slice_index (sel_l (map (top 31) (masked (nat_lt 0 left) ∷ masked (nat_lt 1 left) ∷ masked (nat_lt 2 left) ∷ masked (nat_lt 3 left) ∷ [])) new old) j ≡ (if nat_lt j left then slice_index new j else slice_index old j)
+
+pub keeps_first : (left : ℕ) (old : List ℕ) → length old ≡ 4 → (new : List ℕ) → length new ≡ 4 → KeepsFirst left old new
+keeps_first left =
+    four_lanes (λ old. (new : List ℕ) → length new ≡ 4 → KeepsFirst left old new) (λ a0 a1 a2 a3.
+    four_lanes (λ new. KeepsFirst left (a0 ∷ a1 ∷ a2 ∷ a3 ∷ []) new) (λ b0 b1 b2 b3.
+    below_four _
+    (lane_where (nat_lt 0 left) b0 a0)
+    (lane_where (nat_lt 1 left) b1 a1)
+    (lane_where (nat_lt 2 left) b2 a2)
+    (lane_where (nat_lt 3 left) b3 a3)))
+
 -- each lane of words whose bits are taken and added to
 abbrev pub Deep : (bits depth : ℕ) → List ℕ → Type 0
 Deep bits depth words = (j : ℕ) → j < 4

@@ -35,6 +35,37 @@ outside_is g at i u h = grind (arith, nat_tests)
 inside_is : {A : Type 0} (g : ℕ → A → A) (at i : ℕ) (u : A) → at ≤ i → i < at + 4 → g i u ≡ spanned g at (at + 4) i u
 inside_is g at i u a b = grind (arith, nat_tests)
 
+four_place : {A : Type 0} (g : ℕ → A → A) (at : ℕ) (xs ys : List A) (d : A)
+    → ((j : ℕ) → j < 4 → get_or ys (at + j) d ≡ g (at + j) (get_or xs (at + j) d))
+    → ((i : ℕ) → (nat_le at i && nat_lt i (at + 4)) ≡ false → get_or ys i d ≡ get_or xs i d)
+    → (i : ℕ) → get_or ys i d ≡ spanned g at (at + 4) i (get_or xs i d)
+four_place g at xs ys d inside others i =
+    let still : (nat_le at i && nat_lt i (at + 4)) ≡ false → get_or ys i d ≡ spanned g at (at + 4) i (get_or xs i d) =
+    λ out. others i out ∙ outside_is g at i (get_or xs i d) out in
+    elim (cases_lt i at) [
+      | inl low ↦ still (not_within_low at i low)
+      | inr high ↦ elim (cases_lt i (at + 4)) [
+        | inl near ↦
+            let place : at + (i - at) ≡ i = omega (arith, high) in
+            rw place at (inside (i - at) (omega (arith, near, high))) ∙ inside_is g at i (get_or xs i d) high near
+        | inr far ↦ still (not_within_high at i far)
+      ]
+    ]
+
+-- four places of a list that are changed are a span of it
+pub four_placed : {A : Type 0} (g : ℕ → A → A) (at : ℕ) (xs ys : List A) (d : A) → length ys ≡ length xs
+    → ((j : ℕ) → j < 4 → get_or ys (at + j) d ≡ g (at + j) (get_or xs (at + j) d))
+    → ((i : ℕ) → (nat_le at i && nat_lt i (at + 4)) ≡ false → get_or ys i d ≡ get_or xs i d)
+    → ys ≡ map_from (spanned g at (at + 4)) 0 xs
+four_placed g at xs ys d many inside others =
+    same_places ys (map_from (spanned g at (at + 4)) 0 xs) d
+    (many ∙ sym (length-map_from (spanned g at (at + 4)) 0 xs))
+    (λ i b.
+    let zero_i : 0 + i ≡ i = omega arith in
+    four_place g at xs ys d inside others i
+    ∙ ap (λ k. spanned g at (at + 4) k (get_or xs i d)) (sym zero_i)
+    ∙ sym (get_or-map_from (spanned g at (at + 4)) 0 i xs d (omega (arith, b, many))))
+
 module _ (g : ℕ → Pixel → Pixel) (at : ℕ) (colors depths news zs : List Color) where
   abbrev before : ℕ → Pixel
   before i = deep_pixel (slice_index_or colors i []) (slice_index_or depths i [])
@@ -42,23 +73,7 @@ module _ (g : ℕ → Pixel → Pixel) (at : ℕ) (colors depths news zs : List 
   abbrev now : ℕ → Pixel
   now i = deep_pixel (slice_index_or news i []) (slice_index_or zs i [])
 
-  place_is : ((j : ℕ) → j < 4 → now (at + j) ≡ g (at + j) (before (at + j)))
-      → ((i : ℕ) → (nat_le at i && nat_lt i (at + 4)) ≡ false → (slice_index_or news i [] ≡ slice_index_or colors i []) × (slice_index_or zs i [] ≡ slice_index_or depths i []))
-      → (i : ℕ) → now i ≡ spanned g at (at + 4) i (before i)
-  place_is inside others i =
-      let still : (nat_le at i && nat_lt i (at + 4)) ≡ false → now i ≡ spanned g at (at + 4) i (before i) =
-      λ out. (λ k. deep_pixel ((others i out).0 k) ((others i out).1 k)) ∙ outside_is g at i (before i) out in
-      elim (cases_lt i at) [
-        | inl low ↦ still (not_within_low at i low)
-        | inr high ↦ elim (cases_lt i (at + 4)) [
-          | inl near ↦
-              let place : at + (i - at) ≡ i = omega (arith, high) in
-              rw place at (inside (i - at) (omega (arith, near, high))) ∙ inside_is g at i (before i) high near
-          | inr far ↦ still (not_within_high at i far)
-        ]
-      ]
-
-  -- four places that are changed are a span of a surface
+  -- four places of a surface that are changed are a span of it
   pub four_changed : length depths ≡ length colors → length news ≡ length colors → length zs ≡ length depths
       → ((j : ℕ) → j < 4 → now (at + j) ≡ g (at + j) (before (at + j)))
       → ((i : ℕ) → (nat_le at i && nat_lt i (at + 4)) ≡ false → (slice_index_or news i [] ≡ slice_index_or colors i []) × (slice_index_or zs i [] ≡ slice_index_or depths i []))
@@ -66,16 +81,12 @@ module _ (g : ℕ → Pixel → Pixel) (at : ℕ) (colors depths news zs : List 
   four_changed same many deep inside others =
       let same_now : length zs ≡ length news = deep ∙ same ∙ sym many in
       let long : length (deep_pixels news zs) ≡ length colors = length-deep news zs same_now ∙ many in
-      let old_long : length (deep_pixels colors depths) ≡ length colors = length-deep colors depths same in
-      same_places (deep_pixels news zs) (map_from (spanned g at (at + 4)) 0 (deep_pixels colors depths)) (deep_pixel [] [])
-      (long ∙ sym old_long ∙ sym (length-map_from (spanned g at (at + 4)) 0 (deep_pixels colors depths)))
-      (λ i b.
-      let zero_i : 0 + i ≡ i = omega arith in
+      four_placed g at (deep_pixels colors depths) (deep_pixels news zs) (deep_pixel [] []) (long ∙ sym (length-deep colors depths same))
+      (λ j h. deep-get news zs (at + j) same_now ∙ inside j h ∙ ap (g (at + j)) (sym (deep-get colors depths (at + j) same)))
+      (λ i out.
       deep-get news zs i same_now
-      ∙ place_is inside others i
-      ∙ ap (spanned g at (at + 4) i) (sym (deep-get colors depths i same))
-      ∙ ap (λ k. spanned g at (at + 4) k (get_or (deep_pixels colors depths) i (deep_pixel [] []))) (sym zero_i)
-      ∙ sym (get_or-map_from (spanned g at (at + 4)) 0 i (deep_pixels colors depths) (deep_pixel [] []) (omega (arith, b, long, old_long))))
+      ∙ (λ k. deep_pixel ((others i out).0 k) ((others i out).1 k))
+      ∙ sym (deep-get colors depths i same))
 
 -- a change that ends at a place, over a span that goes behind it
 cut_at : {A : Type 0} (g : ℕ → A → A) (first stop x k : ℕ) (u : A) → stop ≤ x → spanned (spanned g 0 stop) first x k u ≡ spanned g first stop k u

@@ -1,5 +1,5 @@
 -- The depth test of a state word by the order of two depths.
-use Rattle.std.specs.Prelude.{◌≡◌, ◌≤◌, ◌<◌, ◌+◌, ◌*◌, ◌/◌, ◌%◌, ◌^◌, ℕ, ◌==◌, nat_lt, Bool, true, false, if◌then◌else◌, IfSome}
+use Rattle.std.specs.Prelude.{◌≡◌, ◌≤◌, ◌<◌, ◌+◌, ◌*◌, ◌/◌, ◌%◌, ◌^◌, ℕ, ◌==◌, nat_lt, Bool, true, false, if◌then◌else◌, IfSome, IsTrue}
 use Rattle.gfx_model.specs.Number.{u32_at}
 use Rattle.gfx_model.specs.Words.{depth_test_of, writes_depth}
 use Rattle.gfx_model.specs.Pixel.{passes_depth}
@@ -51,12 +51,14 @@ pub record IsMix (m : Mix) (d : Prepared) (s : Setup) : Type 0 where
 abbrev pub IsFree : Prepared → Setup → Type 0
 IsFree d s = (x y : ℕ) (c z : Color) → deep_pixel (color_seen d s x y c) z ≡ step_seen d s x y (deep_pixel c z)
 
--- a tile has this colour, goes over the stored depths that this depth passes by a rule, and stores it where the rule does
+-- a tile has this colour, goes over the stored depths that this depth passes by a rule, and stores it where the rule does; it is
+-- free only where the rule lets every depth pass and stores none
 pub record IsTile (t : Tile) (c : Color) (z : ℕ) (r : Rule) : Type 0 where
   pub color : word_bytes t.color ≡ c
   pub low : t.least ≤ 16777216
   pub few : t.more ≤ 16777215
   pub test : (stored : ℕ) → stored < 16777216 → by_order r z stored ≡ is_among t.least t.more stored
+  pub free : IsTrue t.free → IsOver r
   pub stores : (word : ℕ) → word < 2 ^ 32 → deep_word t.bits t.depth word ≡ (if r.writes then z else word % 2 ^ 24) + 2 ^ 24 * (word / 2 ^ 24)
 
 -- the texels of a pixel's colour and depth after a tile is stored over others

@@ -11,14 +11,14 @@ ghost use Rattle.int_raster.specs.Places.{above, deep_pixels, spanned, by_place,
 ghost use Rattle.int_raster.specs.Filled.{AreLimits, AreInCut};
 ghost use Rattle.int_raster.specs.Joined.{HoldsTest, HoldRows, AreInside, in_turn};
 ghost use Rattle.int_raster.specs.Painted.{PaintsSpan, Paints, HoldsPiece, HoldsDepths, AreDepths, HasDepths, HasWideDepths, HasSpanDepths, HasWideSpanDepths};
-ghost use Rattle.int_raster.specs.Rules.{IsPlain, IsMix, IsLevel, IsTile, IsOver, IsFree};
+ghost use Rattle.int_raster.specs.Rules.{IsPlain, IsMix, IsLevel, IsTile, IsFree};
 ghost use Rattle.int_raster.specs.Seen.{paint_seen, prepared_seen, step_seen, change_seen};
 
 use crate::colors::triangle_colors;
 use crate::columns::{columns_at, drawn_columns, drawn_limits, drawn_rows, meets};
 use crate::deep_spans::{fill, step, step_exactly, store, store_level, store_shade};
 use crate::lists::Prepared;
-use crate::opaque::{Level, Mix, Rule, Tile, rule_of};
+use crate::opaque::{Level, Mix, Rule, Tile, is_over, rule_of};
 use crate::painters::{Brush, Painter, brush_of, is_opaque, one_color, one_depth, painter_of};
 use crate::painting::stencil_of;
 use crate::pairs::with_next;
@@ -503,8 +503,62 @@ fn triangle_painted(
     }
 }
 
-/// Draws a triangle pixel by pixel with its depth: as a tile where it is one, and then perhaps with the next one: whether with it.
-fn triangle_tested(
+/// Whether every depth passes a triangle's own rule and none is stored.
+fn is_plain_free(rule: &Rule, setup: &Setup, draw: &Prepared) -> bool
+    requires { IsPlain rule.now draw.now setup.now }
+    ensures { IsTrue result → IsFree draw.now setup.now }
+{
+    is_over(rule)
+}
+
+/// Whether a triangle that has no rule of its own neither tests nor stores a depth or a stencil.
+fn is_other_free(setup: &Setup, draw: &Prepared) -> bool
+    ensures { IsTrue result → IsFree draw.now setup.now }
+{
+    if stencil_of(draw, setup).word() != 0 {
+        return false;
+    }
+    let rule = rule_of(&draw.state);
+    is_over(&rule)
+}
+
+/// Whether a triangle neither tests nor stores a depth or a stencil.
+fn is_free(rule: &Option<Rule>, setup: &Setup, draw: &Prepared) -> bool
+    requires { IfSome rule.now (λ r. IsPlain r draw.now setup.now) }
+    ensures { IsTrue result → IsFree draw.now setup.now }
+{
+    match rule {
+        Some(rule) => is_plain_free(rule, setup, draw),
+        None => is_other_free(setup, draw),
+    }
+}
+
+/// Draws the colours alone of a triangle that neither tests nor stores a depth or a stencil.
+fn triangle_free(
+    colors: &mut [[u8; 4]],
+    depths: &[[u8; 4]],
+    rows: &Rows,
+    setup: &Setup,
+    draw: &Prepared,
+)
+    requires whole { length colors.old ≡ rows.now.width * rows.now.count }
+    requires same { length depths.now ≡ length colors.old }
+    requires free { IsFree draw.now setup.now }
+    ensures { deep_pixels colors.new depths.now ≡ map_from (by_place rows.now.width (below rows.now.top (change_seen draw.now setup.now))) 0 (deep_pixels colors.old depths.now) }
+{
+    let painter = painter_of(setup, draw, rows.width, rows.bottom());
+    triangle_colors(colors, rows, &painter, setup, draw);
+}
+
+/// Whether a triangle is drawn in 32 rows of a band at most.
+fn is_short(setup: &Setup, draw: &Prepared, rows: &Rows) -> bool {
+    let (top, bottom) = drawn_rows(setup, &draw.cut, rows);
+    bottom - top <= 32
+}
+
+/// Draws a triangle: as a tile where it is one, but for one that is free and tall, and then perhaps with the next one: whether with it.
+/// Of what is no tile and free colours alone are drawn.
+fn triangle_deep(
     colors: &mut [[u8; 4]],
     depths: &mut [[u8; 4]],
     rows: &Rows,
@@ -523,54 +577,17 @@ fn triangle_tested(
     let level = level_of(setup, draw, &rule);
     if let Some(level) = &level {
         if let Some(tile) = &level.tile {
-            return triangle_tiled(colors, depths, rows, tile, level, setup, next, more, draw);
+            if !tile.free || is_short(setup, draw, rows) {
+                return triangle_tiled(colors, depths, rows, tile, level, setup, next, more, draw);
+            }
         }
     }
-    triangle_painted(colors, depths, rows, level, rule, setup, draw);
+    if is_free(&rule, setup, draw) {
+        triangle_free(colors, depths, rows, setup, draw);
+    } else {
+        triangle_painted(colors, depths, rows, level, rule, setup, draw);
+    }
     false
-}
-
-/// Whether every depth passes and none is stored.
-fn is_over(rule: &Rule) -> bool
-    ensures { IsTrue result → IsOver rule.now }
-{
-    let rule = *rule;
-    rule.less && rule.equal && rule.greater && !rule.writes
-}
-
-/// Whether a triangle neither tests nor stores a depth or a stencil.
-fn is_free(setup: &Setup, draw: &Prepared) -> bool
-    ensures { IsTrue result → IsFree draw.now setup.now }
-{
-    if stencil_of(draw, setup).word() != 0 {
-        return false;
-    }
-    let rule = rule_of(&draw.state);
-    is_over(&rule)
-}
-
-/// Draws a triangle: by its colours alone where it is free, and else perhaps with the next one: whether with it.
-fn triangle_deep(
-    colors: &mut [[u8; 4]],
-    depths: &mut [[u8; 4]],
-    rows: &Rows,
-    setup: &Setup,
-    next: &Setup,
-    more: bool,
-    draw: &Prepared,
-) -> bool
-    requires whole { length colors.old ≡ rows.now.width * rows.now.count }
-    requires same { length depths.old ≡ length colors.old }
-    ensures more { IsTrue result → IsTrue more }
-    ensures one { result ≡ false → deep_pixels colors.new depths.new ≡ map_from (by_place rows.now.width (below rows.now.top (change_seen draw.now setup.now))) 0 (deep_pixels colors.old depths.old) }
-    ensures two { IsTrue result → deep_pixels colors.new depths.new ≡ map_from (by_place rows.now.width (below rows.now.top (change_seen draw.now next.now))) 0 (map_from (by_place rows.now.width (below rows.now.top (change_seen draw.now setup.now))) 0 (deep_pixels colors.old depths.old)) }
-{
-    if is_free(setup, draw) {
-        let painter = painter_of(setup, draw, rows.width, rows.bottom());
-        triangle_colors(colors, rows, &painter, setup, draw);
-        return false;
-    }
-    triangle_tested(colors, depths, rows, setup, next, more, draw)
 }
 
 /// Draws a triangle where it meets the rows of the band, perhaps with the next one: whether with it.

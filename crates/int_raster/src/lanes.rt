@@ -82,3 +82,12 @@ pub(crate) fn kept(old: u32x4, new: u32x4, words: u32x4, least: u32, more: u32, 
     let on = inside & behind.simd_le(u32x4::splat(more));
     on.select(new, old)
 }
+
+/// The new words in the first lanes, and the old ones in the others.
+#[inline(always)]
+pub(crate) fn first_kept(old: u32x4, new: u32x4, left: u32) -> u32x4
+    ensures { (j : ℕ) → j < 4 → slice_index result j ≡ (if nat_lt j left then slice_index new j else slice_index old j) }
+{
+    let lanes = u32x4::from_array([0, 1, 2, 3]);
+    lanes.simd_lt(u32x4::splat(left)).select(new, old)
+}

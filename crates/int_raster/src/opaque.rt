@@ -1,7 +1,7 @@
 // Fragments that are stored without a stencil, by a depth test.
-ghost use Rattle.std.specs.Prelude.{◌≡◌, ◌≤◌, ◌<◌, ◌%◌, ◌^◌, ◌+◌, ◌*◌, ◌/◌, ◌==◌, ◌&&◌, ◌||◌, ℕ, nat_lt, if◌then◌else◌, Some};
+ghost use Rattle.std.specs.Prelude.{◌≡◌, ◌≤◌, ◌<◌, ◌%◌, ◌^◌, ◌+◌, ◌*◌, ◌/◌, ◌==◌, ◌&&◌, ◌||◌, ℕ, nat_lt, if◌then◌else◌, Some, IsTrue};
 ghost use Rattle.gfx_model.specs.Pixel.{pixel_step as model_step};
-ghost use Rattle.int_raster.specs.Rules.{IsRule};
+ghost use Rattle.int_raster.specs.Rules.{IsRule, IsOver};
 
 use crate::stores::Store;
 use gfx_words::StateWord;
@@ -31,7 +31,7 @@ pub(crate) struct Mix {
 }
 
 /// A colour as a word, the bits of a depth word that stay under it and what comes to them, the least of the stored depths over which
-/// it goes, and how many more there are.
+/// it goes, and how many more there are; free only where it goes over all of them and stores none.
 #[derive(Clone, Copy)]
 pub(crate) struct Tile {
     pub color: u32,
@@ -39,6 +39,7 @@ pub(crate) struct Tile {
     pub depth: u32,
     pub least: u32,
     pub more: u32,
+    pub free: bool,
 }
 
 /// A triangle of one colour and one depth that is stored as it is painted, where its depth test passes: also as a tile, where the
@@ -61,6 +62,14 @@ pub(crate) fn rule_of(state: &StateWord) -> Rule
         greater: depth_test(test, 1, 0),
         writes: state.writes_depth(),
     }
+}
+
+/// Whether every depth passes and none is stored.
+pub(crate) fn is_over(rule: &Rule) -> bool
+    ensures { IsTrue result → IsOver rule.now }
+{
+    let rule = *rule;
+    rule.less && rule.equal && rule.greater && !rule.writes
 }
 
 #[inline(always)]

@@ -4,12 +4,12 @@ ghost use Rattle.gfx_model.specs.Number.{map_from, u32_at};
 ghost use Rattle.int_raster.specs.Places.{deep_pixels, spanned, in_row};
 ghost use Rattle.int_raster.specs.Tiled.{word_bytes, deep_word, is_among};
 ghost use Rattle.int_raster.specs.Rules.{by_order, IsLevel, IsStored, IsTile};
-ghost use Rattle.int_raster.specs.Seen.{step_seen};
+ghost use Rattle.int_raster.specs.Seen.{step_seen, color_seen};
 
 use crate::deep_spans::store_level;
-use crate::lanes::{kept, put_words, with_depth, word_of, words_of};
+use crate::lanes::{first_kept, kept, put_words, with_depth, word_of, words_of};
 use crate::lists::Prepared;
-use crate::opaque::{Level, Rule, Tile};
+use crate::opaque::{Level, Rule, Tile, is_over};
 use crate::spans::Span;
 use std::simd::prelude::*;
 use tri_cover::Setup;
@@ -104,6 +104,7 @@ pub(crate) fn tile_of(color: [u8; 4], depth: u32, rule: &Rule) -> Option<Tile>
         bits,
         least,
         more,
+        free: is_over(rule),
     })
 }
 
@@ -189,6 +190,48 @@ fn store_tile(
     }
 }
 
+/// Stores the colour of a tile that is free in the first ones of four places.
+#[inline(always)]
+fn store_first(colors: &mut [[u8; 4]], at: usize, left: u32, tile: &Tile)
+    requires inside { at + 4 ≤ length colors.old }
+    ensures many { length colors.new ≡ length colors.old }
+    ensures stored { (j : ℕ) → j < 4 → j < left → slice_index_or colors.new (at + j) [] ≡ word_bytes tile.now.color }
+    ensures rest { (j : ℕ) → j < 4 → left ≤ j → slice_index_or colors.new (at + j) [] ≡ slice_index_or colors.old (at + j) [] }
+    ensures others { (i : ℕ) → (nat_le at i && nat_lt i (at + 4)) ≡ false → slice_index_or colors.new i [] ≡ slice_index_or colors.old i [] }
+{
+    let old = words_of(colors, at);
+    let new = u32x4::splat(tile.color);
+    put_words(colors, at, first_kept(old, new, left));
+}
+
+/// Stores a tile that is free in such a span: its colour alone, whatever the depths are.
+#[inline(always)]
+fn store_free(
+    colors: &mut [[u8; 4]],
+    span: &Span,
+    tile: &Tile,
+    level: &Level,
+    setup: &Setup,
+    draw: &Prepared,
+)
+    requires inside { span.now.start + span.now.after + 3 ≤ length colors.old }
+    requires level { IsLevel level.now draw.now setup.now }
+    requires tile { IsTile tile.now level.now.color level.now.depth level.now.rule }
+    ensures { colors.new ≡ map_from (spanned (in_row span.now.start span.now.y (color_seen draw.now setup.now)) (span.now.start + span.now.first) (span.now.start + span.now.after)) 0 colors.old }
+{
+    let new = u32x4::splat(tile.color);
+    let after = span.after as u32;
+    let whole = after.saturating_sub(3);
+    let mut x = span.first as u32;
+    while x < whole {
+        put_words(colors, span.start + x as usize, new);
+        x += 4;
+    }
+    if x < after {
+        store_first(colors, span.start + x as usize, after - x, tile);
+    }
+}
+
 /// Stores a tile in a span: in windows, and at the end of the lists pixel by pixel.
 #[inline(always)]
 pub(crate) fn draw_tile(
@@ -208,6 +251,8 @@ pub(crate) fn draw_tile(
 {
     if colors.len() - (span.start + span.after as usize) < 3 {
         store_level(colors, depths, span, level, setup, draw);
+    } else if tile.free {
+        store_free(colors, span, tile, level, setup, draw);
     } else {
         store_tile(colors, depths, span, tile, level, setup, draw);
     }

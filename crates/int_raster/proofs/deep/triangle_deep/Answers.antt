@@ -1,9 +1,4 @@
-use Rattle.std.proofs.Common.{ap, ◌∙◌}
-use Rattle.int_raster.specs.Places.{deep_pixels}
-use Rattle.int_raster.proofs.Colored.{deep_colored}
 use Rattle.int_raster.proofs.deep.triangle_deep.Goals as goal
 
-pub returns-then-is_free-clause-one : goal.returns-then-is_free-clause-one
-returns-then-is_free-clause-one c alone =
-    ap (λ cs. deep_pixels cs c.args.depths.now) c.triangle_colors.ensures
-    ∙ deep_colored c.args.draw.now c.args.setup.now c.args.rows.now.width c.args.rows.now.top 0 c.args.colors.now c.args.depths.now (c.is_free.ensures c.if-is_free.true) c.requires.same
+pub triangle_free-requires-clause-free : goal.triangle_free-requires-clause-free
+triangle_free-requires-clause-free c = c.is_free.ensures c.if-is_free.true

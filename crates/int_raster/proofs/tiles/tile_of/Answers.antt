@@ -7,5 +7,6 @@ returns c = record {
   low = c.among-least.ensures.low;
   few = c.among-least.ensures.few;
   test = λ stored small. c.passed-first.ensures.test stored small ∙ c.among-least.ensures.test stored small;
+  free = c.is_over.ensures;
   stores = c.kept_bits-bits.ensures;
 }
