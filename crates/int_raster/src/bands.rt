@@ -10,6 +10,7 @@ use crate::deep::draw_deep;
 use crate::flat::draw_flat;
 use crate::lists::DrawList;
 use crate::rows::Rows;
+use crate::watch::Watch;
 use crate::wipe::Wipe;
 use crate::wipes::{wipe_deep, wipe_flat};
 use fix_math::tell_texels;
@@ -171,6 +172,7 @@ pub(crate) fn flat_bands<R: Threads>(
     wipes: &[Wipe],
     list: &DrawList<'_>,
     bands: u32,
+    watch: &Watch,
     colors: &mut [[u8; 4]],
 )
     requires { length colors.old ≡ rows.now.width * rows.now.count }
@@ -178,6 +180,7 @@ pub(crate) fn flat_bands<R: Threads>(
 {
     if bands < 2 {
         flat_band(rows, wipes, list, colors);
+        watch.look();
         return;
     }
     let more = bands - 1;
@@ -188,11 +191,14 @@ pub(crate) fn flat_bands<R: Threads>(
         &mut ||
             requires { length above.now ≡ upper.width * upper.count }
             ensures { above.exit.now ≡ flat_drawn upper.width upper.top (flat_wiped upper.width upper.top above.entry.now (wipes_seen wipes.entry.now)) list.entry.now }
-        { flat_band(&upper, wipes, list, above) },
+        {
+            watch.begin();
+            flat_band(&upper, wipes, list, above)
+        },
         &mut ||
             requires { length under.now ≡ lower.width * lower.count }
             ensures { under.exit.now ≡ flat_drawn lower.width lower.top (flat_wiped lower.width lower.top under.entry.now (wipes_seen wipes.entry.now)) list.entry.now }
-        { flat_bands(rt, &lower, wipes, list, more, under) },
+        { flat_bands(rt, &lower, wipes, list, more, watch, under) },
     );
 }
 
@@ -203,6 +209,7 @@ pub(crate) fn deep_bands<R: Threads>(
     wipes: &[Wipe],
     list: &DrawList<'_>,
     bands: u32,
+    watch: &Watch,
     colors: &mut [[u8; 4]],
     depths: &mut [[u8; 4]],
 )
@@ -212,6 +219,7 @@ pub(crate) fn deep_bands<R: Threads>(
 {
     if bands < 2 {
         deep_band(rows, wipes, list, colors, depths);
+        watch.look();
         return;
     }
     let more = bands - 1;
@@ -224,10 +232,13 @@ pub(crate) fn deep_bands<R: Threads>(
         &mut ||
             requires { (length above.now ≡ upper.width * upper.count) × (length near.now ≡ length above.now) }
             ensures { deep above.exit.now near.exit.now ≡ deep_drawn upper.width upper.top (deep_wiped upper.width upper.top (deep above.entry.now near.entry.now) (wipes_seen wipes.entry.now)) list.entry.now }
-        { deep_band(&upper, wipes, list, above, near) },
+        {
+            watch.begin();
+            deep_band(&upper, wipes, list, above, near)
+        },
         &mut ||
             requires { (length under.now ≡ lower.width * lower.count) × (length far.now ≡ length under.now) }
             ensures { deep under.exit.now far.exit.now ≡ deep_drawn lower.width lower.top (deep_wiped lower.width lower.top (deep under.entry.now far.entry.now) (wipes_seen wipes.entry.now)) list.entry.now }
-        { deep_bands(rt, &lower, wipes, list, more, under, far) },
+        { deep_bands(rt, &lower, wipes, list, more, watch, under, far) },
     );
 }

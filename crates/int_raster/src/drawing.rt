@@ -8,6 +8,7 @@ use crate::bands::{deep_band, deep_bands, flat_band, flat_bands};
 use crate::lists::DrawList;
 use crate::rows::Rows;
 use crate::surfaces::Surface;
+use crate::watch::Watch;
 use crate::wipe::Wipe;
 use std::thread::Threads;
 
@@ -48,18 +49,39 @@ pub fn draw_bands<R: Threads>(
     ensures depth { option_map sides_seen surface.new.depth ≡ option_map sides_seen surface.old.depth }
     ensures counts { (length surface.new.color.texels ≡ length surface.old.color.texels) × (option_map (λ d. length d.texels) surface.new.depth ≡ option_map (λ d. length d.texels) surface.old.depth) }
 {
+    draw_watched(rt, surface, wipes, list, bands);
+}
+
+/// The same, and answers whether one of the bands began late.
+pub(crate) fn draw_watched<R: Threads>(
+    rt: &R,
+    surface: &mut Surface,
+    wipes: &[Wipe],
+    list: &DrawList<'_>,
+    bands: u32,
+) -> bool
+    ensures drawn { surface_seen surface.new ≡ fold drawn_prepared (fold wiped (surface_seen surface.old) (wipes_seen wipes.now)) list.now }
+    ensures color { sides_seen surface.new.color ≡ sides_seen surface.old.color }
+    ensures depth { option_map sides_seen surface.new.depth ≡ option_map sides_seen surface.old.depth }
+    ensures counts { (length surface.new.color.texels ≡ length surface.old.color.texels) × (option_map (λ d. length d.texels) surface.new.depth ≡ option_map (λ d. length d.texels) surface.old.depth) }
+{
     let rows = Rows {
         width: surface.color.width,
         top: 0,
         count: surface.color.height,
     };
     let bands = bands.min(rows.count as u32).min(MOST_BANDS);
+    let watch = Watch::new(bands);
     let colors = surface.color.texels.as_mut_slice();
     match &mut surface.depth {
-        None => flat_bands(rt, &rows, wipes, list, bands, colors),
+        None => {
+            flat_bands(rt, &rows, wipes, list, bands, &watch, colors);
+            watch.was_late()
+        }
         Some(depth) => {
             let depths = depth.texels.as_mut_slice();
-            deep_bands(rt, &rows, wipes, list, bands, colors, depths);
+            deep_bands(rt, &rows, wipes, list, bands, &watch, colors, depths);
+            watch.was_late()
         }
     }
 }

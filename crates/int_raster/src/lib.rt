@@ -28,6 +28,7 @@ mod stores;
 mod surfaces;
 mod texts;
 mod tiles;
+mod watch;
 mod wipe;
 mod wipes;
 

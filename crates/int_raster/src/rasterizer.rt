@@ -4,10 +4,11 @@ ghost use Rattle.int_raster.specs.Drawing.{drawn_prepared};
 ghost use Rattle.int_raster.specs.Seen.{surface_seen, sides_seen};
 ghost use Rattle.int_raster.specs.Wiping.{wiped, wipes_seen};
 
-use crate::drawing::{draw_bands, draw_view};
+use crate::drawing::{draw_view, draw_watched};
 use crate::lists::DrawList;
 use crate::surfaces::Surface;
 use crate::texts::{write_parts, write_pieces};
+use crate::watch::{Pause, Watch};
 use crate::wipe::Wipe;
 use std::thread;
 use std::thread::Threads;
@@ -59,6 +60,7 @@ const MOST_PAID: u64 = 8;
 pub struct BandRasterizer<'r, R> {
     rt: &'r R,
     processors: Option<u64>,
+    pause: Pause,
 }
 
 impl<'r, R: Threads> BandRasterizer<'r, R> {
@@ -67,6 +69,7 @@ impl<'r, R: Threads> BandRasterizer<'r, R> {
         BandRasterizer {
             rt,
             processors: None,
+            pause: Pause::new(),
         }
     }
 
@@ -92,18 +95,22 @@ impl<'r, R: Threads> BandRasterizer<'r, R> {
             return 1;
         }
         let bands = worth.min(self.count()).min(MOST_PAID) as u32;
-        bands.max(1)
+        self.pause.allowed(bands).max(1)
     }
 }
 
 impl<'r, R: Threads> Rasterizer for BandRasterizer<'r, R> {
     fn draw(&mut self, surface: &mut Surface, wipes: &[Wipe], list: &DrawList<'_>) {
         let bands = self.bands(list.work());
-        draw_bands(self.rt, surface, wipes, list, bands);
+        let late = draw_watched(self.rt, surface, wipes, list, bands);
+        self.pause.heed(bands, late);
     }
 
     fn write_text(&mut self, room: &mut [u8], colors: &[[u8; 4]], wants_sum: bool) -> Option<u32> {
         let parts = self.bands((colors.len() as u64).saturating_mul(WORK_OF_TEXT));
-        write_parts(self.rt, room, colors, wants_sum, parts)
+        let watch = Watch::new(parts);
+        let sum = write_parts(self.rt, room, colors, wants_sum, parts, &watch);
+        self.pause.heed(parts, watch.was_late());
+        sum
     }
 }

@@ -2,6 +2,7 @@
 ghost use Rattle.std.specs.Prelude.{◌≡◌, ◌≤◌, ◌-◌, ◌*◌, length, take, flat_map};
 ghost use Rattle.int_raster.specs.Texts.{IsWritten, both_told};
 
+use crate::watch::Watch;
 use io_edge::sum_of;
 use rayon::join_mut;
 use std::thread::Threads;
@@ -90,12 +91,15 @@ pub(crate) fn write_parts<R: Threads>(
     colors: &[[u8; 4]],
     wants_sum: bool,
     parts: u32,
+    watch: &Watch,
 ) -> Option<u32>
     requires { length room.old ≡ 3 * length colors.now }
     ensures { IsWritten wants_sum result colors.now room.new }
 {
     if parts < 2 {
-        return write_pieces(room, colors, wants_sum);
+        let sum = write_pieces(room, colors, wants_sum);
+        watch.look();
+        return sum;
     }
     let more = parts - 1;
     let middle = colors.len() / parts as usize;
@@ -106,11 +110,14 @@ pub(crate) fn write_parts<R: Threads>(
         &mut || -> Option<u32>
             requires { length above.now ≡ 3 * length near.now }
             ensures { IsWritten wants_sum result near.entry.now above.exit.now }
-        { write_pieces(above, near, wants_sum) },
+        {
+            watch.begin();
+            write_pieces(above, near, wants_sum)
+        },
         &mut || -> Option<u32>
             requires { length under.now ≡ 3 * length far.now }
             ensures { IsWritten wants_sum result far.entry.now under.exit.now }
-        { write_parts(rt, under, far, wants_sum, more) },
+        { write_parts(rt, under, far, wants_sum, more, watch) },
     );
     sum_of_both(first, second)
 }

@@ -6,7 +6,7 @@ use Rattle.int_raster.specs.Bands.{deep, flat_drawn, deep_drawn, flat_wiped, dee
 use Rattle.int_raster.specs.Wiping.{wiped, wipes_seen}
 use Rattle.int_raster.proofs.Wholes.{refill}
 use Rattle.int_raster.proofs.Stacks.{flat_whole, deep_whole}
-use Rattle.int_raster.proofs.drawing.draw_bands.Goals as goal
+use Rattle.int_raster.proofs.drawing.draw_watched.Goals as goal
 
 pub returns-in-None-clause-drawn : goal.returns-in-None-clause-drawn
 returns-in-None-clause-drawn g c =
@@ -25,8 +25,8 @@ returns-in-None-clause-drawn g c =
     ∙ sym (flat_whole w h old ws ds)
     ∙ sym (λ i. fold drawn_prepared (fold wiped (record { color = record { width = w; height = h; texels = old }; depth = option_map texels_seen (none i) }) ws) ds)
 
-pub returns-in-Some-clause-drawn : goal.returns-in-Some-clause-drawn
-returns-in-Some-clause-drawn g c =
+pub returns-clause-drawn : goal.returns-clause-drawn
+returns-clause-drawn g c =
     let s = c.args.surface.now in
     let d = c.in-Some.depth in
     let w = s.color.width in
