@@ -56,6 +56,7 @@ const MOST_PAID: u64 = 8;
 /// Makes the draws in bands of whole rows, side by side, where their work is worth more threads than the one that calls: one
 /// band for each 131,072 pixels that the triangles cover by their areas, a triangle itself counting as 400 more, at most 8, and no
 /// more than there are processors, which are asked for once. Texts are written in as many parts, the text of a texel counting as two pixels.
+/// For a while after a band or a part that began late, each is made by the thread that calls.
 #[derive(Drop)]
 pub struct BandRasterizer<'r, R> {
     rt: &'r R,
