@@ -39,7 +39,7 @@ impl Watch {
 }
 
 // How many forks the first pause takes, and how many each takes at most.
-const SHORTEST: u32 = 8;
+const SHORTEST: u32 = 1;
 
 const LONGEST: u32 = 512;
 
