@@ -13,6 +13,7 @@ ghost use Rattle.int_raster.specs.Painted.{shade_at, PaintsSpan, Paints, IsOpaqu
 ghost use Rattle.int_raster.specs.Seen.{paint_seen, color_seen, color_change};
 
 use crate::columns::{drawn_columns, drawn_limits, drawn_rows};
+use crate::lanes::{put_words, words_of};
 use crate::lists::Prepared;
 use crate::painters::{Painter, Shade, is_opaque, packed, value_at, whole};
 use crate::painting::stepped;
@@ -93,7 +94,15 @@ fn store<S: Store>(
     ensures { colors.new ≡ map_from (spanned (in_row span.now.start span.now.y (color_seen draw.now setup.now)) (span.now.start + span.now.first) (span.now.start + span.now.after)) 0 colors.old }
 {
     let span = *span;
-    for x in span.first..span.after {
+    let (first, after) = (span.first as usize, span.after as usize);
+    let mut next = first;
+    while next + 4 <= after {
+        let old = words_of(colors, span.start + next);
+        let four = words_of(paints, next - first);
+        put_words(colors, span.start + next, store.four_over(four, old));
+        next += 4;
+    }
+    for x in next as u16..span.after {
         let old = colors[span.start + x as usize];
         let color = paints[(x - span.first) as usize];
         colors[span.start + x as usize] = store.stored_over(color, old);

@@ -9,13 +9,15 @@ ghost use Rattle.int_raster.specs.Painted.{shade_at, HoldsPiece, HoldsDepths, Ar
 ghost use Rattle.int_raster.specs.Rules.{IsLevel, IsPlain, IsRule};
 ghost use Rattle.int_raster.specs.Seen.{facing_seen, paint_seen, step_seen};
 
+use crate::lanes::{numbers_of, put_words, words_of};
 use crate::lists::Prepared;
-use crate::opaque::{Level, Rule, stored_after};
+use crate::opaque::{FourRules, Level, Rule, four_kept, four_pass, four_rules, stored_after};
 use crate::painters::{Shade, value_at};
 use crate::painting::{stencil_of, stepped, stepped_by};
 use crate::spans::Span;
 use crate::stores::{Opaque, Store};
 use pixel_ops::Pixel;
+use std::simd::prelude::*;
 use tri_cover::{Ramp, Setup};
 
 /// From so many columns on it pays to copy what does not change along a span. What is borrowed may change with each pixel
@@ -268,6 +270,24 @@ pub(crate) fn store_shade(
     }
 }
 
+/// Stores four painted colours where their depths pass.
+#[inline(always)]
+fn store_four<S: Store>(
+    colors: &mut [[u8; 4]],
+    depths: &mut [[u8; 4]],
+    at: usize,
+    paints: u32x4,
+    news: u32x4,
+    rules: &FourRules,
+    store: &S,
+) {
+    let words = words_of(depths, at);
+    let old = words_of(colors, at);
+    let pass = four_pass(rules, news, words);
+    put_words(colors, at, pass.select(store.four_over(paints, old), old));
+    put_words(depths, at, four_kept(rules, pass, news, words));
+}
+
 /// Stores painted colours in a piece where their depths pass.
 pub(crate) fn store<S: Store>(
     colors: &mut [[u8; 4]],
@@ -294,7 +314,16 @@ pub(crate) fn store<S: Store>(
 {
     let (span, rule) = (*span, *rule);
     let start = span.start;
-    for x in span.first..span.after {
+    let rules = four_rules(&rule);
+    let (first, after) = (span.first as usize, span.after as usize);
+    let mut next = first;
+    while next + 4 <= after {
+        let four = words_of(paints, next - first);
+        let deep = numbers_of(news, next - first);
+        store_four(colors, depths, start + next, four, deep, &rules, store);
+        next += 4;
+    }
+    for x in next as u16..span.after {
         let old = colors[start + x as usize];
         let word = depth_word(depths[start + x as usize]);
         let color = paints[(x - span.first) as usize];

@@ -62,6 +62,20 @@ pub(crate) fn put_words(texels: &mut [[u8; 4]], at: usize, words: u32x4)
     texels[at + 3] = d;
 }
 
+/// Four numbers from a place on.
+#[inline(always)]
+pub(crate) fn numbers_of(numbers: &[u32], at: usize) -> u32x4
+    requires { at + 4 ≤ length numbers.now }
+    ensures { (j : ℕ) → j < 4 → slice_index result j ≡ slice_index numbers.now (at + j) }
+{
+    u32x4::from_array([
+        numbers[at],
+        numbers[at + 1],
+        numbers[at + 2],
+        numbers[at + 3],
+    ])
+}
+
 /// Some bits of words, with a number that comes to them.
 #[inline(always)]
 pub(crate) fn with_depth(words: u32x4, bits: u32, depth: u32) -> u32x4

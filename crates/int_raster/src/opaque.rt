@@ -6,6 +6,7 @@ ghost use Rattle.int_raster.specs.Rules.{IsRule};
 use crate::stores::Store;
 use gfx_words::StateWord;
 use pixel_ops::{Blending, depth_test};
+use std::simd::prelude::*;
 
 /// The depth test by the order of the new and the stored depth, and whether a depth that passes is stored.
 #[derive(Clone, Copy)]
@@ -86,6 +87,41 @@ fn passes(rule: &Rule, new: u32, stored: u32) -> bool
         both(rule.equal, new == stored),
         both(rule.greater, stored < new),
     )
+}
+
+/// A rule whose parts stand in each of four lanes.
+#[derive(Clone, Copy)]
+pub(crate) struct FourRules {
+    less: mask32x4,
+    equal: mask32x4,
+    greater: mask32x4,
+    writes: mask32x4,
+}
+
+pub(crate) fn four_rules(rule: &Rule) -> FourRules {
+    FourRules {
+        less: mask32x4::splat(rule.less),
+        equal: mask32x4::splat(rule.equal),
+        greater: mask32x4::splat(rule.greater),
+        writes: mask32x4::splat(rule.writes),
+    }
+}
+
+/// Which of four new depths pass, by the depth words that are stored.
+#[inline(always)]
+pub(crate) fn four_pass(rules: &FourRules, new: u32x4, words: u32x4) -> mask32x4 {
+    let low = u32x4::splat(0xff_ffff);
+    let (new, stored) = (new & low, words & low);
+    (rules.less & new.simd_lt(stored))
+        | (rules.equal & new.simd_eq(stored))
+        | (rules.greater & stored.simd_lt(new))
+}
+
+/// Four depth words with new depths where they are to be stored.
+#[inline(always)]
+pub(crate) fn four_kept(rules: &FourRules, pass: mask32x4, new: u32x4, words: u32x4) -> u32x4 {
+    let deep = new | (words & u32x4::splat(0xff00_0000));
+    (pass & rules.writes).select(deep, words)
 }
 
 #[inline(always)]

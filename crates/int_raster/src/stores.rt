@@ -4,8 +4,10 @@ ghost use Rattle.gfx_model.specs.Pixel.{stored_color};
 ghost use Rattle.pixel_ops.specs.Blended.{IsBlending, LaysOver};
 ghost use Rattle.int_raster.specs.Painted.{IsOpaque};
 
+use crate::lanes::word_of;
 use crate::painters::whole;
-use pixel_ops::{Blending, lay_over};
+use pixel_ops::{Blending, lay_four_over, lay_over};
+use std::simd::prelude::*;
 
 /// What is chosen once for many pixels, so that their loop does not ask again.
 pub(crate) trait Store {
@@ -15,6 +17,9 @@ pub(crate) trait Store {
     /// The colour that is stored of a new one and an old one.
     fn stored_over(&self, new: [u8; 4], old: [u8; 4]) -> [u8; 4]
         ensures { (state : ℕ) → meets self.now state → result ≡ stored_color state new old };
+
+    /// The words of four colours that are stored of new ones and old ones.
+    fn four_over(&self, new: u32x4, old: u32x4) -> u32x4;
 }
 
 /// Colours are stored as they are.
@@ -27,6 +32,11 @@ impl Store for Opaque {
     #[inline(always)]
     fn stored_over(&self, new: [u8; 4], _old: [u8; 4]) -> [u8; 4] {
         whole(new)
+    }
+
+    #[inline(always)]
+    fn four_over(&self, new: u32x4, _old: u32x4) -> u32x4 {
+        new
     }
 }
 
@@ -41,6 +51,11 @@ impl Store for Laid {
     fn stored_over(&self, new: [u8; 4], old: [u8; 4]) -> [u8; 4] {
         lay_over(new, old)
     }
+
+    #[inline(always)]
+    fn four_over(&self, new: u32x4, old: u32x4) -> u32x4 {
+        lay_four_over(new, old)
+    }
 }
 
 impl Store for Blending {
@@ -49,5 +64,15 @@ impl Store for Blending {
     #[inline(always)]
     fn stored_over(&self, new: [u8; 4], old: [u8; 4]) -> [u8; 4] {
         self.stored(new, old)
+    }
+
+    fn four_over(&self, new: u32x4, old: u32x4) -> u32x4 {
+        let (new, old) = (new.to_array(), old.to_array());
+        u32x4::from_array([
+            word_of(self.stored(new[0].to_le_bytes(), old[0].to_le_bytes())),
+            word_of(self.stored(new[1].to_le_bytes(), old[1].to_le_bytes())),
+            word_of(self.stored(new[2].to_le_bytes(), old[2].to_le_bytes())),
+            word_of(self.stored(new[3].to_le_bytes(), old[3].to_le_bytes())),
+        ])
     }
 }

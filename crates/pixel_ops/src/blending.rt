@@ -7,6 +7,7 @@ ghost use Rattle.gfx_model.specs.Pixel as model;
 
 use crate::parts::Blending;
 use gfx_words::StateWord;
+use std::simd::prelude::*;
 
 /// The product of two bytes as shares of 255, rounded to the nearest. It divides by 255 with shifts alone, which vectors
 /// of bytes have.
@@ -144,6 +145,33 @@ pub fn lay_over(source: [u8; 4], stored: [u8; 4]) -> [u8; 4]
     let even = over_pair(even_channels(source), even_channels(stored), source[3]);
     let odd = over_pair(odd_channels(source), odd_channels(stored), source[3]);
     even.wrapping_add(odd << 8).to_le_bytes()
+}
+
+/// The products of bytes, which stand in lanes of 16 bits, as shares of 255, rounded to the nearest.
+#[inline(always)]
+fn shares(products: u16x8) -> u16x8 {
+    let sum = products + u16x8::splat(128);
+    ((sum.cast::<u32>() * u32x8::splat(257)) >> u32x8::splat(16)).cast::<u16>()
+}
+
+/// Two channels of four sources by their alphas, over the stored ones by what is left, in lanes of 16 bits.
+#[inline(always)]
+fn over_lanes(source: u16x8, stored: u16x8, alpha: u16x8) -> u16x8 {
+    shares(source * alpha) + shares(stored * (u16x8::splat(255) - alpha))
+}
+
+/// Four sources by their alphas over the stored colours by what is left, all as words.
+#[inline(always)]
+pub fn lay_four_over(source: u32x4, stored: u32x4) -> u32x4 {
+    let new = u16x8::from_le_bytes(source.to_le_bytes());
+    let old = u16x8::from_le_bytes(stored.to_le_bytes());
+    let eight = u16x8::splat(8);
+    let low = u16x8::splat(255);
+    let high = new >> eight;
+    let alpha = high.swizzle([1, 1, 3, 3, 5, 5, 7, 7]);
+    let even = over_lanes(new & low, old & low, alpha);
+    let odd = over_lanes(high, old >> eight, alpha);
+    u32x4::from_le_bytes((even + (odd << eight)).to_le_bytes())
 }
 
 impl Blending {
