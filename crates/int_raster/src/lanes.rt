@@ -76,6 +76,46 @@ pub(crate) fn numbers_of(numbers: &[u32], at: usize) -> u32x4
     ])
 }
 
+/// Puts four numbers from a place on.
+#[inline(always)]
+pub(crate) fn put_numbers(numbers: &mut [u32], at: usize, four: u32x4) {
+    let four = four.to_array();
+    numbers[at] = four[0];
+    numbers[at + 1] = four[1];
+    numbers[at + 2] = four[2];
+    numbers[at + 3] = four[3];
+}
+
+/// The upper halves of four numbers.
+#[inline(always)]
+pub(crate) fn upper_halves(a: u64x2, b: u64x2) -> u32x4 {
+    let (a, b) = (
+        u32x4::from_le_bytes(a.to_le_bytes()),
+        u32x4::from_le_bytes(b.to_le_bytes()),
+    );
+    a.shuffle(b, [1, 3, 5, 7])
+}
+
+/// The lower halves of eight words.
+#[inline(always)]
+pub(crate) fn lower_halves(a: u32x4, b: u32x4) -> u16x8 {
+    let (a, b) = (
+        u16x8::from_le_bytes(a.to_le_bytes()),
+        u16x8::from_le_bytes(b.to_le_bytes()),
+    );
+    a.shuffle(b, [0, 2, 4, 6, 8, 10, 12, 14])
+}
+
+/// The lowest bytes of 16 lanes, as four words.
+#[inline(always)]
+pub(crate) fn lowest_bytes(a: u16x8, b: u16x8) -> u32x4 {
+    let bytes = a.to_le_bytes().shuffle(
+        b.to_le_bytes(),
+        [0, 2, 4, 6, 8, 10, 12, 14, 16, 18, 20, 22, 24, 26, 28, 30],
+    );
+    u32x4::from_le_bytes(bytes)
+}
+
 /// Some bits of words, with a number that comes to them.
 #[inline(always)]
 pub(crate) fn with_depth(words: u32x4, bits: u32, depth: u32) -> u32x4
