@@ -80,46 +80,40 @@ fn shade_piece(shade: &Shade, piece: &Span, colors: &mut [[u8; 4]])
     }
 }
 
-/// Whether the lower 56 bits of a ramp's numbers are 0, so that it can be stepped in 64 bits.
-#[inline(always)]
-fn is_short(ramp: &WideRamp) -> bool {
-    (ramp.start | ramp.right | ramp.down) as u64 & 0xff_ffff_ffff_ffff == 0
-}
-
 /// Bits 56 to 119 of a number.
 #[inline(always)]
 fn middle_bits(n: u128) -> u64 {
     (n >> 56) as u64
 }
 
-/// The value of such a ramp at a column and a row, in 64 bits.
-#[inline(always)]
-fn short_value_at(ramp: &WideRamp, x: u16, y: u16) -> u64 {
-    middle_bits(ramp.start)
-        .wrapping_add((x as u64).wrapping_mul(middle_bits(ramp.right)))
-        .wrapping_add((y as u64).wrapping_mul(middle_bits(ramp.down)))
-}
-
-/// The texels at positions whose ramps have 64 bits.
-fn short_texture_piece(sampler: &Sampler, at: &Place, piece: &Span, colors: &mut [[u8; 4]]) {
+/// The texels at positions that are stepped in 64 bits from a column on, 16 of them before the point: whether they are right.
+/// Behind n columns such a position lacks at most n of its lowest bits, so it is right where its fraction's upper 16 bits are not all set.
+fn texels_by_four(
+    sampler: &Sampler,
+    start: u64x2,
+    by: u64x2,
+    count: usize,
+    colors: &mut [[u8; 4]],
+) -> bool {
     let sampler = *sampler;
     let sides = sides_of(&sampler);
-    let by = u64x2::from_array([middle_bits(at.u.right), middle_bits(at.v.right)]);
-    let mut a = u64x2::from_array([
-        short_value_at(&at.u, piece.first, piece.y),
-        short_value_at(&at.v, piece.first, piece.y),
-    ]);
-    let count = (piece.after - piece.first) as usize;
+    let mut most = u16x8::splat(0);
+    let mut a = start;
     let mut next = 0usize;
     while next < count {
         let b = a + by;
         let c = b + by;
         let d = c + by;
-        let four = texels_at(&sampler, &sides, upper_halves(a, b), upper_halves(c, d));
-        put_words(colors, next, four);
+        let (front, back) = (upper_halves(a, b), upper_halves(c, d));
+        most = most
+            .simd_max(u16x8::from_le_bytes(front.to_le_bytes()))
+            .simd_max(u16x8::from_le_bytes(back.to_le_bytes()));
+        put_words(colors, next, texels_at(&sampler, &sides, front, back));
         a = d + by;
         next += 4;
     }
+    let most = most.to_array();
+    most[0].max(most[2]).max(most[4]).max(most[6]) < 0xffff
 }
 
 /// The texels at the texture positions.
@@ -129,12 +123,14 @@ fn texture_piece(texels: &Texels, at: &Place, piece: &Span, colors: &mut [[u8; 4
 {
     let (at, piece) = (*at, *piece);
     let sampler = sampler_of(texels);
-    if is_short(&at.u) && is_short(&at.v) {
-        short_texture_piece(&sampler, &at, &piece, colors);
-        return;
-    }
     let mut u = wide_value_at(&at.u, piece.first, piece.y);
     let mut v = wide_value_at(&at.v, piece.first, piece.y);
+    let start = u64x2::from_array([middle_bits(u), middle_bits(v)]);
+    let by = u64x2::from_array([middle_bits(at.u.right), middle_bits(at.v.right)]);
+    let count = (piece.after - piece.first) as usize;
+    if texels_by_four(&sampler, start, by, count, colors) {
+        return;
+    }
     for x in piece.first..piece.after {
         let column = unit_part(u);
         let row = unit_part(v);
@@ -216,19 +212,25 @@ fn sum_of_halves(high: u64, low: u64, by_high: u64, by_low: u64) -> (u64, u64)
     (high.wrapping_add(by_high).wrapping_add(carry), sum)
 }
 
-/// The depths of a ramp of 64 bits, from its first value on.
-fn short_depth_piece(first: u64, by: u64, piece: &Span, depths: &mut [u32]) {
+/// The depths of a ramp that is stepped in 64 bits, 24 of them before the point: whether they are right. Behind n columns such a
+/// value lacks at most n of its lowest bits, so it is right where these do not reach its upper half.
+fn depths_by_four(first: u64, by: u64, count: usize, depths: &mut [u32]) -> bool {
     let step = u64x2::splat(by.wrapping_mul(4));
     let mut front = u64x2::from_array([first, first.wrapping_add(by)]);
     let mut back = front + u64x2::splat(by.wrapping_mul(2));
-    let count = (piece.after - piece.first) as usize;
+    let mut most = u32x4::splat(0);
     let mut next = 0usize;
     while next < count {
+        most = most
+            .simd_max(u32x4::from_le_bytes(front.to_le_bytes()))
+            .simd_max(u32x4::from_le_bytes(back.to_le_bytes()));
         put_numbers(depths, next, upper_halves(front, back) >> u32x4::splat(8));
         front = front + step;
         back = back + step;
         next += 4;
     }
+    let most = most.to_array();
+    most[0].max(most[2]) < 0xffff_0000
 }
 
 /// The depths of a ramp.
@@ -241,8 +243,8 @@ pub(crate) fn depth_piece(ramp: &WideRamp, piece: &Span, depths: &mut [u32])
     let start = wide_value_at(&ramp, piece.first, piece.y);
     let (mut high, mut low) = (upper_half(start), lower_half(start));
     let (by_high, by_low) = (upper_half(ramp.right), lower_half(ramp.right));
-    if low == 0 && by_low == 0 {
-        short_depth_piece(high, by_high, &piece, depths);
+    let count = (piece.after - piece.first) as usize;
+    if depths_by_four(high, by_high, count, depths) {
         return;
     }
     for x in piece.first..piece.after {
