@@ -151,7 +151,7 @@ fn in_pieces(
     requires paints { PaintsSpan painter.now draw.now setup.now span.now.y span.now.first span.now.after }
     ensures { colors.new ≡ map_from (spanned (in_row span.now.start span.now.y (color_seen draw.now setup.now)) (span.now.start + span.now.first) (span.now.start + span.now.after)) 0 colors.old }
 {
-    let mut paints = [[0; 4]; 32];
+    let mut paints = [[0; 4]; 64];
     let mut first = span.first;
     while first < span.after {
         let piece = span.piece(first);

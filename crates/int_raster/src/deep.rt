@@ -114,8 +114,8 @@ fn in_pieces(
     requires mixing { IfSome mixing.now (λ m. IsMix m draw.now setup.now) }
     ensures { deep_pixels colors.new depths.new ≡ map_from (spanned (in_row span.now.start span.now.y (step_seen draw.now setup.now)) (span.now.start + span.now.first) (span.now.start + span.now.after)) 0 (deep_pixels colors.old depths.old) }
 {
-    let mut paints = [[0; 4]; 32];
-    let mut news = [0; 32];
+    let mut paints = [[0; 4]; 64];
+    let mut news = [0; 64];
     let mut first = span.first;
     while first < span.after {
         let piece = span.piece(first);

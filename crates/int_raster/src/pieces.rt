@@ -13,7 +13,7 @@ use crate::sampling::{sampler_of, sides_of, texel_at, texels_at};
 use crate::samplers::Sampler;
 use crate::spans::Span;
 use fix_math::Texels;
-use pixel_ops::multiply_four;
+use pixel_ops::multiply_lanes;
 use std::simd::prelude::*;
 use tri_cover::WideRamp;
 
@@ -47,16 +47,17 @@ fn tint_words(at: Tint) -> u32x4 {
     upper_halves(at.even, at.odd) >> u32x4::splat(24)
 }
 
-/// The vertices' colours.
-fn shade_piece(shade: &Shade, piece: &Span, colors: &mut [[u8; 4]])
-    requires room { piece.now.after ≤ piece.now.first + length colors.old }
-    ensures { HoldsPiece colors.new (λ x. shade_at shade.now x piece.now.y) piece.now.first piece.now.after }
-{
-    let by = Tint {
+/// What the four channels gain by a column.
+fn tint_steps(shade: &Shade) -> Tint {
+    Tint {
         even: u64x2::from_array([shade.red.right, shade.green.right]),
         odd: u64x2::from_array([shade.blue.right, shade.alpha.right]),
-    };
-    let mut at = Tint {
+    }
+}
+
+/// The four channels at a piece's first pixel.
+fn tint_at(shade: &Shade, piece: &Span) -> Tint {
+    Tint {
         even: u64x2::from_array([
             value_at(&shade.red, piece.first, piece.y),
             value_at(&shade.green, piece.first, piece.y),
@@ -65,17 +66,35 @@ fn shade_piece(shade: &Shade, piece: &Span, colors: &mut [[u8; 4]])
             value_at(&shade.blue, piece.first, piece.y),
             value_at(&shade.alpha, piece.first, piece.y),
         ]),
-    };
+    }
+}
+
+/// The channels of four pixels in lanes of 16 bits, and the values behind them.
+#[inline(always)]
+fn four_tints(at: Tint, by: Tint) -> (u16x8, u16x8, Tint) {
+    let b = stepped_tint(at, by);
+    let c = stepped_tint(b, by);
+    let d = stepped_tint(c, by);
+    (
+        lower_halves(tint_words(at), tint_words(b)),
+        lower_halves(tint_words(c), tint_words(d)),
+        stepped_tint(d, by),
+    )
+}
+
+/// The vertices' colours.
+fn shade_piece(shade: &Shade, piece: &Span, colors: &mut [[u8; 4]])
+    requires room { piece.now.after ≤ piece.now.first + length colors.old }
+    ensures { HoldsPiece colors.new (λ x. shade_at shade.now x piece.now.y) piece.now.first piece.now.after }
+{
+    let by = tint_steps(shade);
+    let mut at = tint_at(shade, piece);
     let count = (piece.after - piece.first) as usize;
     let mut next = 0usize;
     while next < count {
-        let b = stepped_tint(at, by);
-        let c = stepped_tint(b, by);
-        let d = stepped_tint(c, by);
-        let front = lower_halves(tint_words(at), tint_words(b));
-        let back = lower_halves(tint_words(c), tint_words(d));
+        let (front, back, behind) = four_tints(at, by);
         put_words(colors, next, lowest_bytes(front, back));
-        at = stepped_tint(d, by);
+        at = behind;
         next += 4;
     }
 }
@@ -143,18 +162,21 @@ fn texture_piece(texels: &Texels, at: &Place, piece: &Span, colors: &mut [[u8; 4
 /// The products of the texels at the texture positions and of the vertices' colours.
 fn product_piece(texels: &Texels, at: &Place, shade: &Shade, piece: &Span, colors: &mut [[u8; 4]])
     requires room { piece.now.after ≤ piece.now.first + length colors.old }
-    requires short { piece.now.after ≤ piece.now.first + 32 }
+    requires short { piece.now.after ≤ piece.now.first + 64 }
     ensures { HoldsPiece colors.new (λ x. zip_with byte_product (sample (texels_seen texels.now) (pos (place_at at.now.u x piece.now.y)) (pos (place_at at.now.v x piece.now.y))) (shade_at shade.now x piece.now.y)) piece.now.first piece.now.after }
 {
-    let mut samples = [[0; 4]; 32];
-    let mut shades = [[0; 4]; 32];
-    texture_piece(texels, at, piece, &mut samples);
-    shade_piece(shade, piece, &mut shades);
+    texture_piece(texels, at, piece, colors);
+    let by = tint_steps(shade);
+    let mut tint = tint_at(shade, piece);
     let count = (piece.after - piece.first) as usize;
     let mut next = 0usize;
     while next < count {
-        let four = multiply_four(words_of(&samples, next), words_of(&shades, next));
-        put_words(colors, next, four);
+        let (front, back, behind) = four_tints(tint, by);
+        let bytes = words_of(colors, next).to_le_bytes().cast::<u16>();
+        let front = multiply_lanes(bytes.extract::<0, 8>(), front);
+        let back = multiply_lanes(bytes.extract::<8, 8>(), back);
+        put_words(colors, next, lowest_bytes(front, back));
+        tint = behind;
         next += 4;
     }
 }
@@ -173,7 +195,7 @@ fn solid_piece(color: [u8; 4], piece: &Span, colors: &mut [[u8; 4]])
 /// The colours of a painter.
 pub(crate) fn paint_piece(painter: &Painter, piece: &Span, colors: &mut [[u8; 4]])
     requires room { piece.now.after ≤ piece.now.first + length colors.old }
-    requires short { piece.now.after ≤ piece.now.first + 32 }
+    requires short { piece.now.after ≤ piece.now.first + 64 }
     ensures { HoldsPiece colors.new (λ x. painter_color painter.now x piece.now.y) piece.now.first piece.now.after }
 {
     match painter {

@@ -154,18 +154,10 @@ fn shares(products: u16x8) -> u16x8 {
     ((sum.cast::<u32>() * u32x8::splat(257)) >> u32x8::splat(16)).cast::<u16>()
 }
 
-/// The products of four colours, channel by channel, all as words.
+/// The products of eight bytes in lanes of 16 bits.
 #[inline(always)]
-pub fn multiply_four(a: u32x4, b: u32x4) -> u32x4 {
-    let (a, b) = (
-        u16x8::from_le_bytes(a.to_le_bytes()),
-        u16x8::from_le_bytes(b.to_le_bytes()),
-    );
-    let eight = u16x8::splat(8);
-    let low = u16x8::splat(255);
-    let even = shares((a & low) * (b & low));
-    let odd = shares((a >> eight) * (b >> eight));
-    u32x4::from_le_bytes((even + (odd << eight)).to_le_bytes())
+pub fn multiply_lanes(a: u16x8, b: u16x8) -> u16x8 {
+    shares(a * b)
 }
 
 /// Two channels of four sources by their alphas, over the stored ones by what is left, in lanes of 16 bits.
