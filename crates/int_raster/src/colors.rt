@@ -94,15 +94,17 @@ fn store<S: Store>(
     ensures { colors.new ≡ map_from (spanned (in_row span.now.start span.now.y (color_seen draw.now setup.now)) (span.now.start + span.now.first) (span.now.start + span.now.after)) 0 colors.old }
 {
     let span = *span;
-    let (first, after) = (span.first as usize, span.after as usize);
-    let mut next = first;
-    while next + 4 <= after {
-        let old = words_of(colors, span.start + next);
-        let four = words_of(paints, next - first);
-        put_words(colors, span.start + next, store.four_over(four, old));
-        next += 4;
+    let base = span.start + span.first as usize;
+    let count = span.after - span.first;
+    let whole = count - count % 4;
+    let mut at = 0usize;
+    while at < whole as usize {
+        let old = words_of(colors, base + at);
+        let four = words_of(paints, at);
+        put_words(colors, base + at, store.four_over(four, old));
+        at += 4;
     }
-    for x in next as u16..span.after {
+    for x in span.first + whole..span.after {
         let old = colors[span.start + x as usize];
         let color = paints[(x - span.first) as usize];
         colors[span.start + x as usize] = store.stored_over(color, old);
@@ -138,6 +140,7 @@ fn store_piece(
 /// Draws a span with a painter, piece by piece.
 fn in_pieces(
     colors: &mut [[u8; 4]],
+    paints: &mut [[u8; 4]],
     span: &Span,
     painter: &Painter,
     opaque: bool,
@@ -151,12 +154,11 @@ fn in_pieces(
     requires paints { PaintsSpan painter.now draw.now setup.now span.now.y span.now.first span.now.after }
     ensures { colors.new ≡ map_from (spanned (in_row span.now.start span.now.y (color_seen draw.now setup.now)) (span.now.start + span.now.first) (span.now.start + span.now.after)) 0 colors.old }
 {
-    let mut paints = [[0; 4]; 64];
     let mut first = span.first;
     while first < span.after {
         let piece = span.piece(first);
-        paint_piece(painter, &piece, &mut paints);
-        store_piece(colors, &piece, &paints, opaque, blending, setup, draw);
+        paint_piece(painter, &piece, paints);
+        store_piece(colors, &piece, paints, opaque, blending, setup, draw);
         first = piece.after;
     }
 }
@@ -164,6 +166,7 @@ fn in_pieces(
 /// Draws a span with a painter.
 fn paint(
     colors: &mut [[u8; 4]],
+    paints: &mut [[u8; 4]],
     span: &Span,
     painter: &Painter,
     opaque: bool,
@@ -181,16 +184,17 @@ fn paint(
         match painter {
             Painter::Solid(color) => fill(colors, span, *color, setup, draw),
             Painter::Vertex(shade) => store_shade(colors, span, shade, setup, draw),
-            _ => in_pieces(colors, span, painter, opaque, blending, setup, draw),
+            _ => in_pieces(colors, paints, span, painter, opaque, blending, setup, draw),
         }
     } else {
-        in_pieces(colors, span, painter, opaque, blending, setup, draw);
+        in_pieces(colors, paints, span, painter, opaque, blending, setup, draw);
     }
 }
 
 /// Draws a span that a triangle covers, with a painter where there is one.
 fn draw_span(
     colors: &mut [[u8; 4]],
+    paints: &mut [[u8; 4]],
     span: &Span,
     painter: &Option<Painter>,
     opaque: bool,
@@ -206,7 +210,7 @@ fn draw_span(
     ensures { colors.new ≡ map_from (spanned (in_row span.now.start span.now.y (color_seen draw.now setup.now)) (span.now.start + span.now.first) (span.now.start + span.now.after)) 0 colors.old }
 {
     match painter {
-        Some(painter) => paint(colors, span, painter, opaque, blending, setup, draw),
+        Some(painter) => paint(colors, paints, span, painter, opaque, blending, setup, draw),
         None => step_exactly(colors, span, setup, draw),
     }
 }
@@ -214,6 +218,7 @@ fn draw_span(
 /// Draws a triangle's colours in so many rows, whose columns a list has.
 fn rows_colors(
     colors: &mut [[u8; 4]],
+    paints: &mut [[u8; 4]],
     rows: &Rows,
     from: u16,
     count: u16,
@@ -246,7 +251,7 @@ fn rows_colors(
             first,
             after,
         };
-        draw_span(colors, &span, painter, opaque, blending, setup, draw);
+        draw_span(colors, paints, &span, painter, opaque, blending, setup, draw);
     }
 }
 
@@ -266,13 +271,15 @@ pub(crate) fn triangle_colors(
     let blending = Blending::new(&draw.state);
     let (top, bottom) = drawn_rows(setup, &draw.cut, rows);
     let limits = drawn_limits(&draw.cut, rows.width);
+    let mut paints = [[0; 4]; 256];
     let mut spans = [(0, 0); 32];
     let mut row = top;
     while row < bottom {
         let count = (bottom - row).min(32);
         setup.spans(&mut spans, rows.top + row, count, limits.0, limits.1);
         rows_colors(
-            colors, rows, row, count, &spans, limits, painter, opaque, &blending, setup, draw,
+            colors, &mut paints, rows, row, count, &spans, limits, painter, opaque, &blending, setup,
+            draw,
         );
         row += count;
     }

@@ -19,7 +19,7 @@ use crate::columns::{columns_at, drawn_columns, drawn_limits, drawn_rows, meets}
 use crate::deep_spans::{fill, step, step_exactly, store, store_level, store_shade};
 use crate::lists::Prepared;
 use crate::opaque::{Level, Mix, Rule, Tile, rule_of};
-use crate::painters::{Brush, Painter, brush_of, is_opaque, one_color, one_depth, painter_of};
+use crate::painters::{Brush, Lists, Painter, brush_of, is_opaque, one_color, one_depth, painter_of};
 use crate::painting::stencil_of;
 use crate::pairs::with_next;
 use crate::pieces::{depth_piece, paint_piece};
@@ -99,6 +99,7 @@ fn store_piece(
 fn in_pieces(
     colors: &mut [[u8; 4]],
     depths: &mut [[u8; 4]],
+    lists: &mut Lists,
     span: &Span,
     brush: &Brush,
     rule: &Option<Rule>,
@@ -114,15 +115,13 @@ fn in_pieces(
     requires mixing { IfSome mixing.now (λ m. IsMix m draw.now setup.now) }
     ensures { deep_pixels colors.new depths.new ≡ map_from (spanned (in_row span.now.start span.now.y (step_seen draw.now setup.now)) (span.now.start + span.now.first) (span.now.start + span.now.after)) 0 (deep_pixels colors.old depths.old) }
 {
-    let mut paints = [[0; 4]; 64];
-    let mut news = [0; 64];
     let mut first = span.first;
     while first < span.after {
         let piece = span.piece(first);
-        paint_piece(&brush.painter, &piece, &mut paints);
-        depth_piece(&brush.depth, &piece, &mut news);
+        paint_piece(&brush.painter, &piece, &mut lists.paints);
+        depth_piece(&brush.depth, &piece, &mut lists.news);
         store_piece(
-            colors, depths, &piece, &paints, &news, rule, mixing, setup, draw,
+            colors, depths, &piece, &lists.paints, &lists.news, rule, mixing, setup, draw,
         );
         first = piece.after;
     }
@@ -132,6 +131,7 @@ fn in_pieces(
 fn paint_plain(
     colors: &mut [[u8; 4]],
     depths: &mut [[u8; 4]],
+    lists: &mut Lists,
     span: &Span,
     brush: &Brush,
     depth: &Ramp,
@@ -156,7 +156,7 @@ fn paint_plain(
         Painter::Vertex(shade) => {
             store_shade(colors, depths, span, shade, depth, plain, setup, draw)
         }
-        _ => in_pieces(colors, depths, span, brush, rule, mixing, setup, draw),
+        _ => in_pieces(colors, depths, lists, span, brush, rule, mixing, setup, draw),
     }
 }
 
@@ -164,6 +164,7 @@ fn paint_plain(
 fn paint(
     colors: &mut [[u8; 4]],
     depths: &mut [[u8; 4]],
+    lists: &mut Lists,
     span: &Span,
     brush: &Brush,
     rule: &Option<Rule>,
@@ -183,11 +184,11 @@ fn paint(
     match rule {
         Some(plain) => match &brush.short {
             Some(depth) => paint_plain(
-                colors, depths, span, brush, depth, plain, rule, mixing, setup, draw,
+                colors, depths, lists, span, brush, depth, plain, rule, mixing, setup, draw,
             ),
-            None => in_pieces(colors, depths, span, brush, rule, mixing, setup, draw),
+            None => in_pieces(colors, depths, lists, span, brush, rule, mixing, setup, draw),
         },
-        None => in_pieces(colors, depths, span, brush, rule, mixing, setup, draw),
+        None => in_pieces(colors, depths, lists, span, brush, rule, mixing, setup, draw),
     }
 }
 
@@ -195,6 +196,7 @@ fn paint(
 fn draw_span(
     colors: &mut [[u8; 4]],
     depths: &mut [[u8; 4]],
+    lists: &mut Lists,
     span: &Span,
     level: &Option<Level>,
     brush: &Option<Brush>,
@@ -219,7 +221,7 @@ fn draw_span(
         return;
     }
     match brush {
-        Some(brush) => paint(colors, depths, span, brush, rule, mixing, setup, draw),
+        Some(brush) => paint(colors, depths, lists, span, brush, rule, mixing, setup, draw),
         None => step_exactly(colors, depths, span, setup, draw),
     }
 }
@@ -290,6 +292,7 @@ fn brush_unless<'x>(
 fn rows_tested(
     colors: &mut [[u8; 4]],
     depths: &mut [[u8; 4]],
+    lists: &mut Lists,
     rows: &Rows,
     from: u16,
     count: u16,
@@ -328,7 +331,7 @@ fn rows_tested(
             after,
         };
         draw_span(
-            colors, depths, &span, level, brush, rule, mixing, setup, draw,
+            colors, depths, lists, &span, level, brush, rule, mixing, setup, draw,
         );
     }
 }
@@ -487,6 +490,10 @@ fn triangle_painted(
     ensures { deep_pixels colors.new depths.new ≡ map_from (by_place rows.now.width (below rows.now.top (change_seen draw.now setup.now))) 0 (deep_pixels colors.old depths.old) }
 {
     let mixing = mix_of(&rule, setup, draw);
+    let mut lists = Lists {
+        paints: [[0; 4]; 256],
+        news: [0; 256],
+    };
     let brush = brush_unless(&level, setup, draw, rows.width, rows.bottom());
     let (top, bottom) = drawn_rows(setup, &draw.cut, rows);
     let limits = drawn_limits(&draw.cut, rows.width);
@@ -496,7 +503,7 @@ fn triangle_painted(
         let count = (bottom - row).min(32);
         setup.spans(&mut spans, rows.top + row, count, limits.0, limits.1);
         rows_tested(
-            colors, depths, rows, row, count, &spans, limits, &level, &brush, &rule, &mixing,
+            colors, depths, &mut lists, rows, row, count, &spans, limits, &level, &brush, &rule, &mixing,
             setup, draw,
         );
         row += count;

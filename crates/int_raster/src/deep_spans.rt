@@ -11,7 +11,7 @@ ghost use Rattle.int_raster.specs.Seen.{facing_seen, paint_seen, step_seen};
 
 use crate::lanes::{numbers_of, put_words, words_of};
 use crate::lists::Prepared;
-use crate::opaque::{FourRules, Level, Rule, four_kept, four_pass, four_rules, stored_after};
+use crate::opaque::{FourTest, Level, Rule, four_kept, four_pass, four_test, stored_after};
 use crate::painters::{Shade, value_at};
 use crate::painting::{stencil_of, stepped, stepped_by};
 use crate::spans::Span;
@@ -278,14 +278,15 @@ fn store_four<S: Store>(
     at: usize,
     paints: u32x4,
     news: u32x4,
-    rules: &FourRules,
+    test: &FourTest,
     store: &S,
 ) {
     let words = words_of(depths, at);
     let old = words_of(colors, at);
-    let pass = four_pass(rules, news, words);
+    let stored = words & u32x4::splat(0xff_ffff);
+    let pass = four_pass(test, news, stored);
     put_words(colors, at, pass.select(store.four_over(paints, old), old));
-    put_words(depths, at, four_kept(rules, pass, news, words));
+    put_words(depths, at, four_kept(test, pass, news, words, stored));
 }
 
 /// Stores painted colours in a piece where their depths pass.
@@ -314,16 +315,22 @@ pub(crate) fn store<S: Store>(
 {
     let (span, rule) = (*span, *rule);
     let start = span.start;
-    let rules = four_rules(&rule);
-    let (first, after) = (span.first as usize, span.after as usize);
-    let mut next = first;
-    while next + 4 <= after {
-        let four = words_of(paints, next - first);
-        let deep = numbers_of(news, next - first);
-        store_four(colors, depths, start + next, four, deep, &rules, store);
-        next += 4;
-    }
-    for x in next as u16..span.after {
+    let whole = match four_test(&rule) {
+        Some(test) => {
+            let base = start + span.first as usize;
+            let whole = (span.after - span.first) & 0xfffc;
+            let mut at = 0usize;
+            while at < whole as usize {
+                let four = words_of(paints, at);
+                let deep = numbers_of(news, at);
+                store_four(colors, depths, base + at, four, deep, &test, store);
+                at += 4;
+            }
+            whole
+        }
+        None => 0,
+    };
+    for x in span.first + whole..span.after {
         let old = colors[start + x as usize];
         let word = depth_word(depths[start + x as usize]);
         let color = paints[(x - span.first) as usize];

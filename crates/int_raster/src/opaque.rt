@@ -89,39 +89,62 @@ fn passes(rule: &Rule, new: u32, stored: u32) -> bool
     )
 }
 
-/// A rule whose parts stand in each of four lanes.
+/// A depth test in lanes: the least that a stored depth may be above a new one, and how much more it may be, modulo 2^32; and whether a
+/// depth that passes is stored.
 #[derive(Clone, Copy)]
-pub(crate) struct FourRules {
-    less: mask32x4,
-    equal: mask32x4,
-    greater: mask32x4,
+pub(crate) struct FourTest {
+    least: u32x4,
+    more: u32x4,
     writes: mask32x4,
 }
 
-pub(crate) fn four_rules(rule: &Rule) -> FourRules {
-    FourRules {
-        less: mask32x4::splat(rule.less),
-        equal: mask32x4::splat(rule.equal),
-        greater: mask32x4::splat(rule.greater),
-        writes: mask32x4::splat(rule.writes),
+/// The test of a rule; none where all depths pass but an equal one.
+pub(crate) fn four_test(rule: &Rule) -> Option<FourTest> {
+    if rule.less & (rule.greater & !rule.equal) {
+        return None;
     }
+    let first = if rule.greater {
+        0x1000_0000u32
+    } else if rule.equal {
+        0x2000_0000
+    } else {
+        0x2000_0001
+    };
+    let after = if rule.less {
+        0x3000_0000u32
+    } else if rule.equal {
+        0x2000_0001
+    } else {
+        0x2000_0000
+    };
+    let (least, more) = if first < after {
+        (first.wrapping_sub(0x2000_0000), after - first - 1)
+    } else {
+        (0x8000_0000, 0)
+    };
+    Some(FourTest {
+        least: u32x4::splat(least),
+        more: u32x4::splat(more),
+        writes: mask32x4::splat(rule.writes),
+    })
 }
 
-/// Which of four new depths pass, by the depth words that are stored.
+/// Which of four new depths pass over stored ones.
 #[inline(always)]
-pub(crate) fn four_pass(rules: &FourRules, new: u32x4, words: u32x4) -> mask32x4 {
-    let low = u32x4::splat(0xff_ffff);
-    let (new, stored) = (new & low, words & low);
-    (rules.less & new.simd_lt(stored))
-        | (rules.equal & new.simd_eq(stored))
-        | (rules.greater & stored.simd_lt(new))
+pub(crate) fn four_pass(test: &FourTest, new: u32x4, stored: u32x4) -> mask32x4 {
+    (stored - new - test.least).simd_le(test.more)
 }
 
-/// Four depth words with new depths where they are to be stored.
+/// Four depth words, which have these depths, with new depths where they are to be stored.
 #[inline(always)]
-pub(crate) fn four_kept(rules: &FourRules, pass: mask32x4, new: u32x4, words: u32x4) -> u32x4 {
-    let deep = new | (words & u32x4::splat(0xff00_0000));
-    (pass & rules.writes).select(deep, words)
+pub(crate) fn four_kept(
+    test: &FourTest,
+    pass: mask32x4,
+    new: u32x4,
+    words: u32x4,
+    stored: u32x4,
+) -> u32x4 {
+    (pass & test.writes).select((words ^ stored) | new, words)
 }
 
 #[inline(always)]

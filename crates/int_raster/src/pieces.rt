@@ -162,7 +162,7 @@ fn texture_piece(texels: &Texels, at: &Place, piece: &Span, colors: &mut [[u8; 4
 /// The products of the texels at the texture positions and of the vertices' colours.
 fn product_piece(texels: &Texels, at: &Place, shade: &Shade, piece: &Span, colors: &mut [[u8; 4]])
     requires room { piece.now.after ≤ piece.now.first + length colors.old }
-    requires short { piece.now.after ≤ piece.now.first + 64 }
+    requires short { piece.now.after ≤ piece.now.first + 256 }
     ensures { HoldsPiece colors.new (λ x. zip_with byte_product (sample (texels_seen texels.now) (pos (place_at at.now.u x piece.now.y)) (pos (place_at at.now.v x piece.now.y))) (shade_at shade.now x piece.now.y)) piece.now.first piece.now.after }
 {
     texture_piece(texels, at, piece, colors);
@@ -195,7 +195,7 @@ fn solid_piece(color: [u8; 4], piece: &Span, colors: &mut [[u8; 4]])
 /// The colours of a painter.
 pub(crate) fn paint_piece(painter: &Painter, piece: &Span, colors: &mut [[u8; 4]])
     requires room { piece.now.after ≤ piece.now.first + length colors.old }
-    requires short { piece.now.after ≤ piece.now.first + 64 }
+    requires short { piece.now.after ≤ piece.now.first + 256 }
     ensures { HoldsPiece colors.new (λ x. painter_color painter.now x piece.now.y) piece.now.first piece.now.after }
 {
     match painter {

@@ -12,18 +12,18 @@ pub(crate) struct Span {
 }
 
 impl Span {
-    /// The piece of at most 64 columns from a column on.
+    /// The piece of at most 256 columns from a column on.
     pub fn piece(&self, first: u16) -> Span
         requires { first ≤ self.now.after }
         ensures row { (result.start ≡ self.now.start) × (result.y ≡ self.now.y) × (result.first ≡ first) }
         ensures within { result.after ≤ self.now.after }
-        ensures short { result.after ≤ first + 64 }
+        ensures short { result.after ≤ first + 256 }
         ensures some { first < self.now.after → first < result.after }
     {
-        let after = if self.after - first < 64 {
+        let after = if self.after - first < 256 {
             self.after
         } else {
-            first + 64
+            first + 256
         };
         Span {
             start: self.start,
