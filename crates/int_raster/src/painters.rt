@@ -49,6 +49,7 @@ pub(crate) struct Brush<'x> {
 }
 
 /// Room for the colours and the depths of a piece of a row.
+#[derive(Drop)]
 pub(crate) struct Lists {
     pub paints: [[u8; 4]; 256],
     pub news: [u32; 256],
