@@ -13,7 +13,7 @@ ghost use Rattle.int_raster.specs.Painted.{shade_at, PaintsSpan, Paints, IsOpaqu
 ghost use Rattle.int_raster.specs.Seen.{paint_seen, color_seen, color_change};
 
 use crate::columns::{drawn_columns, drawn_limits, drawn_rows};
-use crate::lanes::{put_words, words_of};
+use crate::lanes::{first_lanes, put_words, words_of};
 use crate::lists::Prepared;
 use crate::painters::{Painter, Shade, is_opaque, packed, value_at, whole};
 use crate::painting::stepped;
@@ -104,6 +104,16 @@ fn store<S: Store>(
         put_words(colors, base + at, store.four_over(four, old));
         at += 4;
     }
+    if whole == count {
+        return;
+    }
+    if base + at + 4 <= colors.len() {
+        let inside = first_lanes((count - whole) as u32);
+        let old = words_of(colors, base + at);
+        let four = words_of(paints, at);
+        put_words(colors, base + at, inside.select(store.four_over(four, old), old));
+        return;
+    }
     for x in span.first + whole..span.after {
         let old = colors[span.start + x as usize];
         let color = paints[(x - span.first) as usize];
@@ -137,10 +147,39 @@ fn store_piece(
     }
 }
 
+/// Draws a span with a painter, piece by piece, in a list of so many places.
+fn pieces_with(
+    colors: &mut [[u8; 4]],
+    paints: &mut [[u8; 4]],
+    span: &Span,
+    painter: &Painter,
+    opaque: bool,
+    blending: &Blending,
+    setup: &Setup,
+    draw: &Prepared,
+)
+    requires some { 0 < length paints.old }
+    requires few { length paints.old ≤ 256 }
+    requires fours { length paints.old % 4 ≡ 0 }
+    requires inside { span.now.start + span.now.after ≤ length colors.old }
+    requires opaque { IsTrue opaque → IsOpaque draw.now.state }
+    requires blending { IsBlending blending.now draw.now.state }
+    requires paints { PaintsSpan painter.now draw.now setup.now span.now.y span.now.first span.now.after }
+    ensures { colors.new ≡ map_from (spanned (in_row span.now.start span.now.y (color_seen draw.now setup.now)) (span.now.start + span.now.first) (span.now.start + span.now.after)) 0 colors.old }
+{
+    let most = paints.len() as u16;
+    let mut first = span.first;
+    while first < span.after {
+        let piece = span.piece(first, most);
+        paint_piece(painter, &piece, paints);
+        store_piece(colors, &piece, paints, opaque, blending, setup, draw);
+        first = piece.after;
+    }
+}
+
 /// Draws a span with a painter, piece by piece.
 fn in_pieces(
     colors: &mut [[u8; 4]],
-    paints: &mut [[u8; 4]],
     span: &Span,
     painter: &Painter,
     opaque: bool,
@@ -154,19 +193,22 @@ fn in_pieces(
     requires paints { PaintsSpan painter.now draw.now setup.now span.now.y span.now.first span.now.after }
     ensures { colors.new ≡ map_from (spanned (in_row span.now.start span.now.y (color_seen draw.now setup.now)) (span.now.start + span.now.first) (span.now.start + span.now.after)) 0 colors.old }
 {
-    let mut first = span.first;
-    while first < span.after {
-        let piece = span.piece(first);
-        paint_piece(painter, &piece, paints);
-        store_piece(colors, &piece, paints, opaque, blending, setup, draw);
-        first = piece.after;
+    let count = span.after - span.first;
+    if count <= 16 {
+        let mut paints = [[0; 4]; 16];
+        pieces_with(colors, &mut paints, span, painter, opaque, blending, setup, draw);
+    } else if count <= 64 {
+        let mut paints = [[0; 4]; 64];
+        pieces_with(colors, &mut paints, span, painter, opaque, blending, setup, draw);
+    } else {
+        let mut paints = [[0; 4]; 256];
+        pieces_with(colors, &mut paints, span, painter, opaque, blending, setup, draw);
     }
 }
 
 /// Draws a span with a painter.
 fn paint(
     colors: &mut [[u8; 4]],
-    paints: &mut [[u8; 4]],
     span: &Span,
     painter: &Painter,
     opaque: bool,
@@ -184,17 +226,16 @@ fn paint(
         match painter {
             Painter::Solid(color) => fill(colors, span, *color, setup, draw),
             Painter::Vertex(shade) => store_shade(colors, span, shade, setup, draw),
-            _ => in_pieces(colors, paints, span, painter, opaque, blending, setup, draw),
+            _ => in_pieces(colors, span, painter, opaque, blending, setup, draw),
         }
     } else {
-        in_pieces(colors, paints, span, painter, opaque, blending, setup, draw);
+        in_pieces(colors, span, painter, opaque, blending, setup, draw);
     }
 }
 
 /// Draws a span that a triangle covers, with a painter where there is one.
 fn draw_span(
     colors: &mut [[u8; 4]],
-    paints: &mut [[u8; 4]],
     span: &Span,
     painter: &Option<Painter>,
     opaque: bool,
@@ -210,7 +251,7 @@ fn draw_span(
     ensures { colors.new ≡ map_from (spanned (in_row span.now.start span.now.y (color_seen draw.now setup.now)) (span.now.start + span.now.first) (span.now.start + span.now.after)) 0 colors.old }
 {
     match painter {
-        Some(painter) => paint(colors, paints, span, painter, opaque, blending, setup, draw),
+        Some(painter) => paint(colors, span, painter, opaque, blending, setup, draw),
         None => step_exactly(colors, span, setup, draw),
     }
 }
@@ -218,7 +259,6 @@ fn draw_span(
 /// Draws a triangle's colours in so many rows, whose columns a list has.
 fn rows_colors(
     colors: &mut [[u8; 4]],
-    paints: &mut [[u8; 4]],
     rows: &Rows,
     from: u16,
     count: u16,
@@ -251,7 +291,7 @@ fn rows_colors(
             first,
             after,
         };
-        draw_span(colors, paints, &span, painter, opaque, blending, setup, draw);
+        draw_span(colors, &span, painter, opaque, blending, setup, draw);
     }
 }
 
@@ -271,15 +311,13 @@ pub(crate) fn triangle_colors(
     let blending = Blending::new(&draw.state);
     let (top, bottom) = drawn_rows(setup, &draw.cut, rows);
     let limits = drawn_limits(&draw.cut, rows.width);
-    let mut paints = [[0; 4]; 256];
     let mut spans = [(0, 0); 32];
     let mut row = top;
     while row < bottom {
         let count = (bottom - row).min(32);
         setup.spans(&mut spans, rows.top + row, count, limits.0, limits.1);
         rows_colors(
-            colors, &mut paints, rows, row, count, &spans, limits, painter, opaque, &blending, setup,
-            draw,
+            colors, rows, row, count, &spans, limits, painter, opaque, &blending, setup, draw,
         );
         row += count;
     }

@@ -19,7 +19,7 @@ use crate::columns::{columns_at, drawn_columns, drawn_limits, drawn_rows, meets}
 use crate::deep_spans::{fill, step, step_exactly, store, store_level, store_shade};
 use crate::lists::Prepared;
 use crate::opaque::{Level, Mix, Rule, Tile, rule_of};
-use crate::painters::{Brush, Lists, Painter, brush_of, is_opaque, one_color, one_depth, painter_of};
+use crate::painters::{Brush, Painter, brush_of, is_opaque, one_color, one_depth, painter_of};
 use crate::painting::stencil_of;
 use crate::pairs::with_next;
 use crate::pieces::{depth_piece, paint_piece};
@@ -95,11 +95,48 @@ fn store_piece(
     }
 }
 
+/// Draws a span with a brush, piece by piece, in lists of so many places.
+fn pieces_with(
+    colors: &mut [[u8; 4]],
+    depths: &mut [[u8; 4]],
+    paints: &mut [[u8; 4]],
+    news: &mut [u32],
+    span: &Span,
+    brush: &Brush,
+    rule: &Option<Rule>,
+    mixing: &Option<Mix>,
+    setup: &Setup,
+    draw: &Prepared,
+)
+    requires some { 0 < length paints.old }
+    requires few { length paints.old ≤ 256 }
+    requires fours { length paints.old % 4 ≡ 0 }
+    requires as_many { length news.old ≡ length paints.old }
+    requires inside { span.now.start + span.now.after ≤ length colors.old }
+    requires same { length depths.old ≡ length colors.old }
+    requires paints { PaintsSpan brush.now.painter draw.now setup.now span.now.y span.now.first span.now.after }
+    requires depths { HasWideSpanDepths brush.now.depth setup.now span.now.y span.now.first span.now.after }
+    requires rule { IfSome rule.now (λ r. IsPlain r draw.now setup.now) }
+    requires mixing { IfSome mixing.now (λ m. IsMix m draw.now setup.now) }
+    ensures { deep_pixels colors.new depths.new ≡ map_from (spanned (in_row span.now.start span.now.y (step_seen draw.now setup.now)) (span.now.start + span.now.first) (span.now.start + span.now.after)) 0 (deep_pixels colors.old depths.old) }
+{
+    let most = paints.len() as u16;
+    let mut first = span.first;
+    while first < span.after {
+        let piece = span.piece(first, most);
+        paint_piece(&brush.painter, &piece, paints);
+        depth_piece(&brush.depth, &piece, news);
+        store_piece(
+            colors, depths, &piece, paints, news, rule, mixing, setup, draw,
+        );
+        first = piece.after;
+    }
+}
+
 /// Draws a span with a brush, piece by piece.
 fn in_pieces(
     colors: &mut [[u8; 4]],
     depths: &mut [[u8; 4]],
-    lists: &mut Lists,
     span: &Span,
     brush: &Brush,
     rule: &Option<Rule>,
@@ -115,15 +152,22 @@ fn in_pieces(
     requires mixing { IfSome mixing.now (λ m. IsMix m draw.now setup.now) }
     ensures { deep_pixels colors.new depths.new ≡ map_from (spanned (in_row span.now.start span.now.y (step_seen draw.now setup.now)) (span.now.start + span.now.first) (span.now.start + span.now.after)) 0 (deep_pixels colors.old depths.old) }
 {
-    let mut first = span.first;
-    while first < span.after {
-        let piece = span.piece(first);
-        paint_piece(&brush.painter, &piece, &mut lists.paints);
-        depth_piece(&brush.depth, &piece, &mut lists.news);
-        store_piece(
-            colors, depths, &piece, &lists.paints, &lists.news, rule, mixing, setup, draw,
+    let count = span.after - span.first;
+    if count <= 16 {
+        let (mut paints, mut news) = ([[0; 4]; 16], [0; 16]);
+        pieces_with(
+            colors, depths, &mut paints, &mut news, span, brush, rule, mixing, setup, draw,
         );
-        first = piece.after;
+    } else if count <= 64 {
+        let (mut paints, mut news) = ([[0; 4]; 64], [0; 64]);
+        pieces_with(
+            colors, depths, &mut paints, &mut news, span, brush, rule, mixing, setup, draw,
+        );
+    } else {
+        let (mut paints, mut news) = ([[0; 4]; 256], [0; 256]);
+        pieces_with(
+            colors, depths, &mut paints, &mut news, span, brush, rule, mixing, setup, draw,
+        );
     }
 }
 
@@ -131,7 +175,6 @@ fn in_pieces(
 fn paint_plain(
     colors: &mut [[u8; 4]],
     depths: &mut [[u8; 4]],
-    lists: &mut Lists,
     span: &Span,
     brush: &Brush,
     depth: &Ramp,
@@ -156,7 +199,7 @@ fn paint_plain(
         Painter::Vertex(shade) => {
             store_shade(colors, depths, span, shade, depth, plain, setup, draw)
         }
-        _ => in_pieces(colors, depths, lists, span, brush, rule, mixing, setup, draw),
+        _ => in_pieces(colors, depths, span, brush, rule, mixing, setup, draw),
     }
 }
 
@@ -164,7 +207,6 @@ fn paint_plain(
 fn paint(
     colors: &mut [[u8; 4]],
     depths: &mut [[u8; 4]],
-    lists: &mut Lists,
     span: &Span,
     brush: &Brush,
     rule: &Option<Rule>,
@@ -184,11 +226,11 @@ fn paint(
     match rule {
         Some(plain) => match &brush.short {
             Some(depth) => paint_plain(
-                colors, depths, lists, span, brush, depth, plain, rule, mixing, setup, draw,
+                colors, depths, span, brush, depth, plain, rule, mixing, setup, draw,
             ),
-            None => in_pieces(colors, depths, lists, span, brush, rule, mixing, setup, draw),
+            None => in_pieces(colors, depths, span, brush, rule, mixing, setup, draw),
         },
-        None => in_pieces(colors, depths, lists, span, brush, rule, mixing, setup, draw),
+        None => in_pieces(colors, depths, span, brush, rule, mixing, setup, draw),
     }
 }
 
@@ -196,7 +238,6 @@ fn paint(
 fn draw_span(
     colors: &mut [[u8; 4]],
     depths: &mut [[u8; 4]],
-    lists: &mut Lists,
     span: &Span,
     level: &Option<Level>,
     brush: &Option<Brush>,
@@ -221,7 +262,7 @@ fn draw_span(
         return;
     }
     match brush {
-        Some(brush) => paint(colors, depths, lists, span, brush, rule, mixing, setup, draw),
+        Some(brush) => paint(colors, depths, span, brush, rule, mixing, setup, draw),
         None => step_exactly(colors, depths, span, setup, draw),
     }
 }
@@ -292,7 +333,6 @@ fn brush_unless<'x>(
 fn rows_tested(
     colors: &mut [[u8; 4]],
     depths: &mut [[u8; 4]],
-    lists: &mut Lists,
     rows: &Rows,
     from: u16,
     count: u16,
@@ -331,7 +371,7 @@ fn rows_tested(
             after,
         };
         draw_span(
-            colors, depths, lists, &span, level, brush, rule, mixing, setup, draw,
+            colors, depths, &span, level, brush, rule, mixing, setup, draw,
         );
     }
 }
@@ -490,10 +530,6 @@ fn triangle_painted(
     ensures { deep_pixels colors.new depths.new ≡ map_from (by_place rows.now.width (below rows.now.top (change_seen draw.now setup.now))) 0 (deep_pixels colors.old depths.old) }
 {
     let mixing = mix_of(&rule, setup, draw);
-    let mut lists = Lists {
-        paints: [[0; 4]; 256],
-        news: [0; 256],
-    };
     let brush = brush_unless(&level, setup, draw, rows.width, rows.bottom());
     let (top, bottom) = drawn_rows(setup, &draw.cut, rows);
     let limits = drawn_limits(&draw.cut, rows.width);
@@ -503,7 +539,7 @@ fn triangle_painted(
         let count = (bottom - row).min(32);
         setup.spans(&mut spans, rows.top + row, count, limits.0, limits.1);
         rows_tested(
-            colors, depths, &mut lists, rows, row, count, &spans, limits, &level, &brush, &rule, &mixing,
+            colors, depths, rows, row, count, &spans, limits, &level, &brush, &rule, &mixing,
             setup, draw,
         );
         row += count;

@@ -9,11 +9,12 @@ ghost use Rattle.int_raster.specs.Painted.{shade_at, HoldsPiece, HoldsDepths, Ar
 ghost use Rattle.int_raster.specs.Rules.{IsLevel, IsPlain, IsRule};
 ghost use Rattle.int_raster.specs.Seen.{facing_seen, paint_seen, step_seen};
 
-use crate::lanes::{numbers_of, put_words, words_of};
+use crate::lanes::{first_lanes, lowest_bytes, numbers_of, put_words, upper_halves, words_of};
 use crate::lists::Prepared;
 use crate::opaque::{FourTest, Level, Rule, four_kept, four_pass, four_test, stored_after};
 use crate::painters::{Shade, value_at};
 use crate::painting::{stencil_of, stepped, stepped_by};
+use crate::pieces::{four_tints, tint_at, tint_steps};
 use crate::spans::Span;
 use crate::stores::{Opaque, Store};
 use pixel_ops::Pixel;
@@ -244,6 +245,38 @@ fn store_shade_by(
     }
 }
 
+/// Stores the vertices' colours in a span where their depths pass, in windows of four of which the last may run past its end.
+fn shade_by_four(
+    colors: &mut [[u8; 4]],
+    depths: &mut [[u8; 4]],
+    span: &Span,
+    shade: &Shade,
+    depth: &Ramp,
+    rule: &Rule,
+) {
+    let test = four_test(rule);
+    let by = tint_steps(shade);
+    let mut tint = tint_at(shade, span);
+    let first = value_at(depth, span.first, span.y);
+    let step = u64x2::splat(depth.right.wrapping_mul(4));
+    let mut front = u64x2::from_array([first, first.wrapping_add(depth.right)]);
+    let mut back = front + u64x2::splat(depth.right.wrapping_mul(2));
+    let base = span.start + span.first as usize;
+    let count = (span.after - span.first) as u32;
+    let mut at = 0u32;
+    while at < count {
+        let (even, odd, behind) = four_tints(tint, by);
+        let deep = upper_halves(front, back) >> u32x4::splat(8);
+        let four = lowest_bytes(even, odd);
+        let inside = first_lanes(count - at);
+        store_four(colors, depths, base + at as usize, four, deep, inside, &test, &Opaque);
+        tint = behind;
+        front = front + step;
+        back = back + step;
+        at += 4;
+    }
+}
+
 /// Stores the vertices' colours in a span where their depths pass.
 pub(crate) fn store_shade(
     colors: &mut [[u8; 4]],
@@ -262,11 +295,10 @@ pub(crate) fn store_shade(
     requires depths { HasSpanDepths depth.now setup.now span.now.y span.now.first span.now.after }
     ensures { deep_pixels colors.new depths.new ≡ map_from (spanned (in_row span.now.start span.now.y (step_seen draw.now setup.now)) (span.now.start + span.now.first) (span.now.start + span.now.after)) 0 (deep_pixels colors.old depths.old) }
 {
-    if span.after - span.first < LONG {
+    if colors.len() - (span.start + span.after as usize) < 3 {
         store_shade_by(colors, depths, span, shade, depth, rule, setup, draw);
     } else {
-        let (shade, depth, rule) = (*shade, *depth, *rule);
-        store_shade_by(colors, depths, span, &shade, &depth, &rule, setup, draw);
+        shade_by_four(colors, depths, span, shade, depth, rule);
     }
 }
 
@@ -278,13 +310,14 @@ fn store_four<S: Store>(
     at: usize,
     paints: u32x4,
     news: u32x4,
+    inside: mask32x4,
     test: &FourTest,
     store: &S,
 ) {
     let words = words_of(depths, at);
     let old = words_of(colors, at);
     let stored = words & u32x4::splat(0xff_ffff);
-    let pass = four_pass(test, news, stored);
+    let pass = inside & four_pass(test, news, stored);
     put_words(colors, at, pass.select(store.four_over(paints, old), old));
     put_words(depths, at, four_kept(test, pass, news, words, stored));
 }
@@ -315,21 +348,28 @@ pub(crate) fn store<S: Store>(
 {
     let (span, rule) = (*span, *rule);
     let start = span.start;
-    let whole = match four_test(&rule) {
-        Some(test) => {
-            let base = start + span.first as usize;
-            let whole = (span.after - span.first) & 0xfffc;
-            let mut at = 0usize;
-            while at < whole as usize {
-                let four = words_of(paints, at);
-                let deep = numbers_of(news, at);
-                store_four(colors, depths, base + at, four, deep, &test, store);
-                at += 4;
-            }
-            whole
-        }
-        None => 0,
-    };
+    let test = four_test(&rule);
+    let base = start + span.first as usize;
+    let count = span.after - span.first;
+    let whole = count & 0xfffc;
+    let all = mask32x4::splat(true);
+    let mut at = 0usize;
+    while at < whole as usize {
+        let four = words_of(paints, at);
+        let deep = numbers_of(news, at);
+        store_four(colors, depths, base + at, four, deep, all, &test, store);
+        at += 4;
+    }
+    if whole == count {
+        return;
+    }
+    if base + at + 4 <= colors.len() {
+        let four = words_of(paints, at);
+        let deep = numbers_of(news, at);
+        let inside = first_lanes((count - whole) as u32);
+        store_four(colors, depths, base + at, four, deep, inside, &test, store);
+        return;
+    }
     for x in span.first + whole..span.after {
         let old = colors[start + x as usize];
         let word = depth_word(depths[start + x as usize]);

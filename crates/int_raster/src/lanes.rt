@@ -116,6 +116,12 @@ pub(crate) fn lowest_bytes(a: u16x8, b: u16x8) -> u32x4 {
     u32x4::from_le_bytes(bytes)
 }
 
+/// The first ones of four lanes.
+#[inline(always)]
+pub(crate) fn first_lanes(count: u32) -> mask32x4 {
+    u32x4::splat(count).simd_gt(u32x4::from_array([0, 1, 2, 3]))
+}
+
 /// Some bits of words, with a number that comes to them.
 #[inline(always)]
 pub(crate) fn with_depth(words: u32x4, bits: u32, depth: u32) -> u32x4

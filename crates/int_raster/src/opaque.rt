@@ -8,13 +8,16 @@ use gfx_words::StateWord;
 use pixel_ops::{Blending, depth_test};
 use std::simd::prelude::*;
 
-/// The depth test by the order of the new and the stored depth, and whether a depth that passes is stored.
+/// The depth test by the order of the new and the stored depth, and whether a depth that passes is stored. The same test as a range, all
+/// modulo 2^32: the least that a stored depth may be above a new one, and how much more it may be.
 #[derive(Clone, Copy)]
 pub(crate) struct Rule {
     pub less: bool,
     pub equal: bool,
     pub greater: bool,
     pub writes: bool,
+    pub least: u32,
+    pub more: u32,
 }
 
 /// A stored colour and depth word.
@@ -52,15 +55,47 @@ pub(crate) struct Level {
     pub tile: Option<Tile>,
 }
 
+/// The range of a test: the least that a stored depth may be above a new one, and how much more it may be, modulo 2^32.
+fn range_of(less: bool, equal: bool, greater: bool) -> (u32, u32) {
+    if !less && !equal && !greater {
+        return (0x8000_0000, 0);
+    }
+    let least = if greater && !less {
+        0xff00_0000
+    } else if equal {
+        0
+    } else {
+        1
+    };
+    let last: u32 = if less && greater {
+        0xffff_ffff
+    } else if less {
+        0x100_0000
+    } else if equal {
+        0
+    } else {
+        0xffff_ffff
+    };
+    (least, last.wrapping_sub(least))
+}
+
 pub(crate) fn rule_of(state: &StateWord) -> Rule
     ensures { IsRule result state.now }
 {
     let test = state.depth_test();
+    let (less, equal, greater) = (
+        depth_test(test, 0, 1),
+        depth_test(test, 1, 1),
+        depth_test(test, 1, 0),
+    );
+    let (least, more) = range_of(less, equal, greater);
     Rule {
-        less: depth_test(test, 0, 1),
-        equal: depth_test(test, 1, 1),
-        greater: depth_test(test, 1, 0),
+        less,
+        equal,
+        greater,
         writes: state.writes_depth(),
+        least,
+        more,
     }
 }
 
@@ -98,35 +133,14 @@ pub(crate) struct FourTest {
     writes: mask32x4,
 }
 
-/// The test of a rule; none where all depths pass but an equal one.
-pub(crate) fn four_test(rule: &Rule) -> Option<FourTest> {
-    if rule.less & (rule.greater & !rule.equal) {
-        return None;
-    }
-    let first = if rule.greater {
-        0x1000_0000u32
-    } else if rule.equal {
-        0x2000_0000
-    } else {
-        0x2000_0001
-    };
-    let after = if rule.less {
-        0x3000_0000u32
-    } else if rule.equal {
-        0x2000_0001
-    } else {
-        0x2000_0000
-    };
-    let (least, more) = if first < after {
-        (first.wrapping_sub(0x2000_0000), after - first - 1)
-    } else {
-        (0x8000_0000, 0)
-    };
-    Some(FourTest {
-        least: u32x4::splat(least),
-        more: u32x4::splat(more),
+/// The test of a rule.
+#[inline(always)]
+pub(crate) fn four_test(rule: &Rule) -> FourTest {
+    FourTest {
+        least: u32x4::splat(rule.least),
+        more: u32x4::splat(rule.more),
         writes: mask32x4::splat(rule.writes),
-    })
+    }
 }
 
 /// Which of four new depths pass over stored ones.

@@ -48,13 +48,6 @@ pub(crate) struct Brush<'x> {
     pub short: Option<Ramp>,
 }
 
-/// Room for the colours and the depths of a piece of a row.
-#[derive(Drop)]
-pub(crate) struct Lists {
-    pub paints: [[u8; 4]; 256],
-    pub news: [u32; 256],
-}
-
 /// The value of a ramp at a column and a row.
 pub(crate) fn value_at(ramp: &Ramp, x: u16, y: u16) -> u64
     ensures { result ≡ ramp_at ramp.now x y }

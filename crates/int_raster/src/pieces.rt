@@ -28,7 +28,7 @@ fn unit_part(value: u128) -> u32
 
 /// The values of the four channels' ramps at a pixel: red and green, blue and alpha.
 #[derive(Clone, Copy)]
-struct Tint {
+pub(crate) struct Tint {
     even: u64x2,
     odd: u64x2,
 }
@@ -48,7 +48,7 @@ fn tint_words(at: Tint) -> u32x4 {
 }
 
 /// What the four channels gain by a column.
-fn tint_steps(shade: &Shade) -> Tint {
+pub(crate) fn tint_steps(shade: &Shade) -> Tint {
     Tint {
         even: u64x2::from_array([shade.red.right, shade.green.right]),
         odd: u64x2::from_array([shade.blue.right, shade.alpha.right]),
@@ -56,7 +56,7 @@ fn tint_steps(shade: &Shade) -> Tint {
 }
 
 /// The four channels at a piece's first pixel.
-fn tint_at(shade: &Shade, piece: &Span) -> Tint {
+pub(crate) fn tint_at(shade: &Shade, piece: &Span) -> Tint {
     Tint {
         even: u64x2::from_array([
             value_at(&shade.red, piece.first, piece.y),
@@ -71,7 +71,7 @@ fn tint_at(shade: &Shade, piece: &Span) -> Tint {
 
 /// The channels of four pixels in lanes of 16 bits, and the values behind them.
 #[inline(always)]
-fn four_tints(at: Tint, by: Tint) -> (u16x8, u16x8, Tint) {
+pub(crate) fn four_tints(at: Tint, by: Tint) -> (u16x8, u16x8, Tint) {
     let b = stepped_tint(at, by);
     let c = stepped_tint(b, by);
     let d = stepped_tint(c, by);
