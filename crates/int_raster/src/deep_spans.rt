@@ -9,7 +9,7 @@ ghost use Rattle.int_raster.specs.Painted.{shade_at, HoldsPiece, HoldsDepths, Ar
 ghost use Rattle.int_raster.specs.Rules.{IsLevel, IsPlain, IsRule};
 ghost use Rattle.int_raster.specs.Seen.{facing_seen, paint_seen, step_seen};
 
-use crate::lanes::{first_lanes, lowest_bytes, numbers_of, put_words, upper_halves, words_of};
+use crate::lanes::{first_lanes, lowest_bytes, numbers_of, put_words, upper_halves, word_of, words_of};
 use crate::lists::Prepared;
 use crate::opaque::{FourTest, Level, Rule, four_kept, four_pass, four_test, stored_after};
 use crate::painters::{Shade, value_at};
@@ -20,10 +20,6 @@ use crate::stores::{Opaque, Store};
 use pixel_ops::Pixel;
 use std::simd::prelude::*;
 use tri_cover::{Ramp, Setup};
-
-/// From so many columns on it pays to copy what does not change along a span. What is borrowed may change with each pixel
-/// that is stored, as far as a compiler can tell, so it is read again for each.
-const LONG: u16 = 16;
 
 /// The depth word of a depth texel.
 fn depth_word(texel: [u8; 4]) -> u32
@@ -173,6 +169,34 @@ fn fill_by(
     }
 }
 
+/// Stores one colour in a span where its depth passes, in windows of four of which the last may run past its end.
+fn fill_by_four(
+    colors: &mut [[u8; 4]],
+    depths: &mut [[u8; 4]],
+    span: &Span,
+    color: [u8; 4],
+    depth: &Ramp,
+    rule: &Rule,
+) {
+    let test = four_test(rule);
+    let four = u32x4::splat(word_of(color));
+    let first = value_at(depth, span.first, span.y);
+    let step = u64x2::splat(depth.right.wrapping_mul(4));
+    let mut front = u64x2::from_array([first, first.wrapping_add(depth.right)]);
+    let mut back = front + u64x2::splat(depth.right.wrapping_mul(2));
+    let base = span.start + span.first as usize;
+    let count = (span.after - span.first) as u32;
+    let mut at = 0u32;
+    while at < count {
+        let deep = upper_halves(front, back) >> u32x4::splat(8);
+        let inside = first_lanes(count - at);
+        store_four(colors, depths, base + at as usize, four, deep, inside, &test, &Opaque);
+        front = front + step;
+        back = back + step;
+        at += 4;
+    }
+}
+
 /// Stores one colour in a span where its depth passes.
 pub(crate) fn fill(
     colors: &mut [[u8; 4]],
@@ -191,11 +215,10 @@ pub(crate) fn fill(
     requires depths { HasSpanDepths depth.now setup.now span.now.y span.now.first span.now.after }
     ensures { deep_pixels colors.new depths.new ≡ map_from (spanned (in_row span.now.start span.now.y (step_seen draw.now setup.now)) (span.now.start + span.now.first) (span.now.start + span.now.after)) 0 (deep_pixels colors.old depths.old) }
 {
-    if span.after - span.first < LONG {
+    if colors.len() - (span.start + span.after as usize) < 3 {
         fill_by(colors, depths, span, color, depth, rule, setup, draw);
     } else {
-        let (depth, rule) = (*depth, *rule);
-        fill_by(colors, depths, span, color, &depth, &rule, setup, draw);
+        fill_by_four(colors, depths, span, color, depth, rule);
     }
 }
 
