@@ -206,7 +206,7 @@ fn in_pieces(
     }
 }
 
-/// Paints a long span where it stands, but for the last one to three of its places.
+/// Paints a span where it stands.
 fn in_place(
     colors: &mut [[u8; 4]],
     span: &Span,
@@ -219,27 +219,9 @@ fn in_place(
     requires paints { PaintsSpan painter.now draw.now setup.now span.now.y span.now.first span.now.after }
     ensures { colors.new ≡ map_from (spanned (in_row span.now.start span.now.y (color_seen draw.now setup.now)) (span.now.start + span.now.first) (span.now.start + span.now.after)) 0 colors.old }
 {
-    let whole = (span.after - span.first) & 0xfffc;
-    let middle = span.first + whole;
     let base = span.start + span.first as usize;
-    let front = Span {
-        start: span.start,
-        y: span.y,
-        first: span.first,
-        after: middle,
-    };
-    paint_piece(painter, &front, &mut colors[base..base + whole as usize]);
-    if middle < span.after {
-        let rest = Span {
-            start: span.start,
-            y: span.y,
-            first: middle,
-            after: span.after,
-        };
-        let mut paints = [[0; 4]; 4];
-        paint_piece(painter, &rest, &mut paints);
-        store(colors, &rest, &paints, &Opaque, setup, draw);
-    }
+    let count = (span.after - span.first) as usize;
+    paint_piece(painter, span, &mut colors[base..base + count]);
 }
 
 /// Draws a span with a painter.
@@ -262,13 +244,7 @@ fn paint(
         match painter {
             Painter::Solid(color) => fill(colors, span, *color, setup, draw),
             Painter::Vertex(shade) => store_shade(colors, span, shade, setup, draw),
-            _ => {
-                if span.after - span.first < 64 {
-                    in_pieces(colors, span, painter, opaque, blending, setup, draw);
-                } else {
-                    in_place(colors, span, painter, setup, draw);
-                }
-            }
+            _ => in_place(colors, span, painter, setup, draw),
         }
     } else {
         in_pieces(colors, span, painter, opaque, blending, setup, draw);

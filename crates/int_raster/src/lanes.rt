@@ -62,6 +62,33 @@ pub(crate) fn put_words(texels: &mut [[u8; 4]], at: usize, words: u32x4)
     texels[at + 3] = d;
 }
 
+/// The words of the first ones of four texels from a place on, fewer than four, and 0.
+#[inline(always)]
+pub(crate) fn first_words(texels: &[[u8; 4]], at: usize, count: usize) -> u32x4 {
+    u32x4::from_array([
+        if count > 0 { word_of(texels[at]) } else { 0 },
+        if count > 1 { word_of(texels[at + 1]) } else { 0 },
+        if count > 2 { word_of(texels[at + 2]) } else { 0 },
+        0,
+    ])
+}
+
+/// Puts the texels of the first ones of four words from a place on, fewer than four.
+#[inline(always)]
+pub(crate) fn put_first(texels: &mut [[u8; 4]], at: usize, words: u32x4, count: usize) {
+    let words = words.to_array();
+    let (a, b, c) = (texel_of(words[0]), texel_of(words[1]), texel_of(words[2]));
+    if count > 0 {
+        texels[at] = a;
+    }
+    if count > 1 {
+        texels[at + 1] = b;
+    }
+    if count > 2 {
+        texels[at + 2] = c;
+    }
+}
+
 /// Four numbers from a place on.
 #[inline(always)]
 pub(crate) fn numbers_of(numbers: &[u32], at: usize) -> u32x4

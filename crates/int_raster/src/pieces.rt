@@ -8,7 +8,9 @@ ghost use Rattle.tri_cover.specs.Widened.{wide_whole};
 ghost use Rattle.int_raster.specs.Painted.{place_at, shade_at, painter_color, HoldsPiece, HoldsDepths, AreDepths};
 
 use crate::painters::{Painter, Place, Shade, value_at, wide_value_at};
-use crate::lanes::{lower_halves, lowest_bytes, put_numbers, put_words, upper_halves, words_of};
+use crate::lanes::{
+    first_words, lower_halves, lowest_bytes, put_first, put_numbers, put_words, upper_halves, words_of,
+};
 use crate::sampling::{sampler_of, sides_of, texel_at, texels_at};
 use crate::samplers::Sampler;
 use crate::spans::Span;
@@ -105,6 +107,22 @@ fn middle_bits(n: u128) -> u64 {
     (n >> 56) as u64
 }
 
+/// The upper halves of four pixels' positions, and the position behind them.
+#[inline(always)]
+fn four_positions(a: u64x2, by: u64x2) -> (u32x4, u32x4, u64x2) {
+    let b = a + by;
+    let c = b + by;
+    let d = c + by;
+    (upper_halves(a, b), upper_halves(c, d), d + by)
+}
+
+/// The greatest of the upper 16 bits of fractions, in the lanes of even numbers.
+#[inline(always)]
+fn most_fractions(most: u16x8, front: u32x4, back: u32x4) -> u16x8 {
+    most.simd_max(u16x8::from_le_bytes(front.to_le_bytes()))
+        .simd_max(u16x8::from_le_bytes(back.to_le_bytes()))
+}
+
 /// The texels at positions that are stepped in 64 bits from a column on, 16 of them before the point: whether they are right.
 /// Behind n columns such a position lacks at most n of its lowest bits, so it is right where its fraction's upper 16 bits are not all set.
 fn texels_by_four(
@@ -118,18 +136,20 @@ fn texels_by_four(
     let sides = sides_of(&sampler);
     let mut most = u16x8::splat(0);
     let mut a = start;
+    let whole = count & 0xfffc;
     let mut next = 0usize;
-    while next < count {
-        let b = a + by;
-        let c = b + by;
-        let d = c + by;
-        let (front, back) = (upper_halves(a, b), upper_halves(c, d));
-        most = most
-            .simd_max(u16x8::from_le_bytes(front.to_le_bytes()))
-            .simd_max(u16x8::from_le_bytes(back.to_le_bytes()));
+    while next < whole {
+        let (front, back, behind) = four_positions(a, by);
+        most = most_fractions(most, front, back);
         put_words(colors, next, texels_at(&sampler, &sides, front, back));
-        a = d + by;
+        a = behind;
         next += 4;
+    }
+    if next < count {
+        let (front, back, _) = four_positions(a, by);
+        most = most_fractions(most, front, back);
+        let four = texels_at(&sampler, &sides, front, back);
+        put_first(colors, next, four, count - next);
     }
     let most = most.to_array();
     most[0].max(most[2]).max(most[4]).max(most[6]) < 0xffff
@@ -159,6 +179,16 @@ fn texture_piece(texels: &Texels, at: &Place, piece: &Span, colors: &mut [[u8; 4
     }
 }
 
+/// Four texels times four colours, whose channels stand in lanes of 16 bits.
+#[inline(always)]
+fn tinted(texels: u32x4, front: u16x8, back: u16x8) -> u32x4 {
+    let bytes = texels.to_le_bytes().cast::<u16>();
+    lowest_bytes(
+        multiply_lanes(bytes.extract::<0, 8>(), front),
+        multiply_lanes(bytes.extract::<8, 8>(), back),
+    )
+}
+
 /// The products of the texels at the texture positions and of the vertices' colours.
 fn product_piece(texels: &Texels, at: &Place, shade: &Shade, piece: &Span, colors: &mut [[u8; 4]])
     requires room { piece.now.after ≤ piece.now.first + length colors.old }
@@ -169,15 +199,19 @@ fn product_piece(texels: &Texels, at: &Place, shade: &Shade, piece: &Span, color
     let by = tint_steps(shade);
     let mut tint = tint_at(shade, piece);
     let count = (piece.after - piece.first) as usize;
+    let whole = count & 0xfffc;
     let mut next = 0usize;
-    while next < count {
+    while next < whole {
         let (front, back, behind) = four_tints(tint, by);
-        let bytes = words_of(colors, next).to_le_bytes().cast::<u16>();
-        let front = multiply_lanes(bytes.extract::<0, 8>(), front);
-        let back = multiply_lanes(bytes.extract::<8, 8>(), back);
-        put_words(colors, next, lowest_bytes(front, back));
+        let four = tinted(words_of(colors, next), front, back);
+        put_words(colors, next, four);
         tint = behind;
         next += 4;
+    }
+    if next < count {
+        let (front, back, _) = four_tints(tint, by);
+        let four = tinted(first_words(colors, next, count - next), front, back);
+        put_first(colors, next, four, count - next);
     }
 }
 
