@@ -13,7 +13,7 @@ ghost use Rattle.int_raster.specs.Painted.{shade_at, PaintsSpan, Paints, IsOpaqu
 ghost use Rattle.int_raster.specs.Seen.{paint_seen, color_seen, color_change};
 
 use crate::columns::{drawn_columns, drawn_limits, drawn_rows};
-use crate::lanes::{first_lanes, put_words, words_of};
+use crate::lanes::{first_lanes, put_words, word_of, words_of};
 use crate::lists::Prepared;
 use crate::painters::{Painter, Shade, is_opaque, packed, value_at, whole};
 use crate::painting::stepped;
@@ -22,6 +22,7 @@ use crate::rows::Rows;
 use crate::spans::Span;
 use crate::stores::{Laid, Opaque, Store};
 use pixel_ops::{Blending, Pixel};
+use std::simd::prelude::*;
 use tri_cover::Setup;
 
 /// Steps the colours of a span by the exact means at each pixel.
@@ -38,6 +39,22 @@ pub(crate) fn step_exactly(colors: &mut [[u8; 4]], span: &Span, setup: &Setup, d
     }
 }
 
+/// Stores one colour in so many places, at least four: by fours, of which the last may lie over the one before.
+#[inline(always)]
+fn fill_by_four(colors: &mut [[u8; 4]], start: usize, count: usize, color: [u8; 4])
+    requires some { 4 ≤ count }
+    requires inside { start + count ≤ length colors.old }
+{
+    let four = u32x4::splat(word_of(color));
+    let last = start + count - 4;
+    let mut at = start;
+    while at < last {
+        put_words(colors, at, four);
+        at += 4;
+    }
+    put_words(colors, last, four);
+}
+
 /// Stores one colour in a span.
 fn fill(colors: &mut [[u8; 4]], span: &Span, color: [u8; 4], setup: &Setup, draw: &Prepared)
     requires inside { span.now.start + span.now.after ≤ length colors.old }
@@ -46,6 +63,11 @@ fn fill(colors: &mut [[u8; 4]], span: &Span, color: [u8; 4], setup: &Setup, draw
     ensures { colors.new ≡ map_from (spanned (in_row span.now.start span.now.y (color_seen draw.now setup.now)) (span.now.start + span.now.first) (span.now.start + span.now.after)) 0 colors.old }
 {
     let bytes = whole(color);
+    let count = (span.after - span.first) as usize;
+    if 4 <= count && count < 32 {
+        fill_by_four(colors, span.start + span.first as usize, count, bytes);
+        return;
+    }
     for x in span.first..span.after {
         colors[span.start + x as usize] = bytes;
     }
