@@ -26,7 +26,16 @@ pub struct DrawState {
     pub indices: IndexSet,
     pub first_texture: Option<Handle>,
     pub second_texture: Option<Handle>,
+    // The discard flags of the parts that may differ from what they are at the beginning; each other part is as it is there.
+    pub changed: u8,
 }
+
+/// The discard flags of the parts.
+pub const TEXTURES: u8 = 1;
+pub const INDICES: u8 = 2;
+pub const WORDS: u8 = 8;
+pub const TRANSFORM: u8 = 16;
+pub const VERTICES: u8 = 32;
 
 impl DrawState {
     ghost use Rattle.draw_encoder.specs.States.{state_seen, drawn_with, with_plain_words, HasStateWithin};
@@ -46,6 +55,7 @@ impl DrawState {
             indices: IndexSet::Unset,
             first_texture: None,
             second_texture: None,
+            changed: 0,
         }
     }
 
@@ -84,6 +94,11 @@ impl DrawState {
         ensures seen { (bytes : List ℕ) → state_seen bytes self.new ≡ discarded flags (state_seen bytes self.old) }
         ensures within { (n : ℕ) → HasStateWithin n self.old → HasStateWithin n self.new }
     {
+        let flags = flags & self.changed;
+        if flags == 0 {
+            return;
+        }
+        self.changed ^= flags;
         if is_set(flags, 0) {
             self.first_texture = None;
             self.second_texture = None;

@@ -11,7 +11,7 @@ use crate::items::{
     BlitCall, BlitItem, IndexSet, Item, Recording, TouchItem, UniformSet, VertexSet,
 };
 use crate::lists::{Bytes, Items, UniformSets, put_item};
-use crate::states::DrawState;
+use crate::states::{DrawState, INDICES, TEXTURES, TRANSFORM, VERTICES, WORDS};
 use fix_math::{Affine, Rect};
 use gfx_words::{Handle, Room, StateWord, StencilWord};
 use std::alloc::{AllocError, Global};
@@ -109,6 +109,7 @@ impl Tape {
         ensures { self.new ≡ with_call (calls.set_state state) self.old }
     {
         self.current.state = state;
+        self.current.changed |= WORDS;
     }
 
     pub fn set_stencil(&mut self, front: StencilWord, back: StencilWord)
@@ -116,18 +117,21 @@ impl Tape {
     {
         self.current.front = front;
         self.current.back = back;
+        self.current.changed |= WORDS;
     }
 
     pub fn set_scissor(&mut self, rect: Rect)
         ensures { self.new ≡ with_call (calls.set_scissor (rect_seen rect)) self.old }
     {
         self.current.scissor = rect;
+        self.current.changed |= WORDS;
     }
 
     pub fn set_transform(&mut self, model: Affine)
         ensures { self.new ≡ with_call (calls.set_transform (affine_seen model)) self.old }
     {
         self.current.model = model;
+        self.current.changed |= TRANSFORM;
     }
 
     pub fn set_vertices(&mut self, buffer: Handle, first: u32, count: u32)
@@ -138,6 +142,7 @@ impl Tape {
             first,
             count,
         };
+        self.current.changed |= VERTICES;
     }
 
     pub fn set_indices(&mut self, buffer: Handle, first: u32, count: u32)
@@ -148,6 +153,7 @@ impl Tape {
             first,
             count,
         };
+        self.current.changed |= INDICES;
     }
 
     pub fn set_transient_vertices(&mut self, layout: Handle, bytes: &[u8])
@@ -158,6 +164,7 @@ impl Tape {
         let length = bytes.len() as u32;
         self.bytes.extend_from_slice(bytes).unwrap();
         self.current.vertices = VertexSet::Transient { layout, at, length };
+        self.current.changed |= VERTICES;
     }
 
     pub fn set_transient_indices(&mut self, bytes: &[u8])
@@ -168,6 +175,7 @@ impl Tape {
         let length = bytes.len() as u32;
         self.bytes.extend_from_slice(bytes).unwrap();
         self.current.indices = IndexSet::Transient { at, length };
+        self.current.changed |= INDICES;
     }
 
     pub fn set_texture(&mut self, stage: u8, texture: Option<Handle>)
@@ -179,6 +187,7 @@ impl Tape {
         } else {
             self.current.second_texture = texture;
         }
+        self.current.changed |= TEXTURES;
     }
 
     pub fn set_uniform(&mut self, set: UniformSet)
