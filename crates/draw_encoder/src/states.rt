@@ -5,7 +5,7 @@ ghost use Rattle.gfx_model.specs.Recorder.{plain_state, discarded};
 
 use crate::items::{DrawItem, IndexSet, VertexSet};
 use fix_math::{Affine, Rect};
-use gfx_words::{Handle, StateWord, StencilWord};
+use gfx_words::{Handle, Info, Kind, StateWord, StencilWord};
 
 const NO_SCISSOR: Rect = Rect {
     x: 0,
@@ -17,15 +17,8 @@ const NO_SCISSOR: Rect = Rect {
 /// What the next draw is recorded with.
 #[derive(Clone, Copy, Drop)]
 pub struct DrawState {
-    pub state: StateWord,
-    pub front: StencilWord,
-    pub back: StencilWord,
-    pub scissor: Rect,
-    pub model: Affine,
-    pub vertices: VertexSet,
-    pub indices: IndexSet,
-    pub first_texture: Option<Handle>,
-    pub second_texture: Option<Handle>,
+    // The item that the next draw begins from; what a call of `draw_item` gives is whatever it was at the draw before.
+    pub item: DrawItem,
     // The discard flags of the parts that may differ from what they are at the beginning; each other part is as it is there.
     pub changed: u8,
 }
@@ -46,22 +39,29 @@ impl DrawState {
         ensures within { (n : ℕ) → HasStateWithin n result }
     {
         DrawState {
-            state: plain_word(),
-            front: no_stencil(),
-            back: no_stencil(),
-            scissor: NO_SCISSOR,
-            model: Affine::identity(),
-            vertices: VertexSet::Unset,
-            indices: IndexSet::Unset,
-            first_texture: None,
-            second_texture: None,
+            item: DrawItem {
+                view: 0,
+                number: 0,
+                program: Handle::of(Kind::Program, 0, 0, Info::Plain),
+                depth: 0,
+                state: plain_word(),
+                front: no_stencil(),
+                back: no_stencil(),
+                scissor: NO_SCISSOR,
+                model: Affine::identity(),
+                vertices: VertexSet::Unset,
+                indices: IndexSet::Unset,
+                textures: [None, None],
+                values_at: 0,
+                values: 0,
+            },
             changed: 0,
         }
     }
 
     /// A draw with this state and a range of uniform values.
     pub fn draw_item(
-        self,
+        &self,
         view: u16,
         number: u64,
         program: Handle,
@@ -71,22 +71,14 @@ impl DrawState {
     ) -> DrawItem
         ensures { result ≡ drawn_with self view number program depth values_at values }
     {
-        DrawItem {
-            view,
-            number,
-            program,
-            depth,
-            state: self.state,
-            front: self.front,
-            back: self.back,
-            scissor: self.scissor,
-            model: self.model,
-            vertices: self.vertices,
-            indices: self.indices,
-            textures: [self.first_texture, self.second_texture],
-            values_at,
-            values,
-        }
+        let mut item = self.item;
+        item.view = view;
+        item.number = number;
+        item.program = program;
+        item.depth = depth;
+        item.values_at = values_at;
+        item.values = values;
+        item
     }
 
     /// Resets the parts that the flags name, and leaves the others as they are.
@@ -100,20 +92,19 @@ impl DrawState {
         }
         self.changed ^= flags;
         if is_set(flags, 0) {
-            self.first_texture = None;
-            self.second_texture = None;
+            self.item.textures = [None, None];
         }
         if is_set(flags, 1) {
-            self.indices = IndexSet::Unset;
+            self.item.indices = IndexSet::Unset;
         }
         if is_set(flags, 3) {
             self.reset_words();
         }
         if is_set(flags, 4) {
-            self.model = Affine::identity();
+            self.item.model = Affine::identity();
         }
         if is_set(flags, 5) {
-            self.vertices = VertexSet::Unset;
+            self.item.vertices = VertexSet::Unset;
         }
     }
 
@@ -121,10 +112,10 @@ impl DrawState {
     fn reset_words(&mut self)
         ensures { self.new ≡ with_plain_words self.old }
     {
-        self.state = plain_word();
-        self.front = no_stencil();
-        self.back = no_stencil();
-        self.scissor = NO_SCISSOR;
+        self.item.state = plain_word();
+        self.item.front = no_stencil();
+        self.item.back = no_stencil();
+        self.item.scissor = NO_SCISSOR;
     }
 }
 

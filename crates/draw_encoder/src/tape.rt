@@ -108,36 +108,36 @@ impl Tape {
     pub fn set_state(&mut self, state: StateWord)
         ensures { self.new ≡ with_call (calls.set_state state) self.old }
     {
-        self.current.state = state;
+        self.current.item.state = state;
         self.current.changed |= WORDS;
     }
 
     pub fn set_stencil(&mut self, front: StencilWord, back: StencilWord)
         ensures { self.new ≡ with_call (calls.set_stencil front back) self.old }
     {
-        self.current.front = front;
-        self.current.back = back;
+        self.current.item.front = front;
+        self.current.item.back = back;
         self.current.changed |= WORDS;
     }
 
     pub fn set_scissor(&mut self, rect: Rect)
         ensures { self.new ≡ with_call (calls.set_scissor (rect_seen rect)) self.old }
     {
-        self.current.scissor = rect;
+        self.current.item.scissor = rect;
         self.current.changed |= WORDS;
     }
 
     pub fn set_transform(&mut self, model: Affine)
         ensures { self.new ≡ with_call (calls.set_transform (affine_seen model)) self.old }
     {
-        self.current.model = model;
+        self.current.item.model = model;
         self.current.changed |= TRANSFORM;
     }
 
     pub fn set_vertices(&mut self, buffer: Handle, first: u32, count: u32)
         ensures { self.new ≡ with_call (calls.set_vertices buffer first count) self.old }
     {
-        self.current.vertices = VertexSet::Buffer {
+        self.current.item.vertices = VertexSet::Buffer {
             buffer,
             first,
             count,
@@ -148,7 +148,7 @@ impl Tape {
     pub fn set_indices(&mut self, buffer: Handle, first: u32, count: u32)
         ensures { self.new ≡ with_call (calls.set_indices buffer first count) self.old }
     {
-        self.current.indices = IndexSet::Buffer {
+        self.current.item.indices = IndexSet::Buffer {
             buffer,
             first,
             count,
@@ -163,7 +163,7 @@ impl Tape {
         let at = self.bytes.len() as u32;
         let length = bytes.len() as u32;
         self.bytes.extend_from_slice(bytes).unwrap();
-        self.current.vertices = VertexSet::Transient { layout, at, length };
+        self.current.item.vertices = VertexSet::Transient { layout, at, length };
         self.current.changed |= VERTICES;
     }
 
@@ -174,7 +174,7 @@ impl Tape {
         let at = self.bytes.len() as u32;
         let length = bytes.len() as u32;
         self.bytes.extend_from_slice(bytes).unwrap();
-        self.current.indices = IndexSet::Transient { at, length };
+        self.current.item.indices = IndexSet::Transient { at, length };
         self.current.changed |= INDICES;
     }
 
@@ -183,9 +183,9 @@ impl Tape {
         ensures { self.new ≡ with_call (calls.set_texture stage texture) self.old }
     {
         if stage == 0 {
-            self.current.first_texture = texture;
+            self.current.item.textures[0] = texture;
         } else {
-            self.current.second_texture = texture;
+            self.current.item.textures[1] = texture;
         }
         self.current.changed |= TEXTURES;
     }
