@@ -78,12 +78,13 @@ impl Names {
     pub fn used(&self, field: &[u8]) -> Result<u32, Cause>
         ensures { Gives (λ n. n) result (used_name self.now field.now) }
     {
-        if !is_name(field) {
-            return Err(Cause::NoName);
-        }
+        // A name that is bound is spelled as one, so what is kept needs no look at the spelling.
         let kept = self.kept[small_number(field)];
         if self.is_at(kept, field) {
             return Ok(kept);
+        }
+        if !is_name(field) {
+            return Err(Cause::NoName);
         }
         match self.bound.get_index_of(field) {
             Some(place) => Ok(place as u32),

@@ -8,7 +8,6 @@ ghost use Rattle.scene_text.specs.Seen.{encoder_line_seen, frame_seen};
 
 use crate::bytes::hex_bytes;
 use crate::encoder_lines::four;
-use crate::frames::add_encoder_line;
 use crate::marks::{lowest, marks_from};
 use crate::names::Names;
 use crate::scene::{EncLine, SceneFrame};
@@ -212,10 +211,26 @@ pub fn read_run(
     ensures few { IfOk result (λ run. (run.lines ≤ run.bytes) × (run.bytes ≤ length bytes.now)) }
     ensures read { IfOk result (λ run. (r : model.Reading) → r.stage ≡ model.in_block → r.names ≡ names.now → r.frames ≡ map frame_seen frames.old.items → AreRead bytes.now run.bytes run.lines r (with_frames (map frame_seen frames.new.items) r)) }
 {
+    match frames.last_mut() {
+        Some(frame) => match frame.blocks.all.last_mut() {
+            Some(block) => read_lines(alloc, names, &mut block.lines.all, bytes),
+            None => Ok(Run { bytes: 0, lines: 0 }),
+        },
+        None => Ok(Run { bytes: 0, lines: 0 }),
+    }
+}
+
+/// The same, to the end of a list of lines.
+fn read_lines(
+    alloc: Global,
+    names: &Names,
+    all: &mut Vec<EncLine>,
+    bytes: &[u8],
+) -> Result<Run, AllocError> {
     let mut place = 0;
     let mut lines = 0;
     while let Some((line, end)) = line_at(alloc, names, &bytes[place..]) {
-        add_encoder_line(frames, line)?;
+        all.push(line)?;
         place += end + 1;
         lines += 1;
     }
