@@ -68,15 +68,11 @@ pub fn color_field(field: &[u8]) -> Result<[u8; 4], Cause>
     Ok([red, green, blue, alpha])
 }
 
-/// Whether each byte is a digit. It does not stop early, so that the loop goes by vectors.
-fn all_hex(digits: &[u8]) -> bool
-    ensures { result ≡ list_all is_hex digits.now }
-{
-    let mut all = true;
-    for byte in digits {
-        all &= is_hex(*byte);
-    }
-    all
+/// Which of sixteen bytes are no digits, as a mask.
+#[inline(always)]
+fn no_digits(digits: u8x16) -> mask8x16 {
+    (digits - u8x16::splat(b'0')).simd_ge(u8x16::splat(10))
+        & (digits - u8x16::splat(b'a')).simd_ge(u8x16::splat(6))
 }
 
 /// The values of sixteen digits.
@@ -89,47 +85,40 @@ fn digits_of(digits: u8x16) -> u8x16
         .select(digits - u8x16::splat(48), digits - u8x16::splat(87))
 }
 
-/// The bytes of the sixteen pairs of digits from a place on.
-#[inline(always)]
-fn sixteen_pairs(digits: &[u8], from: usize) -> u8x16
-    requires { from + 32 ≤ length digits.now }
-    ensures { result ≡ pairs_of (take 32 (drop from digits.now)) }
-{
-    let first = u8x16::from_slice(&digits[from..]);
-    let second = u8x16::from_slice(&digits[from + 16..]);
-    let high = digits_of(first.shuffle(
-        second,
-        [0, 2, 4, 6, 8, 10, 12, 14, 16, 18, 20, 22, 24, 26, 28, 30],
-    ));
-    let low = digits_of(first.shuffle(
-        second,
-        [1, 3, 5, 7, 9, 11, 13, 15, 17, 19, 21, 23, 25, 27, 29, 31],
-    ));
-    high * u8x16::splat(16) + low
-}
-
-/// Puts the bytes of pairs of digits in their places, those before a place being there.
-fn put_rest(digits: &[u8], bytes: &mut [u8], from: usize)
-    requires sized { length digits.now ≡ 2 * length bytes.old }
-    requires begun { take from bytes.old ++ pairs_of (drop (2 * from) digits.now) ≡ pairs_of digits.now }
-    ensures { bytes.new ≡ pairs_of digits.now }
-{
+/// Puts the bytes of pairs of digits in their places from one on, and answers whether the digits from there on are digits.
+fn put_rest(digits: &[u8], bytes: &mut [u8], from: usize) -> bool {
+    let mut all = true;
     for place in from..bytes.len() {
-        bytes[place] = pair_of(digits[2 * place], digits[2 * place + 1]);
+        let (a, b) = (digits[2 * place], digits[2 * place + 1]);
+        all &= is_hex(a) & is_hex(b);
+        bytes[place] = pair_of(a, b);
     }
+    all
 }
 
-/// Puts the bytes of pairs of digits in their places, sixteen at a time as far as they go.
-fn put_pairs(digits: &[u8], bytes: &mut [u8])
+/// Puts the bytes of pairs of digits in their places, sixteen at a time as far as they go, and answers whether all are digits.
+fn put_pairs(digits: &[u8], bytes: &mut [u8]) -> bool
     requires { length digits.now ≡ 2 * length bytes.old }
-    ensures { bytes.new ≡ pairs_of digits.now }
 {
     let mut from = 0;
+    let mut bad = mask8x16::splat(false);
     while bytes.len() - from >= 16 {
-        sixteen_pairs(digits, 2 * from).copy_to_slice(&mut bytes[from..]);
+        let first = u8x16::from_slice(&digits[2 * from..]);
+        let second = u8x16::from_slice(&digits[2 * from + 16..]);
+        bad = bad | no_digits(first) | no_digits(second);
+        let (first, second) = (digits_of(first), digits_of(second));
+        let high = first.shuffle(
+            second,
+            [0, 2, 4, 6, 8, 10, 12, 14, 16, 18, 20, 22, 24, 26, 28, 30],
+        );
+        let low = first.shuffle(
+            second,
+            [1, 3, 5, 7, 9, 11, 13, 15, 17, 19, 21, 23, 25, 27, 29, 31],
+        );
+        (high * u8x16::splat(16) + low).copy_to_slice(&mut bytes[from..]);
         from += 16;
     }
-    put_rest(digits, bytes, from);
+    put_rest(digits, bytes, from) & !bad.any()
 }
 
 /// The bytes of pairs of digits.
@@ -139,11 +128,10 @@ fn pairs(alloc: Global, digits: &[u8]) -> Result<Vec<u8>, LineFault>
     if digits.len() % 2 == 1 {
         return Err(LineFault::Bad(Cause::Misspelt));
     }
-    if !all_hex(digits) {
+    let mut bytes = vec![in alloc; 0u8; digits.len() / 2]?;
+    if !put_pairs(digits, &mut bytes) {
         return Err(LineFault::Bad(Cause::Misspelt));
     }
-    let mut bytes = vec![in alloc; 0u8; digits.len() / 2]?;
-    put_pairs(digits, &mut bytes);
     Ok(bytes)
 }
 
