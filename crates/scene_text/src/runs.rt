@@ -96,8 +96,8 @@ fn has_lead(bytes: &[u8], from: usize, end: usize) -> bool
     end != from + 1
 }
 
-/// The number up to `high` at a place, and where this byte ends it.
-fn number_at(bytes: &[u8], from: usize, stop: u8, high: u32) -> Option<(u32, usize)>
+/// The number up to `high` at a place, and where this byte ends it, digit by digit.
+fn long_number_at(bytes: &[u8], from: usize, stop: u8, high: u32) -> Option<(u32, usize)>
     requires { from ≤ length bytes.now }
     ensures { IfSome result (λ p. IsPart bytes.now from p.1 stop × (is_numeral (part bytes.now from p.1) ≡ true) × (p.0 ≡ value_onto 0 (part bytes.now from p.1)) × (p.0 ≤ high)) }
 {
@@ -115,6 +115,56 @@ fn number_at(bytes: &[u8], from: usize, stop: u8, high: u32) -> Option<(u32, usi
         return None;
     }
     if has_lead(bytes, from, end) {
+        return None;
+    }
+    Some((value as u32, end))
+}
+
+/// The eight bytes at a place as a word, the first one lowest.
+#[inline(always)]
+fn word_at(bytes: &[u8], from: usize) -> u64
+    requires { from + 8 ≤ length bytes.now }
+{
+    match &bytes[from..from + 8] {
+        [a, b, c, d, e, f, g, h] => u64::from_le_bytes([*a, *b, *c, *d, *e, *f, *g, *h]),
+        _ => 0,
+    }
+}
+
+/// The value of eight digits of a word, of which the lowest byte is the first.
+#[inline(always)]
+fn value_of_eight(digits: u64) -> u64 {
+    let twos = digits.wrapping_mul(10).wrapping_add(digits >> 8) & 0x00ff_00ff_00ff_00ff;
+    let fours = twos.wrapping_mul(100).wrapping_add(twos >> 16) & 0x0000_ffff_0000_ffff;
+    fours.wrapping_mul(10_000).wrapping_add(fours >> 32) & 0xffff_ffff
+}
+
+/// The number up to `high` at a place, and where this byte ends it. Eight bytes are looked at in one word: the first that is no digit
+/// ends the number, and the word is shifted so that its last digit is the highest byte. A number of eight digits or more goes digit by digit.
+fn number_at(bytes: &[u8], from: usize, stop: u8, high: u32) -> Option<(u32, usize)>
+    requires { from ≤ length bytes.now }
+    ensures { IfSome result (λ p. IsPart bytes.now from p.1 stop × (is_numeral (part bytes.now from p.1) ≡ true) × (p.0 ≡ value_onto 0 (part bytes.now from p.1)) × (p.0 ≤ high)) }
+{
+    if bytes.len() - from < 8 {
+        return None;
+    }
+    let digits = word_at(bytes, from) ^ 0x3030_3030_3030_3030;
+    // The high bit of each byte that is no digit, and of bytes behind the first of these perhaps.
+    let others = (digits.wrapping_add(0x7676_7676_7676_7676) | digits) & 0x8080_8080_8080_8080;
+    if others == 0 {
+        return long_number_at(bytes, from, stop, high);
+    }
+    let low = others.trailing_zeros() as usize;
+    let count = low / 8;
+    let end = from + count;
+    if count == 0 || bytes[end] != stop {
+        return None;
+    }
+    if bytes[from] == b'0' && count != 1 {
+        return None;
+    }
+    let value = value_of_eight(digits << (64 - 8 * count));
+    if value > u64::from(high) {
         return None;
     }
     Some((value as u32, end))
