@@ -27,6 +27,29 @@ pub struct Names {
     bound: IndexMap<Vec<u8>, bool>,
     // By a small number of a name's spelling, the place of the name that was bound last with it: tried before the map.
     kept: [u32; 64],
+    // The same for names of up to seven bytes, by a small number of the word that the name is: the word, and the place.
+    words: [u64; 64],
+    word_places: [u32; 64],
+}
+
+// No name's word.
+const NO_WORD: u64 = u64::MAX;
+
+/// A small number of a word.
+#[inline(always)]
+fn small_of(word: u64) -> usize
+    ensures { result < 64 }
+{
+    (word.wrapping_mul(0x9e37_79b9_7f4a_7c15) >> 58) as usize
+}
+
+/// The word of a name of up to seven bytes, its first byte lowest.
+fn word_of(field: &[u8]) -> u64 {
+    let mut word: u64 = 0;
+    for place in 0..field.len().min(7) {
+        word |= u64::from(field[place]) << (8 * place as u32);
+    }
+    word
 }
 
 impl Model for Names {
@@ -60,6 +83,8 @@ impl Names {
         Names {
             bound: IndexMap::new(alloc),
             kept: [0; 64],
+            words: [NO_WORD; 64],
+            word_places: [0; 64],
         }
     }
 
@@ -72,6 +97,16 @@ impl Names {
             Some((text, _)) => is(field, text),
             None => false,
         }
+    }
+
+    /// The place of a bound name of up to seven bytes, by its word. `None` tells nothing.
+    #[inline(always)]
+    pub fn short(&self, word: u64) -> Option<u32> {
+        let at = small_of(word);
+        if self.words[at] != word {
+            return None;
+        }
+        Some(self.word_places[at])
     }
 
     /// The place of a name that an earlier line binds.
@@ -157,6 +192,11 @@ impl Names {
                 let text = Vec::from_slice(alloc, field)?;
                 self.bound.insert(text, by_uniform)?;
                 self.kept[small_number(field)] = place as u32;
+                if field.len() < 8 {
+                    let word = word_of(field);
+                    self.words[small_of(word)] = word;
+                    self.word_places[small_of(word)] = place as u32;
+                }
                 Ok(place as u32)
             }
         }

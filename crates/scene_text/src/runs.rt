@@ -43,11 +43,34 @@ fn end_at(bytes: &[u8], from: usize, stop: u8) -> Option<usize>
     Some(end)
 }
 
+/// The same, for a name of up to seven bytes that is kept by its word.
+fn short_name_at(names: &Names, bytes: &[u8], from: usize) -> Option<(u32, usize)>
+    requires { from ≤ length bytes.now }
+    ensures { IfSome result (λ p. IsPart bytes.now from p.1 32 × (used_name names.now (part bytes.now from p.1) ≡ Ok p.0)) }
+{
+    if bytes.len() - from < 8 {
+        return None;
+    }
+    let word = word_at(bytes, from);
+    let blanks = word ^ 0x2020_2020_2020_2020;
+    // The lowest high bit is that of the first blank.
+    let marks = blanks.wrapping_sub(0x0101_0101_0101_0101) & !blanks & 0x8080_8080_8080_8080;
+    if marks == 0 {
+        return None;
+    }
+    let count = marks.trailing_zeros() as usize / 8;
+    let name = names.short(word & ((1u64 << (8 * count)) - 1))?;
+    Some((name, from + count))
+}
+
 /// The name at a place, and where a blank ends it.
 fn name_at(names: &Names, bytes: &[u8], from: usize) -> Option<(u32, usize)>
     requires { from ≤ length bytes.now }
     ensures { IfSome result (λ p. IsPart bytes.now from p.1 32 × (used_name names.now (part bytes.now from p.1) ≡ Ok p.0)) }
 {
+    if let Some(found) = short_name_at(names, bytes, from) {
+        return Some(found);
+    }
     let end = end_at(bytes, from, b' ')?;
     match names.used(&bytes[from..end]) {
         Ok(name) => Some((name, end)),
