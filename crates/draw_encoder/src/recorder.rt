@@ -329,6 +329,20 @@ impl Recorder {
         ensures answer { Answers self.old.state self.new.state (calls.submit view program depth discard) result }
         ensures table { self.new.table ≡ self.old.table }
     {
+        // One branch for all that no word decides; which of them it is, and whether the word was asked, is told apart.
+        if self.lacks_view(view) | is_not_of(&program, Kind::Program) | self.lacks_room() {
+            return self.refused_submit(table, view, program);
+        }
+        self.name(table, program)?;
+        let number = table.draw_number(&mut self.seat);
+        self.tape.submit(view, number, program, depth, discard);
+        Ok(())
+    }
+
+    // Why a submit is refused that lacks a view, a program or room.
+    fn refused_submit(&mut self, table: &HoldTable, view: u16, program: Handle) -> Result<(), Refusal>
+        requires { self.old.table ≡ table_of table.now }
+    {
         if self.lacks_view(view) {
             return Err(Refusal::BadView);
         }
@@ -336,12 +350,7 @@ impl Recorder {
             return Err(Refusal::WrongKind);
         }
         self.name(table, program)?;
-        if self.lacks_room() {
-            return Err(Refusal::RoomFull);
-        }
-        let number = table.draw_number(&mut self.seat);
-        self.tape.submit(view, number, program, depth, discard);
-        Ok(())
+        Err(Refusal::RoomFull)
     }
 
     /// Puts down an empty primitive with the pending uniform values, and resets all parts of the state.
