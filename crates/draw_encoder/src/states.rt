@@ -3,7 +3,7 @@ ghost use Rattle.std.specs.Prelude.{◌≡◌, ℕ, ◌<◌, List, if◌then◌e
 ghost use Rattle.gfx_model.specs.Number.{is_bit_set};
 ghost use Rattle.gfx_model.specs.Recorder.{plain_state, discarded};
 
-use crate::items::{DrawItem, IndexSet, VertexSet};
+use crate::items::{DrawItem, IndexSet, Item, VertexSet};
 use fix_math::{Affine, Rect};
 use gfx_words::{Handle, Info, Kind, StateWord, StencilWord};
 
@@ -18,7 +18,7 @@ const NO_SCISSOR: Rect = Rect {
 #[derive(Clone, Copy, Drop)]
 pub struct DrawState {
     // The item that the next draw begins from; what a call of `draw_item` gives is whatever it was at the draw before.
-    pub item: DrawItem,
+    item: Item,
     // The discard flags of the parts that may differ from what they are at the beginning; each other part is as it is there.
     pub changed: u8,
 }
@@ -39,7 +39,7 @@ impl DrawState {
         ensures within { (n : ℕ) → HasStateWithin n result }
     {
         DrawState {
-            item: DrawItem {
+            item: Item::Draw(DrawItem {
                 view: 0,
                 number: 0,
                 program: Handle::of(Kind::Program, 0, 0, Info::Plain),
@@ -54,31 +54,22 @@ impl DrawState {
                 textures: [None, None],
                 values_at: 0,
                 values: 0,
-            },
+            }),
             changed: 0,
         }
     }
 
-    /// A draw with this state and a range of uniform values.
-    pub fn draw_item(
-        &self,
-        view: u16,
-        number: u64,
-        program: Handle,
-        depth: u32,
-        values_at: u32,
-        values: u32,
-    ) -> DrawItem
-        ensures { result ≡ drawn_with self view number program depth values_at values }
-    {
-        let mut item = self.item;
-        item.view = view;
-        item.number = number;
-        item.program = program;
-        item.depth = depth;
-        item.values_at = values_at;
-        item.values = values;
-        item
+    /// The item that the next draw begins from.
+    pub fn item(&self) -> Item {
+        self.item
+    }
+
+    /// The draw of that item.
+    pub fn draw_mut(&mut self) -> &mut DrawItem {
+        match &mut self.item {
+            Item::Draw(draw) => draw,
+            _ => unreachable!(),
+        }
     }
 
     /// Resets the parts that the flags name, and leaves the others as they are.
@@ -91,32 +82,31 @@ impl DrawState {
             return;
         }
         self.changed ^= flags;
+        let draw = self.draw_mut();
         if is_set(flags, 0) {
-            self.item.textures = [None, None];
+            draw.textures = [None, None];
         }
         if is_set(flags, 1) {
-            self.item.indices = IndexSet::Unset;
+            draw.indices = IndexSet::Unset;
         }
         if is_set(flags, 3) {
-            self.reset_words();
+            reset_words(draw);
         }
         if is_set(flags, 4) {
-            self.item.model = Affine::identity();
+            draw.model = Affine::identity();
         }
         if is_set(flags, 5) {
-            self.item.vertices = VertexSet::Unset;
+            draw.vertices = VertexSet::Unset;
         }
     }
+}
 
-    // Resets the state word, the stencil words and the scissor.
-    fn reset_words(&mut self)
-        ensures { self.new ≡ with_plain_words self.old }
-    {
-        self.item.state = plain_word();
-        self.item.front = no_stencil();
-        self.item.back = no_stencil();
-        self.item.scissor = NO_SCISSOR;
-    }
+// Resets the state word, the stencil words and the scissor.
+fn reset_words(draw: &mut DrawItem) {
+    draw.state = plain_word();
+    draw.front = no_stencil();
+    draw.back = no_stencil();
+    draw.scissor = NO_SCISSOR;
 }
 
 // The state word at the beginning of an encoder: all channels, no depth test, no blending, no culling, triangles.

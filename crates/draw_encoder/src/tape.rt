@@ -108,36 +108,36 @@ impl Tape {
     pub fn set_state(&mut self, state: StateWord)
         ensures { self.new ≡ with_call (calls.set_state state) self.old }
     {
-        self.current.item.state = state;
+        self.current.draw_mut().state = state;
         self.current.changed |= WORDS;
     }
 
     pub fn set_stencil(&mut self, front: StencilWord, back: StencilWord)
         ensures { self.new ≡ with_call (calls.set_stencil front back) self.old }
     {
-        self.current.item.front = front;
-        self.current.item.back = back;
+        self.current.draw_mut().front = front;
+        self.current.draw_mut().back = back;
         self.current.changed |= WORDS;
     }
 
     pub fn set_scissor(&mut self, rect: Rect)
         ensures { self.new ≡ with_call (calls.set_scissor (rect_seen rect)) self.old }
     {
-        self.current.item.scissor = rect;
+        self.current.draw_mut().scissor = rect;
         self.current.changed |= WORDS;
     }
 
     pub fn set_transform(&mut self, model: Affine)
         ensures { self.new ≡ with_call (calls.set_transform (affine_seen model)) self.old }
     {
-        self.current.item.model = model;
+        self.current.draw_mut().model = model;
         self.current.changed |= TRANSFORM;
     }
 
     pub fn set_vertices(&mut self, buffer: Handle, first: u32, count: u32)
         ensures { self.new ≡ with_call (calls.set_vertices buffer first count) self.old }
     {
-        self.current.item.vertices = VertexSet::Buffer {
+        self.current.draw_mut().vertices = VertexSet::Buffer {
             buffer,
             first,
             count,
@@ -148,7 +148,7 @@ impl Tape {
     pub fn set_indices(&mut self, buffer: Handle, first: u32, count: u32)
         ensures { self.new ≡ with_call (calls.set_indices buffer first count) self.old }
     {
-        self.current.item.indices = IndexSet::Buffer {
+        self.current.draw_mut().indices = IndexSet::Buffer {
             buffer,
             first,
             count,
@@ -163,7 +163,7 @@ impl Tape {
         let at = self.bytes.len() as u32;
         let length = bytes.len() as u32;
         self.bytes.extend_from_slice(bytes).unwrap();
-        self.current.item.vertices = VertexSet::Transient { layout, at, length };
+        self.current.draw_mut().vertices = VertexSet::Transient { layout, at, length };
         self.current.changed |= VERTICES;
     }
 
@@ -174,7 +174,7 @@ impl Tape {
         let at = self.bytes.len() as u32;
         let length = bytes.len() as u32;
         self.bytes.extend_from_slice(bytes).unwrap();
-        self.current.item.indices = IndexSet::Transient { at, length };
+        self.current.draw_mut().indices = IndexSet::Transient { at, length };
         self.current.changed |= INDICES;
     }
 
@@ -183,9 +183,9 @@ impl Tape {
         ensures { self.new ≡ with_call (calls.set_texture stage texture) self.old }
     {
         if stage == 0 {
-            self.current.item.textures[0] = texture;
+            self.current.draw_mut().textures[0] = texture;
         } else {
-            self.current.item.textures[1] = texture;
+            self.current.draw_mut().textures[1] = texture;
         }
         self.current.changed |= TEXTURES;
     }
@@ -203,10 +203,15 @@ impl Tape {
     {
         let at = self.pending_at;
         let all = self.uniforms.len() as u32;
-        let item = self
-            .current
-            .draw_item(view, number, program, depth, at, all - at);
-        put_item(&mut self.items, Item::Draw(item));
+        put_item(&mut self.items, self.current.item());
+        if let Some(Item::Draw(draw)) = self.items.last_mut() {
+            draw.view = view;
+            draw.depth = depth;
+            draw.number = number;
+            draw.program = program;
+            draw.values_at = at;
+            draw.values = all - at;
+        }
         self.pending_at = all;
         self.current.discard(discard);
     }
