@@ -19,6 +19,7 @@ use std::sync::{Arc, Wait};
 #[derive(Drop)]
 pub struct Job<'t, C: Naming> {
     encoder: Encoder<'t, C>,
+    bytes: &'t [u8],
     lines: &'t [EncLine],
     names: Arc<Vec<Option<Handle>>, Global>,
 }
@@ -40,6 +41,7 @@ impl<'t, C: Naming> Job<'t, C> {
     /// record is admitted; there are at most 4,294,967,295 lines.
     pub fn new(
         encoder: Encoder<'t, C>,
+        bytes: &'t [u8],
         lines: &'t [EncLine],
         names: Arc<Vec<Option<Handle>>, Global>,
     ) -> Job<'t, C>
@@ -48,6 +50,7 @@ impl<'t, C: Naming> Job<'t, C> {
     {
         Job {
             encoder,
+            bytes,
             lines,
             names,
         }
@@ -58,10 +61,11 @@ impl<'t, C: Naming> Job<'t, C> {
     pub fn record<R: Wait, G: Gate>(self, rt: &R, gate: &G) {
         let Job {
             encoder,
+            bytes,
             lines,
             names,
         } = self;
-        let (encoder, dropped) = record_rest(gate, encoder, names.as_slice(), lines, 0);
+        let (encoder, dropped) = record_rest(gate, encoder, names.as_slice(), bytes, lines, 0);
         encoder.end(rt, dropped);
     }
 
@@ -71,21 +75,22 @@ impl<'t, C: Naming> Job<'t, C> {
     {
         let Job {
             encoder,
+            bytes,
             lines,
             names,
         } = self;
-        Steps::of(encoder, lines, names)
+        Steps::of(encoder, bytes, lines, names)
     }
 }
 
 /// The lines of an encoder's block in a frame, and none where it has no block.
-pub fn block_lines(blocks: &[EncBlock], encoder: u8) -> &[EncLine]
+pub fn block_lines(blocks: &[EncBlock], encoder: u8) -> (&[u8], &[EncLine])
     ensures { map encoder_line_seen result.now ≡ lines_of encoder (map block_seen blocks.now) }
 {
     for block in blocks {
         if block.encoder == encoder {
-            return block.lines.as_slice();
+            return (block.bytes.as_slice(), block.lines.as_slice());
         }
     }
-    &[]
+    (&[], &[])
 }

@@ -10,7 +10,7 @@ ghost use Rattle.block_recording.specs.Lines.{handle_of, dropped_by, is_item_lin
 use draw_encoder::{BlitCall, Encoder, Naming};
 use fix_math::{Affine, Rect};
 use gfx_words::{Handle, Refusal, UniformValue};
-use scene_text::EncLine;
+use scene_text::{EncLine, range_of};
 
 // What a name stands for.
 fn named(names: &[Option<Handle>], name: u32) -> Option<Handle>
@@ -257,6 +257,7 @@ fn touch<C: Naming>(encoder: &mut Encoder<'_, C>, names: &[Option<Handle>], view
 pub fn record_line<C: Naming>(
     encoder: &mut Encoder<'_, C>,
     names: &[Option<Handle>],
+    bytes: &[u8],
     line: &EncLine,
 ) -> u32
     requires { encoder.old.recorder.frame ≡ encoder.old.seat.frame }
@@ -277,11 +278,11 @@ pub fn record_line<C: Naming>(
             first,
             count,
         } => set_indices(encoder, names, *buffer, *first, *count),
-        EncLine::TransientVertices { layout, bytes } => {
-            set_transient_vertices(encoder, names, *layout, bytes.as_slice())
+        EncLine::TransientVertices { layout, at, length } => {
+            set_transient_vertices(encoder, names, *layout, range_of(bytes, *at, *length))
         }
-        EncLine::TransientIndices { bytes } => {
-            set_transient_indices(encoder, names, bytes.as_slice())
+        EncLine::TransientIndices { at, length } => {
+            set_transient_indices(encoder, names, range_of(bytes, *at, *length))
         }
         EncLine::Bind { stage, texture } => set_texture(encoder, names, *stage, *texture),
         EncLine::Set { uniform, value } => set_uniform(encoder, names, *uniform, *value),

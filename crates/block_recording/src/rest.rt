@@ -16,6 +16,7 @@ pub(crate) fn record_rest<'t, C: Naming, G: Gate>(
     gate: &G,
     encoder: Encoder<'t, C>,
     names: &[Option<Handle>],
+    bytes: &[u8],
     lines: &[EncLine],
     dropped: u32,
 ) -> (Encoder<'t, C>, u32)
@@ -28,7 +29,7 @@ pub(crate) fn record_rest<'t, C: Naming, G: Gate>(
     let mut dropped = dropped;
     for line in lines {
         item += pass(gate, number, item, line);
-        dropped += record_line(&mut encoder, names, line);
+        dropped += record_line(&mut encoder, names, bytes, line);
     }
     (encoder, dropped)
 }

@@ -19,6 +19,7 @@ use std::sync::Arc;
 #[derive(Drop)]
 pub struct Steps<'t, C: Naming> {
     encoder: Encoder<'t, C>,
+    bytes: &'t [u8],
     lines: &'t [EncLine],
     names: Arc<Vec<Option<Handle>>, Global>,
     dropped: u32,
@@ -47,6 +48,7 @@ impl<'t, C: Naming> Steps<'t, C> {
     // A job of which no line was recorded.
     pub(crate) fn of(
         encoder: Encoder<'t, C>,
+        bytes: &'t [u8],
         lines: &'t [EncLine],
         names: Arc<Vec<Option<Handle>>, Global>,
     ) -> Steps<'t, C>
@@ -55,6 +57,7 @@ impl<'t, C: Naming> Steps<'t, C> {
     {
         Steps {
             encoder,
+            bytes,
             lines,
             names,
             dropped: 0,
@@ -68,7 +71,7 @@ impl<'t, C: Naming> Steps<'t, C> {
         let Some((line, rest)) = self.lines.split_first() else {
             return None;
         };
-        let dropped = record_line(&mut self.encoder, self.names.as_slice(), line);
+        let dropped = record_line(&mut self.encoder, self.names.as_slice(), self.bytes, line);
         self.lines = rest;
         self.dropped += dropped;
         Some(puts_down(line, dropped))
@@ -90,11 +93,12 @@ impl<'t, C: Naming> Steps<'t, C> {
     pub fn finish(self) -> Bundle<C> {
         let Steps {
             encoder,
+            bytes,
             lines,
             names,
             dropped,
         } = self;
-        let (encoder, dropped) = record_rest(&NoGate, encoder, names.as_slice(), lines, dropped);
+        let (encoder, dropped) = record_rest(&NoGate, encoder, names.as_slice(), bytes, lines, dropped);
         encoder.finish(dropped)
     }
 }

@@ -19,17 +19,23 @@ const STATE: u64 = 274_877_906_975;
 
 // The three lines of a draw.
 fn push_draw(
-    alloc: Global,
     lines: &mut Vec<EncLine>,
+    all: &mut Vec<u8>,
     frame: u32,
     draw: u32,
 ) -> Result<(), AllocError>
     requires { (frame < 512) × (draw < 1200) }
     ensures { OnOk result (map encoder_line_seen lines.new.items ≡ map encoder_line_seen lines.old.items ++ draw_lines frame draw) }
 {
-    let bytes = square(alloc, frame, draw)?;
+    let at = all.len() as u32;
+    square(all, frame, draw)?;
+    let length = all.len() as u32 - at;
     lines.push(EncLine::State { word: STATE })?;
-    lines.push(EncLine::TransientVertices { layout: 0, bytes })?;
+    lines.push(EncLine::TransientVertices {
+        layout: 0,
+        at,
+        length,
+    })?;
     lines.push(EncLine::Submit {
         view: (draw % 6) as u16,
         program: 1,
@@ -41,8 +47,8 @@ fn push_draw(
 
 // The lines of a draw where it is the encoder's.
 fn push_own(
-    alloc: Global,
     lines: &mut Vec<EncLine>,
+    all: &mut Vec<u8>,
     frame: u32,
     encoder: u8,
     draw: u32,
@@ -53,7 +59,7 @@ fn push_own(
     if draw % 4 != encoder as u32 {
         return Ok(());
     }
-    push_draw(alloc, lines, frame, draw)?;
+    push_draw(lines, all, frame, draw)?;
     Ok(())
 }
 
@@ -63,12 +69,14 @@ fn block(alloc: Global, frame: u32, encoder: u8) -> Result<EncBlock, AllocError>
     ensures { IfOk result (λ b. block_seen b ≡ block_of frame encoder) }
 {
     let mut lines = Vec::with_capacity(alloc, 900)?;
+    let mut all = Vec::with_capacity(alloc, 28_800)?;
     for draw in 0..1200u32 {
-        push_own(alloc, &mut lines, frame, encoder, draw)?;
+        push_own(&mut lines, &mut all, frame, encoder, draw)?;
     }
     Ok(EncBlock {
         encoder,
         lines: Sequence::from_vec(lines),
+        bytes: Sequence::from_vec(all),
     })
 }
 

@@ -46,8 +46,8 @@ pub(crate) fn begin<'t, C: Naming, L: FrameLink + Drop>(
     let number = context.begun() as u8;
     match context.begin(scene.room) {
         Ok(encoder) => {
-            let lines = block_lines(frame.blocks.as_slice(), number);
-            Ok(Job::new(encoder, lines, theirs))
+            let (bytes, lines) = block_lines(frame.blocks.as_slice(), number);
+            Ok(Job::new(encoder, bytes, lines, theirs))
         }
         Err(_) => Err(AllocError),
     }

@@ -135,6 +135,22 @@ fn pairs(alloc: Global, digits: &[u8]) -> Result<Vec<u8>, LineFault>
     Ok(bytes)
 }
 
+/// Puts the bytes of pairs of digits, at least one, behind others. Where they are none, or there is no memory, the others stay as they are.
+pub fn put_hex(all: &mut Vec<u8>, digits: &[u8]) -> bool {
+    if digits.is_empty() || digits.len() % 2 == 1 {
+        return false;
+    }
+    let at = all.len();
+    if all.resize(at + digits.len() / 2, 0).is_err() {
+        return false;
+    }
+    if !put_pairs(digits, &mut all[at..]) {
+        all.truncate(at);
+        return false;
+    }
+    true
+}
+
 /// Pairs of digits, at least one, or `-` for no bytes.
 pub fn hex_bytes(alloc: Global, field: &[u8]) -> Result<Sequence<u8>, LineFault>
     ensures { MayGive (λ v. v) result (hex_bytes field.now) }

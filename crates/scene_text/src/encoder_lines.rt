@@ -88,22 +88,36 @@ fn indices(names: &Names, fields: &[&[u8]]) -> Result<EncLine, Cause>
 }
 
 /// `tvertices LAYOUT HEX`
-fn transient_vertices(alloc: Global, names: &Names, fields: &[&[u8]]) -> Result<EncLine, LineFault>
+fn transient_vertices(
+    alloc: Global,
+    names: &Names,
+    all: &mut Vec<u8>,
+    fields: &[&[u8]],
+) -> Result<EncLine, LineFault>
     ensures { MayGive encoder_line_seen result (encoder_form names.now (texts fields.now) model.transient_vertices_word) }
 {
     has_count(fields, 3)?;
     let layout = names.used(field(fields, 1))?;
     let bytes = hex_bytes(alloc, field(fields, 2))?;
-    Ok(EncLine::TransientVertices { layout, bytes })
+    let (at, length) = (all.len() as u32, bytes.as_slice().len() as u32);
+    all.extend_from_slice(bytes.as_slice())?;
+    Ok(EncLine::TransientVertices { layout, at, length })
 }
 
 /// `tindices HEX`
-fn transient_indices(alloc: Global, names: &Names, fields: &[&[u8]]) -> Result<EncLine, LineFault>
+fn transient_indices(
+    alloc: Global,
+    names: &Names,
+    all: &mut Vec<u8>,
+    fields: &[&[u8]],
+) -> Result<EncLine, LineFault>
     ensures { MayGive encoder_line_seen result (encoder_form names.now (texts fields.now) model.transient_indices_word) }
 {
     has_count(fields, 2)?;
     let bytes = hex_bytes(alloc, field(fields, 1))?;
-    Ok(EncLine::TransientIndices { bytes })
+    let (at, length) = (all.len() as u32, bytes.as_slice().len() as u32);
+    all.extend_from_slice(bytes.as_slice())?;
+    Ok(EncLine::TransientIndices { at, length })
 }
 
 /// `bind STAGE NAME`
@@ -206,6 +220,7 @@ fn blit(names: &Names, fields: &[&[u8]]) -> Result<EncLine, Cause>
 pub fn encoder_line(
     alloc: Global,
     names: &Names,
+    all: &mut Vec<u8>,
     fields: &[&[u8]],
     word: Word,
 ) -> Result<EncLine, LineFault>
@@ -218,8 +233,8 @@ pub fn encoder_line(
         Word::Transform => model_transform(alloc, names, fields)?,
         Word::Vertices => vertices(names, fields)?,
         Word::Indices => indices(names, fields)?,
-        Word::TransientVertices => transient_vertices(alloc, names, fields)?,
-        Word::TransientIndices => transient_indices(alloc, names, fields)?,
+        Word::TransientVertices => transient_vertices(alloc, names, all, fields)?,
+        Word::TransientIndices => transient_indices(alloc, names, all, fields)?,
         Word::Bind => bind(names, fields)?,
         Word::Set => set(names, fields)?,
         Word::Submit => submit(names, fields)?,

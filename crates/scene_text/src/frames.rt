@@ -3,7 +3,7 @@ ghost use Rattle.std.specs.Prelude.{◌≡◌, [], ◌∷◌, ◌++◌, map, IfO
 ghost use Rattle.scene_model.specs.Grammar as model;
 ghost use Rattle.scene_text.specs.Seen.{resource_line_seen, encoder_line_seen, block_seen, frame_seen};
 
-use crate::scene::{EncBlock, EncLine, ResLine, SceneFrame};
+use crate::scene::{EncBlock, ResLine, SceneFrame};
 use crate::sequence::Sequence;
 use std::alloc::{AllocError, Global};
 
@@ -84,12 +84,37 @@ fn usual_length(frames: &[SceneFrame]) -> usize {
     }
 }
 
+/// How many bytes the last of the blocks has.
+fn last_bytes(blocks: &[EncBlock]) -> usize {
+    match blocks {
+        [] => 0,
+        [.., block] => block.bytes.as_slice().len(),
+    }
+}
+
+/// The same guess at the bytes of the next block.
+fn usual_bytes(frames: &[SceneFrame]) -> usize {
+    match frames {
+        [.., before, frame] => match frame.blocks.as_slice() {
+            [] => last_bytes(before.blocks.as_slice()),
+            blocks => last_bytes(blocks),
+        },
+        [frame] => last_bytes(frame.blocks.as_slice()),
+        [] => 0,
+    }
+}
+
 /// A block without lines. There is memory for as many as the block before it has, so that they need not be moved as they come.
 pub fn add_block(alloc: Global, frames: &mut Vec<SceneFrame>, encoder: u8) -> Result<(), AllocError>
     ensures { IfOk result (λ _. map frame_seen frames.new.items ≡ model.on_last (model.with_block encoder) (map frame_seen frames.old.items)) }
 {
     let lines = Sequence::with_room(alloc, usual_length(frames))?;
-    let block = EncBlock { encoder, lines };
+    let bytes = Sequence::with_room(alloc, usual_bytes(frames))?;
+    let block = EncBlock {
+        encoder,
+        lines,
+        bytes,
+    };
     match frames.last_mut() {
         Some(frame) => frame.blocks.push(block)?,
         None => drop(block),
@@ -97,31 +122,10 @@ pub fn add_block(alloc: Global, frames: &mut Vec<SceneFrame>, encoder: u8) -> Re
     Ok(())
 }
 
-/// A line of the last block of a list.
-fn add_to_last(blocks: &mut Vec<EncBlock>, line: EncLine) -> Result<(), AllocError>
-    ensures { IfOk result (λ _. map block_seen blocks.new.items ≡ model.on_last (model.with_line (encoder_line_seen line)) (map block_seen blocks.old.items)) }
-{
-    match blocks.last_mut() {
-        Some(block) => block.lines.push(line)?,
-        None => drop(line),
-    }
-    Ok(())
-}
-
-fn add_to_blocks(blocks: &mut Sequence<EncBlock>, line: EncLine) -> Result<(), AllocError>
-    ensures { IfOk result (λ _. map block_seen blocks.new ≡ model.on_last (model.with_line (encoder_line_seen line)) (map block_seen blocks.old)) }
-{
-    add_to_last(&mut blocks.all, line)?;
-    Ok(())
-}
-
-/// A line of the last block.
-pub fn add_encoder_line(frames: &mut Vec<SceneFrame>, line: EncLine) -> Result<(), AllocError>
-    ensures { IfOk result (λ _. map frame_seen frames.new.items ≡ model.on_last (model.with_encoder_line (encoder_line_seen line)) (map frame_seen frames.old.items)) }
-{
+/// The last block of the last frame.
+pub fn last_block(frames: &mut Vec<SceneFrame>) -> Option<&mut EncBlock> {
     match frames.last_mut() {
-        Some(frame) => add_to_blocks(&mut frame.blocks, line)?,
-        None => drop(line),
+        Some(frame) => frame.blocks.all.last_mut(),
+        None => None,
     }
-    Ok(())
 }

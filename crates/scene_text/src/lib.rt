@@ -42,7 +42,7 @@ pub use journal_reading::read_journal;
 pub use journal_writing::write_journal;
 pub use lawful::fault_place;
 pub use reading::view_count;
-pub use scene::{EncBlock, EncLine, LayoutPart, ResLine, Scene, SceneFrame, SceneName};
+pub use scene::{EncBlock, EncLine, LayoutPart, ResLine, Scene, SceneFrame, SceneName, range_of};
 pub use scene_writing::write;
 pub use sequence::Sequence;
 pub use text::read;

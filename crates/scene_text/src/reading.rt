@@ -17,7 +17,7 @@ ghost use Rattle.scene_text.specs.LineWords.{after_parts};
 use crate::encoder_lines::encoder_line;
 use crate::fault::{Cause, LineFault};
 use crate::fields::{are_filled, field, has_count};
-use crate::frames::{add_before, add_beside, add_block, add_encoder_line, add_frame, last_encoder};
+use crate::frames::{add_before, add_beside, add_block, add_frame, last_block, last_encoder};
 use crate::names::Names;
 use crate::numbers::{number, u8_number, value_to};
 use crate::resource_lines::resource_line;
@@ -310,8 +310,16 @@ impl Reading {
     ) -> Result<(), LineFault>
         ensures { MayGive (λ _. reading_seen self.new) result (model.after_encoder_line (reading_seen self.old) (texts fields.now) (word_seen word)) }
     {
-        let line = encoder_line(alloc, &self.names, fields, word)?;
-        add_encoder_line(&mut self.frames, line)?;
+        match last_block(&mut self.frames) {
+            Some(block) => {
+                let line = encoder_line(alloc, &self.names, &mut block.bytes.all, fields, word)?;
+                block.lines.push(line)?;
+            }
+            None => {
+                let mut none = Vec::new(alloc);
+                drop(encoder_line(alloc, &self.names, &mut none, fields, word)?);
+            }
+        }
         Ok(())
     }
 
@@ -459,14 +467,14 @@ impl Reading {
     }
 
     /// What the run of lines at the front of the bytes does, and how far it goes.
-    pub fn after_run(&mut self, alloc: Global, bytes: &[u8]) -> Result<Run, AllocError>
+    pub fn after_run(&mut self, _alloc: Global, bytes: &[u8]) -> Result<Run, AllocError>
         requires { length bytes.now ≤ 4294967295 }
         ensures few { IfOk result (λ run. (run.lines ≤ run.bytes) × (run.bytes ≤ length bytes.now)) }
         ensures read { IfOk result (λ run. AreRead bytes.now run.bytes run.lines (reading_seen self.old) (reading_seen self.new)) }
     {
         match self.stage {
             Stage::InBlock => {
-                let run = read_run(alloc, &self.names, &mut self.frames, bytes)?;
+                let run = read_run(&self.names, &mut self.frames, bytes)?;
                 Ok(run)
             }
             _ => Ok(Run { bytes: 0, lines: 0 }),

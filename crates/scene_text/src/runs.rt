@@ -6,13 +6,14 @@ ghost use Rattle.scene_model.specs.Grammar as model;
 ghost use Rattle.scene_text.specs.Runs.{part, IsPart, AreDigits, IsFirstLine, AreRead, with_frames};
 ghost use Rattle.scene_text.specs.Seen.{encoder_line_seen, frame_seen};
 
-use crate::bytes::hex_bytes;
+use crate::bytes::put_hex;
 use crate::encoder_lines::four;
+use crate::frames::last_block;
 use crate::marks::{lowest, marks_from};
 use crate::names::Names;
 use crate::scene::{EncLine, SceneFrame};
 use gfx_words::UniformValue;
-use std::alloc::{AllocError, Global};
+use std::alloc::AllocError;
 use text_fields::is_digit;
 
 /// The end of the field at a place: the first byte that is not visible. It gives up near the end of the bytes.
@@ -238,20 +239,29 @@ fn submit_at(names: &Names, bytes: &[u8]) -> Option<(EncLine, usize)>
 }
 
 /// `tvertices LAYOUT HEX`
-fn vertices_at(alloc: Global, names: &Names, bytes: &[u8]) -> Option<(EncLine, usize)>
+fn vertices_at(names: &Names, all: &mut Vec<u8>, bytes: &[u8]) -> Option<(EncLine, usize)>
     requires { bytes.now ≡ codes "tvertices " ++ drop 10 bytes.now }
     ensures { IfSome result (λ p. IsFirstLine names.now bytes.now p.1 (encoder_line_seen p.0)) }
 {
     let (layout, first) = name_at(names, bytes, 10)?;
     let end = end_at(bytes, first + 1, b'\n')?;
-    match hex_bytes(alloc, &bytes[first + 1..end]) {
-        Ok(bytes) => Some((EncLine::TransientVertices { layout, bytes }, end)),
-        Err(_) => None,
+    let at = all.len();
+    if !put_hex(all, &bytes[first + 1..end]) {
+        return None;
     }
+    let length = (all.len() - at) as u32;
+    Some((
+        EncLine::TransientVertices {
+            layout,
+            at: at as u32,
+            length,
+        },
+        end,
+    ))
 }
 
 /// The line at the front of the bytes, and its end.
-fn line_at(alloc: Global, names: &Names, bytes: &[u8]) -> Option<(EncLine, usize)>
+fn line_at(names: &Names, all: &mut Vec<u8>, bytes: &[u8]) -> Option<(EncLine, usize)>
     ensures { IfSome result (λ p. IsFirstLine names.now bytes.now p.1 (encoder_line_seen p.0)) }
 {
     if bytes.starts_with(b"set ") {
@@ -261,7 +271,7 @@ fn line_at(alloc: Global, names: &Names, bytes: &[u8]) -> Option<(EncLine, usize
         return submit_at(names, bytes);
     }
     if bytes.starts_with(b"tvertices ") {
-        return vertices_at(alloc, names, bytes);
+        return vertices_at(names, all, bytes);
     }
     None
 }
@@ -275,7 +285,6 @@ pub struct Run {
 
 /// The lines of a block at the front of the bytes, up to the first that is of another form, has a fault or is near the end of the bytes.
 pub fn read_run(
-    alloc: Global,
     names: &Names,
     frames: &mut Vec<SceneFrame>,
     bytes: &[u8],
@@ -284,25 +293,22 @@ pub fn read_run(
     ensures few { IfOk result (λ run. (run.lines ≤ run.bytes) × (run.bytes ≤ length bytes.now)) }
     ensures read { IfOk result (λ run. (r : model.Reading) → r.stage ≡ model.in_block → r.names ≡ names.now → r.frames ≡ map frame_seen frames.old.items → AreRead bytes.now run.bytes run.lines r (with_frames (map frame_seen frames.new.items) r)) }
 {
-    match frames.last_mut() {
-        Some(frame) => match frame.blocks.all.last_mut() {
-            Some(block) => read_lines(alloc, names, &mut block.lines.all, bytes),
-            None => Ok(Run { bytes: 0, lines: 0 }),
-        },
+    match last_block(frames) {
+        Some(block) => read_lines(names, &mut block.lines.all, &mut block.bytes.all, bytes),
         None => Ok(Run { bytes: 0, lines: 0 }),
     }
 }
 
-/// The same, to the end of a list of lines.
+/// The same, to the end of a block's lines and bytes.
 fn read_lines(
-    alloc: Global,
     names: &Names,
     all: &mut Vec<EncLine>,
+    data: &mut Vec<u8>,
     bytes: &[u8],
 ) -> Result<Run, AllocError> {
     let mut place = 0;
     let mut lines = 0;
-    while let Some((line, end)) = line_at(alloc, names, &bytes[place..]) {
+    while let Some((line, end)) = line_at(names, data, &bytes[place..]) {
         all.push(line)?;
         place += end + 1;
         lines += 1;

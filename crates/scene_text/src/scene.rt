@@ -156,11 +156,13 @@ pub enum EncLine {
     /// `tvertices LAYOUT HEX`
     TransientVertices {
         layout: u32,
-        bytes: Sequence<u8>,
+        at: u32,
+        length: u32,
     },
     /// `tindices HEX`
     TransientIndices {
-        bytes: Sequence<u8>,
+        at: u32,
+        length: u32,
     },
     /// `bind STAGE NAME`
     Bind {
@@ -202,6 +204,17 @@ pub enum EncLine {
 pub struct EncBlock {
     pub encoder: u8,
     pub lines: Sequence<EncLine>,
+    /// The bytes of its `tvertices` and `tindices` lines, which have ranges of them.
+    pub bytes: Sequence<u8>,
+}
+
+/// A range of the bytes of a block; none where it passes their end.
+pub fn range_of(bytes: &[u8], at: u32, length: u32) -> &[u8] {
+    let (from, count) = (at as usize, length as usize);
+    if from > bytes.len() || count > bytes.len() - from {
+        return &[];
+    }
+    &bytes[from..from + count]
 }
 
 /// A frame: lines before its blocks, a block for each of its encoders, and lines beside the blocks.

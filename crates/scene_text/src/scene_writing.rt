@@ -32,12 +32,13 @@ fn put_resource_lines<'a>(
 fn put_encoder_lines<'a>(
     text: &mut Vec<u8>,
     names: &'a [SceneName],
+    bytes: &'a [u8],
     lines: &'a [EncLine],
 ) -> Result<(), AllocError>
     ensures { IfOk result (λ _. text.new.items ≡ text.old.items ++ flat_map (encoder_text (map name_seen names.now)) lines.now) }
 {
     for line in lines {
-        put_encoder_line(text, names, line)?;
+        put_encoder_line(text, names, bytes, line)?;
     }
     Ok(())
 }
@@ -54,7 +55,7 @@ fn put_block<'a>(
         b"encoder",
         &[Spelled::Number(u64::from(block.encoder))],
     )?;
-    put_encoder_lines(text, names, block.lines.as_slice())?;
+    put_encoder_lines(text, names, block.bytes.as_slice(), block.lines.as_slice())?;
     Ok(())
 }
 

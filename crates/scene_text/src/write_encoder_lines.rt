@@ -7,7 +7,7 @@ ghost use Rattle.spelling_model.specs.LineSpelling.{encoder_fields, rect_spelled
 ghost use Rattle.spelling_model.specs.Written.{line_text};
 ghost use Rattle.scene_text.specs.Seen.{name_seen, encoder_line_seen};
 
-use crate::scene::{EncLine, SceneName};
+use crate::scene::{EncLine, SceneName, range_of};
 use crate::spelled::{Spelled, put_integer_line, put_line};
 use crate::spelled_words::{name_text, optional_text};
 use fix_math::Rect;
@@ -127,6 +127,7 @@ fn put_set(
 pub fn put_encoder_line<'a>(
     text: &mut Vec<u8>,
     names: &'a [SceneName],
+    bytes: &'a [u8],
     line: &'a EncLine,
 ) -> Result<(), AllocError>
     ensures { IfOk result (λ _. text.new.items ≡ text.old.items ++ line_text (encoder_fields (map name_seen names.now) (encoder_line_seen line.now))) }
@@ -154,15 +155,15 @@ pub fn put_encoder_line<'a>(
             first,
             count,
         } => put_indices(text, names, *buffer, *first, *count),
-        EncLine::TransientVertices { layout, bytes } => {
+        EncLine::TransientVertices { layout, at, length } => {
             let fields = [
                 Spelled::Text(name_text(names, *layout)),
-                Spelled::Hex(bytes.as_slice()),
+                Spelled::Hex(range_of(bytes, *at, *length)),
             ];
             put_line(text, b"tvertices", &fields)
         }
-        EncLine::TransientIndices { bytes } => {
-            put_line(text, b"tindices", &[Spelled::Hex(bytes.as_slice())])
+        EncLine::TransientIndices { at, length } => {
+            put_line(text, b"tindices", &[Spelled::Hex(range_of(bytes, *at, *length))])
         }
         EncLine::Bind { stage, texture } => {
             let fields = [
