@@ -260,20 +260,35 @@ fn vertices_at(names: &Names, all: &mut Vec<u8>, bytes: &[u8]) -> Option<(EncLin
     ))
 }
 
-/// The line at the front of the bytes, and its end.
-fn line_at(names: &Names, all: &mut Vec<u8>, bytes: &[u8]) -> Option<(EncLine, usize)>
-    ensures { IfSome result (λ p. IsFirstLine names.now bytes.now p.1 (encoder_line_seen p.0)) }
-{
+/// Puts the line at the front of the bytes behind others, and answers where the next begins; 0 where it is another line or has a fault.
+fn take_line(
+    names: &Names,
+    lines: &mut Vec<EncLine>,
+    all: &mut Vec<u8>,
+    bytes: &[u8],
+) -> Result<usize, AllocError> {
     if bytes.starts_with(b"set ") {
-        return set_at(names, bytes);
+        let Some((line, end)) = set_at(names, bytes) else {
+            return Ok(0);
+        };
+        lines.push(line)?;
+        return Ok(end + 1);
     }
     if bytes.starts_with(b"submit ") {
-        return submit_at(names, bytes);
+        let Some((line, end)) = submit_at(names, bytes) else {
+            return Ok(0);
+        };
+        lines.push(line)?;
+        return Ok(end + 1);
     }
     if bytes.starts_with(b"tvertices ") {
-        return vertices_at(names, all, bytes);
+        let Some((line, end)) = vertices_at(names, all, bytes) else {
+            return Ok(0);
+        };
+        lines.push(line)?;
+        return Ok(end + 1);
     }
-    None
+    Ok(0)
 }
 
 /// How far a run of lines goes.
@@ -308,10 +323,11 @@ fn read_lines(
 ) -> Result<Run, AllocError> {
     let mut place = 0;
     let mut lines = 0;
-    while let Some((line, end)) = line_at(names, data, &bytes[place..]) {
-        all.push(line)?;
-        place += end + 1;
+    let mut next = take_line(names, all, data, bytes)?;
+    while next != 0 {
+        place += next;
         lines += 1;
+        next = take_line(names, all, data, &bytes[place..])?;
     }
     Ok(Run {
         bytes: place,
