@@ -135,20 +135,48 @@ fn pairs(alloc: Global, digits: &[u8]) -> Result<Vec<u8>, LineFault>
     Ok(bytes)
 }
 
-/// Puts the bytes of pairs of digits, at least one, behind others. Where they are none, or there is no memory, the others stay as they are.
-pub fn put_hex(all: &mut Vec<u8>, digits: &[u8]) -> bool {
-    if digits.is_empty() || digits.len() % 2 == 1 {
-        return false;
+/// The bytes of sixteen pairs of digits.
+#[inline(always)]
+fn pairs_of(first: u8x16, second: u8x16) -> [u8; 16] {
+    let (first, second) = (digits_of(first), digits_of(second));
+    let high = first.shuffle(
+        second,
+        [0, 2, 4, 6, 8, 10, 12, 14, 16, 18, 20, 22, 24, 26, 28, 30],
+    );
+    let low = first.shuffle(
+        second,
+        [1, 3, 5, 7, 9, 11, 13, 15, 17, 19, 21, 23, 25, 27, 29, 31],
+    );
+    (high * u8x16::splat(16) + low).to_array()
+}
+
+/// Puts the bytes of the pairs of digits at a place, at least one, behind others, and answers where a newline ends them. `None`, with more
+/// bytes behind the others perhaps, where they are none, no newline ends them, they are near the end of the bytes, or there is no memory.
+pub fn take_hex(all: &mut Vec<u8>, bytes: &[u8], from: usize) -> Option<usize> {
+    let mut place = from;
+    while bytes.len() - place >= 32 {
+        let first = u8x16::from_slice(&bytes[place..]);
+        let second = u8x16::from_slice(&bytes[place + 16..]);
+        let marks = no_digits(first).to_bitmask() | no_digits(second).to_bitmask() << 16;
+        let sixteen = pairs_of(first, second);
+        if marks == 0 {
+            if all.extend_from_slice(&sixteen).is_err() {
+                return None;
+            }
+            place += 32;
+        } else {
+            let count = marks.trailing_zeros() as usize;
+            let end = place + count;
+            if count % 2 == 1 || count > 31 || bytes[end] != b'\n' || end == from {
+                return None;
+            }
+            if all.extend_from_slice(&sixteen[..count / 2]).is_err() {
+                return None;
+            }
+            return Some(end);
+        }
     }
-    let at = all.len();
-    if all.resize(at + digits.len() / 2, 0).is_err() {
-        return false;
-    }
-    if !put_pairs(digits, &mut all[at..]) {
-        all.truncate(at);
-        return false;
-    }
-    true
+    None
 }
 
 /// Pairs of digits, at least one, or `-` for no bytes.

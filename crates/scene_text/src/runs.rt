@@ -6,7 +6,7 @@ ghost use Rattle.scene_model.specs.Grammar as model;
 ghost use Rattle.scene_text.specs.Runs.{part, IsPart, AreDigits, IsFirstLine, AreRead, with_frames};
 ghost use Rattle.scene_text.specs.Seen.{encoder_line_seen, frame_seen};
 
-use crate::bytes::put_hex;
+use crate::bytes::take_hex;
 use crate::encoder_lines::four;
 use crate::frames::last_block;
 use crate::marks::{lowest, marks_from};
@@ -244,11 +244,11 @@ fn vertices_at(names: &Names, all: &mut Vec<u8>, bytes: &[u8]) -> Option<(EncLin
     ensures { IfSome result (λ p. IsFirstLine names.now bytes.now p.1 (encoder_line_seen p.0)) }
 {
     let (layout, first) = name_at(names, bytes, 10)?;
-    let end = end_at(bytes, first + 1, b'\n')?;
     let at = all.len();
-    if !put_hex(all, &bytes[first + 1..end]) {
+    let Some(end) = take_hex(all, bytes, first + 1) else {
+        all.truncate(at);
         return None;
-    }
+    };
     let length = (all.len() - at) as u32;
     Some((
         EncLine::TransientVertices {
@@ -260,6 +260,11 @@ fn vertices_at(names: &Names, all: &mut Vec<u8>, bytes: &[u8]) -> Option<(EncLin
     ))
 }
 
+// `set `, `submit ` and `tvertice` as words, the first byte lowest.
+const SET: u64 = 0x2074_6573;
+const SUBMIT: u64 = 0x0020_7469_6d62_7573;
+const TVERTICE: u64 = 0x6563_6974_7265_7674;
+
 /// Puts the line at the front of the bytes behind others, and answers where the next begins; 0 where it is another line or has a fault.
 fn take_line(
     names: &Names,
@@ -267,21 +272,25 @@ fn take_line(
     all: &mut Vec<u8>,
     bytes: &[u8],
 ) -> Result<usize, AllocError> {
-    if bytes.starts_with(b"set ") {
+    if bytes.len() < 10 {
+        return Ok(0);
+    }
+    let word = word_at(bytes, 0);
+    if word & 0xffff_ffff == SET {
         let Some((line, end)) = set_at(names, bytes) else {
             return Ok(0);
         };
         lines.push(line)?;
         return Ok(end + 1);
     }
-    if bytes.starts_with(b"submit ") {
+    if word & 0x00ff_ffff_ffff_ffff == SUBMIT {
         let Some((line, end)) = submit_at(names, bytes) else {
             return Ok(0);
         };
         lines.push(line)?;
         return Ok(end + 1);
     }
-    if bytes.starts_with(b"tvertices ") {
+    if word == TVERTICE && bytes[8] == b's' && bytes[9] == b' ' {
         let Some((line, end)) = vertices_at(names, all, bytes) else {
             return Ok(0);
         };
