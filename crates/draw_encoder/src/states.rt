@@ -18,7 +18,7 @@ const NO_SCISSOR: Rect = Rect {
 #[derive(Clone, Copy, Drop)]
 pub struct DrawState {
     // The item that the next draw begins from; what a call of `draw_item` gives is whatever it was at the draw before.
-    item: Item,
+    item: [Item; 1],
     // The discard flags of the parts that may differ from what they are at the beginning; each other part is as it is there.
     pub changed: u8,
 }
@@ -39,7 +39,7 @@ impl DrawState {
         ensures within { (n : ℕ) → HasStateWithin n result }
     {
         DrawState {
-            item: Item::Draw(DrawItem {
+            item: [Item::Draw(DrawItem {
                 view: 0,
                 number: 0,
                 program: Handle::of(Kind::Program, 0, 0, Info::Plain),
@@ -54,19 +54,19 @@ impl DrawState {
                 textures: [None, None],
                 values_at: 0,
                 values: 0,
-            }),
+            })],
             changed: 0,
         }
     }
 
     /// The item that the next draw begins from.
-    pub fn item(&self) -> Item {
-        self.item
+    pub fn item(&self) -> &[Item] {
+        &self.item
     }
 
     /// The draw of that item.
     pub fn draw_mut(&mut self) -> &mut DrawItem {
-        match &mut self.item {
+        match &mut self.item[0] {
             Item::Draw(draw) => draw,
             _ => unreachable!(),
         }

@@ -203,7 +203,7 @@ impl Tape {
     {
         let at = self.pending_at;
         let all = self.uniforms.len() as u32;
-        put_item(&mut self.items, self.current.item());
+        self.items.extend_from_slice(self.current.item()).unwrap();
         if let Some(Item::Draw(draw)) = self.items.last_mut() {
             draw.view = view;
             draw.depth = depth;
