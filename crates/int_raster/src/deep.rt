@@ -521,13 +521,27 @@ fn triangle_tested(
 {
     let rule = plain_rule(setup, draw);
     let level = level_of(setup, draw, &rule);
+    let free = is_free(setup, draw);
     if let Some(level) = &level {
         if let Some(tile) = &level.tile {
-            return triangle_tiled(colors, depths, rows, tile, level, setup, next, more, draw);
+            if !free || is_short(setup, draw, rows) {
+                return triangle_tiled(colors, depths, rows, tile, level, setup, next, more, draw);
+            }
         }
+    }
+    if free {
+        let painter = painter_of(setup, draw, rows.width, rows.bottom());
+        triangle_colors(colors, rows, &painter, setup, draw);
+        return false;
     }
     triangle_painted(colors, depths, rows, level, rule, setup, draw);
     false
+}
+
+/// Whether a triangle is drawn in 32 rows at most: taller ones that are free are painted span by span.
+fn is_short(setup: &Setup, draw: &Prepared, rows: &Rows) -> bool {
+    let (top, bottom) = drawn_rows(setup, &draw.cut, rows);
+    bottom <= top + 32
 }
 
 /// Whether every depth passes and none is stored.
@@ -565,11 +579,6 @@ fn triangle_deep(
     ensures one { result ≡ false → deep_pixels colors.new depths.new ≡ map_from (by_place rows.now.width (below rows.now.top (change_seen draw.now setup.now))) 0 (deep_pixels colors.old depths.old) }
     ensures two { IsTrue result → deep_pixels colors.new depths.new ≡ map_from (by_place rows.now.width (below rows.now.top (change_seen draw.now next.now))) 0 (map_from (by_place rows.now.width (below rows.now.top (change_seen draw.now setup.now))) 0 (deep_pixels colors.old depths.old)) }
 {
-    if is_free(setup, draw) {
-        let painter = painter_of(setup, draw, rows.width, rows.bottom());
-        triangle_colors(colors, rows, &painter, setup, draw);
-        return false;
-    }
     triangle_tested(colors, depths, rows, setup, next, more, draw)
 }
 

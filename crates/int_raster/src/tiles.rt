@@ -189,6 +189,32 @@ fn store_tile(
     }
 }
 
+/// Whether a tile goes over every depth and stores none.
+fn is_bare(tile: &Tile) -> bool {
+    tile.bits == 0xffff_ffff && tile.depth == 0 && tile.least == 0 && tile.more == 0xff_ffff
+}
+
+/// The same of a tile that goes over every depth and stores none.
+#[inline(always)]
+fn store_bare(colors: &mut [[u8; 4]], span: &Span, tile: &Tile)
+    requires inside { span.now.start + span.now.after + 3 ≤ length colors.old }
+{
+    let new = u32x4::splat(tile.color);
+    let after = span.after as u32;
+    let last = after.saturating_sub(3);
+    let mut x = span.first as u32;
+    while x < last {
+        put_words(colors, span.start + x as usize, new);
+        x += 4;
+    }
+    if x < after {
+        let at = span.start + x as usize;
+        let inside = u32x4::splat(after - x).simd_gt(u32x4::from_array([0, 1, 2, 3]));
+        let old = words_of(colors, at);
+        put_words(colors, at, inside.select(new, old));
+    }
+}
+
 /// Stores a tile in a span: in windows, and at the end of the lists pixel by pixel.
 #[inline(always)]
 pub(crate) fn draw_tile(
@@ -208,6 +234,8 @@ pub(crate) fn draw_tile(
 {
     if colors.len() - (span.start + span.after as usize) < 3 {
         store_level(colors, depths, span, level, setup, draw);
+    } else if is_bare(tile) {
+        store_bare(colors, span, tile);
     } else {
         store_tile(colors, depths, span, tile, level, setup, draw);
     }
