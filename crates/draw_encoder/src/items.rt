@@ -45,9 +45,9 @@ pub struct UniformSet {
 #[derive(Clone, Copy, Drop, PartialEq, Eq, Debug)]
 pub struct DrawItem {
     pub view: u16,
-    pub depth: u32,
     pub number: u64,
     pub program: Handle,
+    pub depth: u32,
     pub state: StateWord,
     pub front: StencilWord,
     pub back: StencilWord,
