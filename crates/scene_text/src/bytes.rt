@@ -158,8 +158,8 @@ pub fn take_hex(all: &mut Vec<u8>, bytes: &[u8], from: usize) -> Option<usize> {
         let first = u8x16::from_slice(&bytes[place..]);
         let second = u8x16::from_slice(&bytes[place + 16..]);
         let marks = no_digits(first).to_bitmask() | no_digits(second).to_bitmask() << 16;
-        let sixteen = pairs_of(first, second);
         if marks == 0 {
+            let sixteen = pairs_of(first, second);
             if all.extend_from_slice(&sixteen).is_err() {
                 return None;
             }
@@ -170,6 +170,10 @@ pub fn take_hex(all: &mut Vec<u8>, bytes: &[u8], from: usize) -> Option<usize> {
             if count % 2 == 1 || count > 31 || bytes[end] != b'\n' || end == from {
                 return None;
             }
+            if count == 0 {
+                return Some(end);
+            }
+            let sixteen = pairs_of(first, second);
             if all.extend_from_slice(&sixteen[..count / 2]).is_err() {
                 return None;
             }

@@ -44,38 +44,46 @@ fn end_at(bytes: &[u8], from: usize, stop: u8) -> Option<usize>
     Some(end)
 }
 
-/// The same, for a name of up to seven bytes that is kept by its word.
-fn short_name_at(names: &Names, bytes: &[u8], from: usize) -> Option<(u32, usize)>
+/// The name at a place, which a blank ends, where it has up to seven bytes and is kept by its word.
+fn short_name_at(names: &Names, bytes: &[u8], from: usize) -> u64
     requires { from ≤ length bytes.now }
-    ensures { IfSome result (λ p. IsPart bytes.now from p.1 32 × (used_name names.now (part bytes.now from p.1) ≡ Ok p.0)) }
 {
     if bytes.len() - from < 8 {
-        return None;
+        return NONE;
     }
     let word = word_at(bytes, from);
     let blanks = word ^ 0x2020_2020_2020_2020;
     // The lowest high bit is that of the first blank.
     let marks = blanks.wrapping_sub(0x0101_0101_0101_0101) & !blanks & 0x8080_8080_8080_8080;
     if marks == 0 {
-        return None;
+        return NONE;
     }
     let count = marks.trailing_zeros() as usize / 8;
-    let name = names.short(word & ((1u64 << (8 * count)) - 1))?;
-    Some((name, from + count))
+    match names.short(word & ((1u64 << (8 * count)) - 1)) {
+        Some(name) => found(name, count),
+        None => NONE,
+    }
 }
 
-/// The name at a place, and where a blank ends it.
-fn name_at(names: &Names, bytes: &[u8], from: usize) -> Option<(u32, usize)>
+/// The name at a place, which a blank ends.
+fn name_at(names: &Names, bytes: &[u8], from: usize) -> u64
     requires { from ≤ length bytes.now }
-    ensures { IfSome result (λ p. IsPart bytes.now from p.1 32 × (used_name names.now (part bytes.now from p.1) ≡ Ok p.0)) }
 {
-    if let Some(found) = short_name_at(names, bytes, from) {
-        return Some(found);
+    let short = short_name_at(names, bytes, from);
+    if short != NONE {
+        return short;
     }
-    let end = end_at(bytes, from, b' ')?;
+    long_name_at(names, bytes, from)
+}
+
+/// The same, of any length.
+fn long_name_at(names: &Names, bytes: &[u8], from: usize) -> u64 {
+    let Some(end) = end_at(bytes, from, b' ') else {
+        return NONE;
+    };
     match names.used(&bytes[from..end]) {
-        Ok(name) => Some((name, end)),
-        Err(_) => None,
+        Ok(name) => found(name, end - from),
+        Err(_) => NONE,
     }
 }
 
@@ -163,47 +171,51 @@ fn value_of_eight(digits: u64) -> u64 {
     fours.wrapping_mul(10_000).wrapping_add(fours >> 32) & 0xffff_ffff
 }
 
-/// The number up to `high` at a place, and where this byte ends it. Eight bytes are looked at in one word: the first that is no digit
+// No number and no name.
+const NONE: u64 = u64::MAX;
+
+/// A number or a name's place, and how many bytes it has, as one word.
+#[inline(always)]
+fn found(value: u32, count: usize) -> u64 {
+    (count as u64) << 32 | u64::from(value)
+}
+
+/// Where what was found at a place ends.
+#[inline(always)]
+fn end_of(from: usize, found: u64) -> usize {
+    from + (found >> 32) as usize
+}
+
+/// The number up to `high` at a place, where this byte ends it. Eight bytes are looked at in one word: the first that is no digit
 /// ends the number, and the word is shifted so that its last digit is the highest byte. A number of eight digits or more goes digit by digit.
-fn number_at(bytes: &[u8], from: usize, stop: u8, high: u32) -> Option<(u32, usize)>
+fn number_at(bytes: &[u8], from: usize, stop: u8, high: u32) -> u64
     requires { from ≤ length bytes.now }
-    ensures { IfSome result (λ p. IsPart bytes.now from p.1 stop × (is_numeral (part bytes.now from p.1) ≡ true) × (p.0 ≡ value_onto 0 (part bytes.now from p.1)) × (p.0 ≤ high)) }
 {
     if bytes.len() - from < 8 {
-        return None;
+        return NONE;
     }
     let digits = word_at(bytes, from) ^ 0x3030_3030_3030_3030;
     // The high bit of each byte that is no digit, and of bytes behind the first of these perhaps.
     let others = (digits.wrapping_add(0x7676_7676_7676_7676) | digits) & 0x8080_8080_8080_8080;
     if others == 0 {
-        return long_number_at(bytes, from, stop, high);
+        return match long_number_at(bytes, from, stop, high) {
+            Some((value, end)) => found(value, end - from),
+            None => NONE,
+        };
     }
     let low = others.trailing_zeros() as usize;
     let count = low / 8;
-    let end = from + count;
-    if count == 0 || bytes[end] != stop {
-        return None;
+    if count == 0 || bytes[from + count] != stop {
+        return NONE;
     }
-    if bytes[from] == b'0' && count != 1 {
-        return None;
+    if digits & 0xff == 0 && count != 1 {
+        return NONE;
     }
     let value = value_of_eight(digits << (64 - 8 * count));
     if value > u64::from(high) {
-        return None;
+        return NONE;
     }
-    Some((value as u32, end))
-}
-
-/// The same, as a number with a sign.
-#[tactic(auto, unfolding(scene_model::specs::Field::i32_number))]
-fn i32_at(bytes: &[u8], from: usize, stop: u8) -> Option<(i32, usize)>
-    requires { from ≤ length bytes.now }
-    ensures { IfSome result (λ p. IsPart bytes.now from p.1 stop × (is_numeral (part bytes.now from p.1) ≡ true) × (i32_number (part bytes.now from p.1) ≡ Ok p.0) × FitsSigned w32 p.0) }
-{
-    match number_at(bytes, from, stop, 2_147_483_647) {
-        Some((value, end)) => Some((value as i32, end)),
-        None => None,
-    }
+    found(value as u32, count)
 }
 
 /// `set NAME` and four numbers
@@ -211,13 +223,38 @@ fn set_at(names: &Names, bytes: &[u8]) -> Option<(EncLine, usize)>
     requires { bytes.now ≡ codes "set " ++ drop 4 bytes.now }
     ensures { IfSome result (λ p. IsFirstLine names.now bytes.now p.1 (encoder_line_seen p.0)) }
 {
-    let (uniform, first) = name_at(names, bytes, 4)?;
-    let (x, second) = i32_at(bytes, first + 1, b' ')?;
-    let (y, third) = i32_at(bytes, second + 1, b' ')?;
-    let (z, fourth) = i32_at(bytes, third + 1, b' ')?;
-    let (w, end) = i32_at(bytes, fourth + 1, b'\n')?;
-    let value = UniformValue::Vec4(four(x, y, z, w));
-    Some((EncLine::Set { uniform, value }, end))
+    let uniform = name_at(names, bytes, 4);
+    if uniform == NONE {
+        return None;
+    }
+    let first = end_of(4, uniform);
+    let x = number_at(bytes, first + 1, b' ', 2_147_483_647);
+    if x == NONE {
+        return None;
+    }
+    let second = end_of(first + 1, x);
+    let y = number_at(bytes, second + 1, b' ', 2_147_483_647);
+    if y == NONE {
+        return None;
+    }
+    let third = end_of(second + 1, y);
+    let z = number_at(bytes, third + 1, b' ', 2_147_483_647);
+    if z == NONE {
+        return None;
+    }
+    let fourth = end_of(third + 1, z);
+    let w = number_at(bytes, fourth + 1, b'\n', 2_147_483_647);
+    if w == NONE {
+        return None;
+    }
+    let value = UniformValue::Vec4(four(x as u32 as i32, y as u32 as i32, z as u32 as i32, w as u32 as i32));
+    Some((
+        EncLine::Set {
+            uniform: uniform as u32,
+            value,
+        },
+        end_of(fourth + 1, w),
+    ))
 }
 
 /// `submit V NAME DEPTH FLAGS`
@@ -225,17 +262,32 @@ fn submit_at(names: &Names, bytes: &[u8]) -> Option<(EncLine, usize)>
     requires { bytes.now ≡ codes "submit " ++ drop 7 bytes.now }
     ensures { IfSome result (λ p. IsFirstLine names.now bytes.now p.1 (encoder_line_seen p.0)) }
 {
-    let (view, first) = number_at(bytes, 7, b' ', 65_535)?;
-    let (program, second) = name_at(names, bytes, first + 1)?;
-    let (depth, third) = number_at(bytes, second + 1, b' ', 4_294_967_295)?;
-    let (flags, end) = number_at(bytes, third + 1, b'\n', 255)?;
+    let view = number_at(bytes, 7, b' ', 65_535);
+    if view == NONE {
+        return None;
+    }
+    let first = end_of(7, view);
+    let program = name_at(names, bytes, first + 1);
+    if program == NONE {
+        return None;
+    }
+    let second = end_of(first + 1, program);
+    let depth = number_at(bytes, second + 1, b' ', 4_294_967_295);
+    if depth == NONE {
+        return None;
+    }
+    let third = end_of(second + 1, depth);
+    let flags = number_at(bytes, third + 1, b'\n', 255);
+    if flags == NONE {
+        return None;
+    }
     let line = EncLine::Submit {
         view: view as u16,
-        program,
-        depth,
+        program: program as u32,
+        depth: depth as u32,
         flags: flags as u8,
     };
-    Some((line, end))
+    Some((line, end_of(third + 1, flags)))
 }
 
 /// `tvertices LAYOUT HEX`
@@ -243,7 +295,11 @@ fn vertices_at(names: &Names, all: &mut Vec<u8>, bytes: &[u8]) -> Option<(EncLin
     requires { bytes.now ≡ codes "tvertices " ++ drop 10 bytes.now }
     ensures { IfSome result (λ p. IsFirstLine names.now bytes.now p.1 (encoder_line_seen p.0)) }
 {
-    let (layout, first) = name_at(names, bytes, 10)?;
+    let layout = name_at(names, bytes, 10);
+    if layout == NONE {
+        return None;
+    }
+    let first = end_of(10, layout);
     let at = all.len();
     let Some(end) = take_hex(all, bytes, first + 1) else {
         all.truncate(at);
@@ -252,7 +308,7 @@ fn vertices_at(names: &Names, all: &mut Vec<u8>, bytes: &[u8]) -> Option<(EncLin
     let length = (all.len() - at) as u32;
     Some((
         EncLine::TransientVertices {
-            layout,
+            layout: layout as u32,
             at: at as u32,
             length,
         },
