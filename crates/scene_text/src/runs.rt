@@ -180,6 +180,12 @@ fn found(value: u32, count: usize) -> u64 {
     (count as u64) << 32 | u64::from(value)
 }
 
+/// The number, or the name's place.
+#[inline(always)]
+fn number_of(found: u64) -> u32 {
+    (found & 0xffff_ffff) as u32
+}
+
 /// Where what was found at a place ends.
 #[inline(always)]
 fn end_of(from: usize, found: u64) -> usize {
@@ -247,10 +253,15 @@ fn set_at(names: &Names, bytes: &[u8]) -> Option<(EncLine, usize)>
     if w == NONE {
         return None;
     }
-    let value = UniformValue::Vec4(four(x as u32 as i32, y as u32 as i32, z as u32 as i32, w as u32 as i32));
+    let value = UniformValue::Vec4(four(
+        number_of(x) as i32,
+        number_of(y) as i32,
+        number_of(z) as i32,
+        number_of(w) as i32,
+    ));
     Some((
         EncLine::Set {
-            uniform: uniform as u32,
+            uniform: number_of(uniform),
             value,
         },
         end_of(fourth + 1, w),
@@ -282,10 +293,10 @@ fn submit_at(names: &Names, bytes: &[u8]) -> Option<(EncLine, usize)>
         return None;
     }
     let line = EncLine::Submit {
-        view: view as u16,
-        program: program as u32,
-        depth: depth as u32,
-        flags: flags as u8,
+        view: number_of(view) as u16,
+        program: number_of(program),
+        depth: number_of(depth),
+        flags: number_of(flags) as u8,
     };
     Some((line, end_of(third + 1, flags)))
 }
@@ -308,7 +319,7 @@ fn vertices_at(names: &Names, all: &mut Vec<u8>, bytes: &[u8]) -> Option<(EncLin
     let length = (all.len() - at) as u32;
     Some((
         EncLine::TransientVertices {
-            layout: layout as u32,
+            layout: number_of(layout),
             at: at as u32,
             length,
         },
