@@ -26,7 +26,7 @@ use crate::pieces::{depth_piece, paint_piece};
 use crate::rows::Rows;
 use crate::spans::Span;
 use crate::stores::{Laid, Opaque};
-use crate::tiles::{draw_tile, tile_of};
+use crate::tiles::{draw_tile, is_bare, tile_of};
 use pixel_ops::Blending;
 use tri_cover::{Ramp, Setup};
 
@@ -357,6 +357,7 @@ fn rows_tiled(
     ensures { (test : ℕ → ℕ → Bool) (start : List Pixel) → HoldsTest spans.now test (rows.now.top + from) rows.now.width count → deep_pixels colors.old depths.old ≡ map_from (above rows.now.width from (below rows.now.top (where_test test (step_seen draw.now setup.now)))) 0 start → deep_pixels colors.new depths.new ≡ map_from (above rows.now.width (from + count) (below rows.now.top (where_test test (step_seen draw.now setup.now)))) 0 start }
 {
     let tile = *tile;
+    let bare = is_bare(&tile);
     let width = rows.width as usize;
     let mut start = from as usize * width;
     for k in 0..count {
@@ -367,7 +368,7 @@ fn rows_tiled(
             first,
             after,
         };
-        draw_tile(colors, depths, &span, &tile, level, setup, draw);
+        draw_tile(colors, depths, &span, &tile, bare, level, setup, draw);
         start += width;
     }
 }

@@ -190,7 +190,7 @@ fn store_tile(
 }
 
 /// Whether a tile goes over every depth and stores none.
-fn is_bare(tile: &Tile) -> bool {
+pub(crate) fn is_bare(tile: &Tile) -> bool {
     tile.bits == 0xffff_ffff && tile.depth == 0 && tile.least == 0 && tile.more == 0xff_ffff
 }
 
@@ -222,6 +222,7 @@ pub(crate) fn draw_tile(
     depths: &mut [[u8; 4]],
     span: &Span,
     tile: &Tile,
+    bare: bool,
     level: &Level,
     setup: &Setup,
     draw: &Prepared,
@@ -234,7 +235,7 @@ pub(crate) fn draw_tile(
 {
     if colors.len() - (span.start + span.after as usize) < 3 {
         store_level(colors, depths, span, level, setup, draw);
-    } else if is_bare(tile) {
+    } else if bare {
         store_bare(colors, span, tile);
     } else {
         store_tile(colors, depths, span, tile, level, setup, draw);
