@@ -63,7 +63,7 @@ impl HoldTable {
         requires { first_frame ≤ 1073741823 }
         ensures { IfOk result (λ r. (api_table r.1 ≡ table_of r.0) × (api_view r.1 ≡ first_view first_frame)) }
     {
-        let words = Vec::from_elem(alloc, 0u64, PLACES + 1)?;
+        let words = Vec::from_elem(alloc, 0u64, PLACES + 16)?;
         let (table, seat) = Table::of_words(alloc, words.as_slice(), &first_frame)?;
         let frame = first_frame;
         Ok((HoldTable { table }, ApiSeat { seat, frame }))
@@ -142,7 +142,7 @@ impl HoldTable {
         let word = self
             .table
             .shared
-            .load::<Ask>(&mut enc.seat, place as usize + 1);
+            .load::<Ask>(&mut enc.seat, place as usize + 16);
         if PlaceWord::is_usable_in(enc.frame, word, h.serial()) {
             Ok(())
         } else {
@@ -163,7 +163,7 @@ impl HoldTable {
         let word = PlaceWord::Live { serial }.word();
         self.table
             .shared
-            .store::<Create>(&mut api.seat, place as usize + 1, word);
+            .store::<Create>(&mut api.seat, place as usize + 16, word);
     }
 
     /// Makes the handle's live place dying in the API's frame.
@@ -179,7 +179,7 @@ impl HoldTable {
         let word = PlaceWord::Dying { serial, death }.word();
         self.table
             .shared
-            .store::<Destroy>(&mut api.seat, place as usize + 1, word);
+            .store::<Destroy>(&mut api.seat, place as usize + 16, word);
     }
 
     /// Frees a place whose thing died in a frame before the API's.
@@ -192,7 +192,7 @@ impl HoldTable {
     {
         self.table
             .shared
-            .store::<Reclaim>(&mut api.seat, place as usize + 1, 0);
+            .store::<Reclaim>(&mut api.seat, place as usize + 16, 0);
     }
 
     /// Starts the next frame and answers its first number. No recorder is off. Each number from the old frame's first
