@@ -74,6 +74,7 @@ pub struct DrawList<'x> {
     draws: Vec<Listed<'x>>,
     triangles: Vec<Setup>,
     work: u64,
+    kept: usize,
     ghost within: { AreWithin draws.items (length triangles.items) },
     ghost rows: { AreInRows draws.items triangles.items },
 }
@@ -115,6 +116,7 @@ impl<'x> DrawList<'x> {
             draws: Vec::new(alloc),
             triangles: Vec::new(alloc),
             work: 0,
+            kept: 0,
         }
     }
 
@@ -127,6 +129,7 @@ impl<'x> DrawList<'x> {
             draws: room_for(alloc, draws),
             triangles: room.triangles,
             work: 0,
+            kept: 0,
         }
     }
 
@@ -175,6 +178,7 @@ impl<'x> DrawList<'x> {
         self.draws.clear();
         self.triangles.clear();
         self.work = 0;
+        self.kept = 0;
     }
 
     /// Puts a draw and its triangles at the end. After an error the list is as it was.
@@ -183,11 +187,25 @@ impl<'x> DrawList<'x> {
         ensures err { OnErr result (self.new ≡ self.old) }
     {
         let cut = draw.cut;
-        let work = self.work.saturating_add(work_of(triangles, &cut));
-        let first = self.triangles.len();
-        let after = first.saturating_add(triangles.len());
-        let (top, bottom) = covered_rows(triangles);
+        let first = self.kept;
+        self.triangles.truncate(first);
         self.triangles.extend_from_slice(triangles)?;
+        self.push_pending(draw)
+    }
+
+    /// The triangles, behind which those of the next draw are put one by one; those that stand are left as they are.
+    pub fn pending(&mut self) -> &mut Vec<Setup> {
+        &mut self.triangles
+    }
+
+    /// Puts a draw at the end, whose triangles are pending. After an error the list is as it was, and none is pending.
+    pub fn push_pending(&mut self, draw: Prepared<'x>) -> Result<(), AllocError> {
+        let cut = draw.cut;
+        let first = self.kept;
+        let after = self.triangles.len();
+        let own = &self.triangles[first..];
+        let work = self.work.saturating_add(work_of(own, &cut));
+        let (top, bottom) = covered_rows(own);
         let listed = Listed {
             cut,
             state: draw.state,
@@ -201,6 +219,7 @@ impl<'x> DrawList<'x> {
         };
         if self.draws.push(listed).is_ok() {
             self.work = work;
+            self.kept = after;
             return Ok(());
         }
         self.triangles.truncate(first);

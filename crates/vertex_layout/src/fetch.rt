@@ -244,3 +244,29 @@ pub(crate) fn texcoord_of(placed: &Option<PlacedAttr>, bytes: &[u8], at: usize) 
         None => [0; 2],
     }
 }
+
+/// The place of an attribute of three fixed numbers.
+pub(crate) fn fixed_three(placed: &PlacedAttr) -> Option<usize> {
+    if is_fixed(placed) && placed.count == 3 {
+        return Some(placed.offset as usize);
+    }
+    None
+}
+
+/// The place of an attribute of four bytes.
+pub(crate) fn bytes_four(placed: &PlacedAttr) -> Option<usize> {
+    if is_four_bytes(placed) {
+        return Some(placed.offset as usize);
+    }
+    None
+}
+
+#[inline(always)]
+pub(crate) fn four_at(bytes: &[u8], at: usize) -> [u8; 4] {
+    [bytes[at], bytes[at + 1], bytes[at + 2], bytes[at + 3]]
+}
+
+#[inline(always)]
+pub(crate) fn number_at(bytes: &[u8], at: usize) -> i32 {
+    u32::from_le_bytes(four_at(bytes, at)).cast_signed()
+}

@@ -8,7 +8,10 @@ ghost use Rattle.vertex_layout.specs.Layouts.{is_layout, vertex_at};
 ghost use Rattle.vertex_layout.specs.Seen.{vertex_seen};
 
 use crate::attributes::{Attr, AttrList, PlacedAttr};
-use crate::fetch::{Vertex, color_of, position_of, texcoord_of};
+use crate::fetch::{
+    Vertex, bytes_four, color_of, fixed_three, four_at, number_at, position_of, texcoord_of,
+};
+use fix_math::Point;
 use std::marker::Model;
 
 /// The attributes of a vertex with their places, and the bytes from one vertex to the next, 1 to 255.
@@ -121,6 +124,68 @@ impl VertexLayout {
             position: position_of(&self.position, bytes, at),
             color: color_of(&self.color, bytes, at),
             texcoord: texcoord_of(&self.texcoord, bytes, at),
+        }
+    }
+
+    /// Where positions and colours stand, for a layout with a position of three fixed numbers and without a texture coordinate, whose
+    /// colour, where it has one, is four bytes: then a vertex needs no case of its layout.
+    pub fn plain(&self) -> Option<PlainLayout> {
+        if self.texcoord.is_some() {
+            return None;
+        }
+        let position = match self.position {
+            Some(placed) => match fixed_three(&placed) {
+                Some(at) => at,
+                None => return None,
+            },
+            None => return None,
+        };
+        let color = match self.color {
+            Some(placed) => match bytes_four(&placed) {
+                Some(at) => Some(at),
+                None => return None,
+            },
+            None => None,
+        };
+        Some(PlainLayout {
+            stride: self.stride as usize,
+            position,
+            color,
+        })
+    }
+}
+
+/// A layout whose cases are decided: the places of the position and of the colour in a vertex.
+#[derive(Clone, Copy, Debug)]
+pub struct PlainLayout {
+    stride: usize,
+    position: usize,
+    color: Option<usize>,
+}
+
+impl PlainLayout {
+    /// The bytes from one vertex to the next.
+    #[inline(always)]
+    pub fn stride(&self) -> usize {
+        self.stride
+    }
+
+    /// The vertex that begins at a place, where as many bytes as the stride are.
+    #[inline(always)]
+    pub fn vertex(&self, bytes: &[u8], at: usize) -> Vertex {
+        let here = at + self.position;
+        let color = match self.color {
+            Some(place) => four_at(bytes, at + place),
+            None => [255; 4],
+        };
+        Vertex {
+            position: Point {
+                x: number_at(bytes, here),
+                y: number_at(bytes, here + 4),
+                z: number_at(bytes, here + 8),
+            },
+            color,
+            texcoord: [0; 2],
         }
     }
 }

@@ -9,4 +9,4 @@ mod layout;
 pub use attributes::{Attr, AttrList, AttrType, PlacedAttr};
 pub use builder::LayoutBuilder;
 pub use fetch::{Vertex, byte_of_fixed};
-pub use layout::VertexLayout;
+pub use layout::{PlainLayout, VertexLayout};

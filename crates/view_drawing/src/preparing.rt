@@ -18,9 +18,9 @@ ghost use Rattle.view_drawing.specs.Prepared.{AddsTo, IsPreparedDraw};
 use crate::paints::paint_of;
 use crate::ranges::{indices_of, vertices_of};
 use crate::room::DrawingRoom;
-use crate::shapes::{Placement, place_vertices, triangles_of};
+use crate::shapes::{Placement, place_vertices, push_straight, triangles_of};
 use buffer_store::BufferStore;
-use draw_encoder::DrawItem;
+use draw_encoder::{DrawItem, IndexSet};
 use int_raster::{DrawList, Paint, Prepared, draw_cut, view_rect};
 use render_stores::ProgramRow;
 use std::alloc::AllocError;
@@ -121,12 +121,37 @@ fn add_painted<'x>(
 ) -> Result<(), AllocError>
     ensures { OnOk result ((sets : List UniformSet) → AddsTo stage.now.width stage.now.height (painted_in (view_seen stage.now.view.now) (draw_seen recorded.now sets draw.now) buffers.now (Some (paint_seen paint.entry))) list.old list.new) }
 {
-    match prepare(stage, buffers, recorded, draw, paint, room) {
-        Ok(prepared) => {
-            list.push(prepared, &room.triangles)?;
-            Ok(())
+    let rect = view_rect(stage.view.rect, stage.width, stage.height);
+    let placement = Placement {
+        model: draw.model,
+        view: stage.view.transform,
+        rect,
+    };
+    let prepared = Prepared {
+        cut: draw_cut(rect, stage.view.scissor, draw.scissor),
+        state: draw.state,
+        front: draw.front,
+        back: draw.back,
+        paint,
+    };
+    if is_unindexed(&draw.indices) {
+        if let Some(vertices) = vertices_of(buffers, recorded, &draw.vertices) {
+            let (primitive, cull) = (draw.state.primitive(), draw.state.cull());
+            if push_straight(list.pending(), &placement, &vertices, primitive, cull)? {
+                return list.push_pending(prepared);
+            }
         }
-        Err(fault) => Err(fault),
+    }
+    shape_draw(room, buffers, recorded, draw, &placement)?;
+    list.push(prepared, &room.triangles)?;
+    Ok(())
+}
+
+/// Whether a draw takes its vertices as they stand.
+fn is_unindexed(indices: &IndexSet) -> bool {
+    match indices {
+        IndexSet::Unset => true,
+        _ => false,
     }
 }
 

@@ -15,7 +15,7 @@ use crate::ranges::{IndexRange, VertexRange, index_in, vertex_of};
 use fix_math::{Affine, Rect};
 use std::alloc::AllocError;
 use tri_cover::{ScreenVertex, Setup, place, place_still};
-use vertex_layout::Vertex;
+use vertex_layout::{PlainLayout, Vertex};
 
 /// How the vertices of a draw come to the target: by its transform, its view's transform and the view's rectangle.
 #[derive(Clone, Copy)]
@@ -243,4 +243,67 @@ pub(crate) fn triangles_of(
         strip_triangles(triangles, vertices, cull)?;
     }
     Ok(())
+}
+
+/// One triangle more, where its corners are placed and it is kept.
+#[inline(always)]
+fn push_placed(
+    triangles: &mut Vec<Setup>,
+    a: Option<ScreenVertex>,
+    b: Option<ScreenVertex>,
+    c: Option<ScreenVertex>,
+    cull: u8,
+) -> Result<(), AllocError> {
+    if let (Some(a), Some(b), Some(c)) = (a, b, c) {
+        if let Some(setup) = Setup::new(a, b, c, cull) {
+            triangles.push(setup)?;
+        }
+    }
+    Ok(())
+}
+
+/// The triangles of a list of vertices without indices, which nothing moves, straight from their bytes behind others.
+fn push_plain(
+    triangles: &mut Vec<Setup>,
+    plain: PlainLayout,
+    bytes: &[u8],
+    count: u32,
+    rect: Rect,
+    cull: u8,
+) -> Result<(), AllocError> {
+    let stride = plain.stride();
+    let held = (bytes.len() / stride).min(count as usize) / 3;
+    let mut at = 0usize;
+    for _ in 0..held {
+        let a = place_still(&plain.vertex(bytes, at), rect);
+        let b = place_still(&plain.vertex(bytes, at + stride), rect);
+        let c = place_still(&plain.vertex(bytes, at + 2 * stride), rect);
+        push_placed(triangles, a, b, c, cull)?;
+        at += 3 * stride;
+    }
+    Ok(())
+}
+
+/// The bytes of a range from its first vertex on.
+fn bytes_from<'x>(range: &VertexRange<'x>) -> &'x [u8] {
+    let from = range.first as usize * range.layout.stride() as usize;
+    &range.bytes[from.min(range.bytes.len())..]
+}
+
+/// The triangles of a draw behind others, by way of no list of vertices, where that is possible: whether it is.
+pub(crate) fn push_straight(
+    triangles: &mut Vec<Setup>,
+    placement: &Placement,
+    range: &VertexRange<'_>,
+    primitive: u8,
+    cull: u8,
+) -> Result<bool, AllocError> {
+    if primitive != 0 || !is_still(placement) {
+        return Ok(false);
+    }
+    let Some(plain) = range.layout.plain() else {
+        return Ok(false);
+    };
+    push_plain(triangles, plain, bytes_from(range), range.count, placement.rect, cull)?;
+    Ok(true)
 }
