@@ -25,15 +25,6 @@ pub struct Setup {
     pub b: ScreenVertex,
     pub c: ScreenVertex,
     pub is_front: bool,
-    ab: Edge,
-    bc: Edge,
-    ca: Edge,
-    ghost first: { IsEdge ab a b },
-    ghost second: { IsEdge bc b c },
-    ghost third: { IsEdge ca c a },
-    ghost near_first: { IsNear ab },
-    ghost near_second: { IsNear bc },
-    ghost near_third: { IsNear ca },
     ghost turned: { pos 0 <ℤ area_spec (triangle_seen a b c) },
 }
 
@@ -142,18 +133,7 @@ fn clockwise(a: ScreenVertex, b: ScreenVertex, c: ScreenVertex, is_front: bool) 
     ensures triangle { triangle_seen result.a result.b result.c ≡ triangle_seen a b c }
     ensures front { result.is_front ≡ is_front }
 {
-    let ab = edge_between(&a, &b);
-    let bc = edge_between(&b, &c);
-    let ca = edge_between(&c, &a);
-    Setup {
-        a,
-        b,
-        c,
-        is_front,
-        ab,
-        bc,
-        ca,
-    }
+    Setup { a, b, c, is_front }
 }
 
 impl Setup {
@@ -179,6 +159,24 @@ impl Setup {
         } else {
             None
         }
+    }
+
+    /// The edge from the first corner to the second.
+    #[inline(always)]
+    fn ab(&self) -> Edge {
+        edge_between(&self.a, &self.b)
+    }
+
+    /// The edge from the second corner to the third.
+    #[inline(always)]
+    fn bc(&self) -> Edge {
+        edge_between(&self.b, &self.c)
+    }
+
+    /// The edge from the third corner to the first.
+    #[inline(always)]
+    fn ca(&self) -> Edge {
+        edge_between(&self.c, &self.a)
     }
 
     /// Whether it faced the front: clockwise as its corners were given.
@@ -272,14 +270,14 @@ impl Setup {
             c: weight(&self.a, &self.b, x, y),
         };
         let right = Three {
-            a: gained_by_column(&self.bc),
-            b: gained_by_column(&self.ca),
-            c: gained_by_column(&self.ab),
+            a: gained_by_column(&self.bc()),
+            b: gained_by_column(&self.ca()),
+            c: gained_by_column(&self.ab()),
         };
         let down = Three {
-            a: gained_by_row(&self.bc),
-            b: gained_by_row(&self.ca),
-            c: gained_by_row(&self.ab),
+            a: gained_by_row(&self.bc()),
+            b: gained_by_row(&self.ca()),
+            c: gained_by_row(&self.ab()),
         };
         let narrow = are_narrow(&at, &right, &down);
         Some(Steps {
@@ -311,17 +309,17 @@ impl Setup {
             w,
         );
         let right = weighted(
-            gained_by_column(&self.bc),
-            gained_by_column(&self.ca),
-            gained_by_column(&self.ab),
+            gained_by_column(&self.bc()),
+            gained_by_column(&self.ca()),
+            gained_by_column(&self.ab()),
             u,
             v,
             w,
         );
         let down = weighted(
-            gained_by_row(&self.bc),
-            gained_by_row(&self.ca),
-            gained_by_row(&self.ab),
+            gained_by_row(&self.bc()),
+            gained_by_row(&self.ca()),
+            gained_by_row(&self.ab()),
             u,
             v,
             w,
@@ -356,9 +354,9 @@ impl Setup {
         ensures { AreSides result self.now row }
     {
         Sides {
-            ab: side_of(&self.ab, row),
-            bc: side_of(&self.bc, row),
-            ca: side_of(&self.ca, row),
+            ab: side_of(&self.ab(), row),
+            bc: side_of(&self.bc(), row),
+            ca: side_of(&self.ca(), row),
         }
     }
 
@@ -369,9 +367,9 @@ impl Setup {
         ensures { AreSides result self.now (row + 1) }
     {
         Sides {
-            ab: next_side(sides.ab, &self.ab, row),
-            bc: next_side(sides.bc, &self.bc, row),
-            ca: next_side(sides.ca, &self.ca, row),
+            ab: next_side(sides.ab, &self.ab(), row),
+            bc: next_side(sides.bc, &self.bc(), row),
+            ca: next_side(sides.ca, &self.ca(), row),
         }
     }
 
@@ -383,9 +381,9 @@ impl Setup {
         ensures order { result.0 ≤ result.1 }
         ensures within { result.1 ≤ width }
     {
-        let (first, after) = cut(0, width as i64, &sides.ab, &self.ab, row);
-        let (first, after) = cut(first, after, &sides.bc, &self.bc, row);
-        let (first, after) = cut(first, after, &sides.ca, &self.ca, row);
+        let (first, after) = cut(0, width as i64, &sides.ab, &self.ab(), row);
+        let (first, after) = cut(first, after, &sides.bc, &self.bc(), row);
+        let (first, after) = cut(first, after, &sides.ca, &self.ca(), row);
         ends(first, after, width)
     }
 
@@ -397,13 +395,13 @@ impl Setup {
         ensures columns { IfSome result (λ b. (k x : ℕ) → k < count → x < 65536 → is_let b k x ≡ covers (triangle_seen self.now.a self.now.b self.now.c) x (row + k)) }
     {
         let mut bounds = no_bounds();
-        if !put_edge(&mut bounds, &self.ab, row, count) {
+        if !put_edge(&mut bounds, &self.ab(), row, count) {
             return None;
         }
-        if !put_edge(&mut bounds, &self.bc, row, count) {
+        if !put_edge(&mut bounds, &self.bc(), row, count) {
             return None;
         }
-        if !put_edge(&mut bounds, &self.ca, row, count) {
+        if !put_edge(&mut bounds, &self.ca(), row, count) {
             return None;
         }
         Some(bounds)
