@@ -10,6 +10,7 @@ use crate::deep::draw_deep;
 use crate::flat::draw_flat;
 use crate::lists::DrawList;
 use crate::rows::Rows;
+use crate::texts::{sum_of_both, write_pieces};
 use crate::wipe::Wipe;
 use crate::wipes::{wipe_deep, wipe_flat};
 use fix_math::tell_texels;
@@ -230,4 +231,65 @@ pub(crate) fn deep_bands<R: Threads>(
             ensures { deep under.exit.now far.exit.now ≡ deep_drawn lower.width lower.top (deep_wiped lower.width lower.top (deep under.entry.now far.entry.now) (wipes_seen wipes.entry.now)) list.entry.now }
         { deep_bands(rt, &lower, wipes, list, more, under, far) },
     );
+}
+
+/// Makes wipes, and the draws of a list behind them, on a band with depth, and writes the text of its colours, strip by strip.
+fn shown_strips(
+    rows: &Rows,
+    wipes: &[Wipe],
+    list: &DrawList<'_>,
+    strips: u32,
+    colors: &mut [[u8; 4]],
+    depths: &mut [[u8; 4]],
+    text: &mut [u8],
+    wants_sum: bool,
+) -> Option<u32> {
+    if strips < 2 {
+        deep_strip(rows, wipes, list, colors, depths);
+        return write_pieces(text, colors, wants_sum);
+    }
+    let (upper, lower) = rows.cut(1, strips);
+    let middle = upper.width as usize * upper.count as usize;
+    let (above, under) = colors.split_at_mut(middle);
+    let (near, far) = depths.split_at_mut(middle);
+    let (before, behind) = text.split_at_mut(3 * middle);
+    deep_strip(&upper, wipes, list, above, near);
+    let first = write_pieces(before, above, wants_sum);
+    let second = shown_strips(&lower, wipes, list, strips - 1, under, far, behind, wants_sum);
+    sum_of_both(first, second)
+}
+
+/// The same in several bands side by side.
+pub(crate) fn shown_bands<R: Threads>(
+    rt: &R,
+    rows: &Rows,
+    wipes: &[Wipe],
+    list: &DrawList<'_>,
+    bands: u32,
+    colors: &mut [[u8; 4]],
+    depths: &mut [[u8; 4]],
+    text: &mut [u8],
+    wants_sum: bool,
+) -> Option<u32> {
+    if bands < 2 {
+        let strips = list.strips(rows);
+        return shown_strips(rows, wipes, list, strips, colors, depths, text, wants_sum);
+    }
+    let more = bands - 1;
+    let (upper, lower) = rows.cut(1, bands);
+    let middle = upper.width as usize * upper.count as usize;
+    let (above, under) = colors.split_at_mut(middle);
+    let (near, far) = depths.split_at_mut(middle);
+    let (before, behind) = text.split_at_mut(3 * middle);
+    let (first, second) = join_mut(
+        rt,
+        &mut || -> Option<u32> {
+            let strips = list.strips(&upper);
+            shown_strips(&upper, wipes, list, strips, above, near, before, wants_sum)
+        },
+        &mut || -> Option<u32> {
+            shown_bands(rt, &lower, wipes, list, more, under, far, behind, wants_sum)
+        },
+    );
+    sum_of_both(first, second)
 }

@@ -4,10 +4,11 @@ ghost use Rattle.int_raster.specs.Drawing.{drawn_prepared};
 ghost use Rattle.int_raster.specs.Seen.{surface_seen, sides_seen};
 ghost use Rattle.int_raster.specs.Wiping.{wiped, wipes_seen};
 
-use crate::bands::{deep_band, deep_bands, flat_band, flat_bands};
+use crate::bands::{deep_band, deep_bands, flat_band, flat_bands, shown_bands};
 use crate::lists::DrawList;
 use crate::rows::Rows;
 use crate::surfaces::Surface;
+use crate::texts::write_pieces;
 use crate::wipe::Wipe;
 use std::thread::Threads;
 
@@ -60,6 +61,35 @@ pub fn draw_bands<R: Threads>(
         Some(depth) => {
             let depths = depth.texels.as_mut_slice();
             deep_bands(rt, &rows, wipes, list, bands, colors, depths);
+        }
+    }
+}
+
+/// The same on a surface with depth, and writes the text of the colours, each band that of its own. None where there is no depth.
+pub fn draw_shown_bands<R: Threads>(
+    rt: &R,
+    surface: &mut Surface,
+    wipes: &[Wipe],
+    list: &DrawList<'_>,
+    bands: u32,
+    text: &mut [u8],
+    wants_sum: bool,
+) -> Option<u32> {
+    let rows = Rows {
+        width: surface.color.width,
+        top: 0,
+        count: surface.color.height,
+    };
+    let bands = bands.min(rows.count as u32).min(MOST_BANDS);
+    let colors = surface.color.texels.as_mut_slice();
+    match &mut surface.depth {
+        None => {
+            flat_bands(rt, &rows, wipes, list, bands, colors);
+            write_pieces(text, colors, wants_sum)
+        }
+        Some(depth) => {
+            let depths = depth.texels.as_mut_slice();
+            shown_bands(rt, &rows, wipes, list, bands, colors, depths, text, wants_sum)
         }
     }
 }

@@ -4,7 +4,7 @@ ghost use Rattle.int_raster.specs.Drawing.{drawn_prepared};
 ghost use Rattle.int_raster.specs.Seen.{surface_seen, sides_seen};
 ghost use Rattle.int_raster.specs.Wiping.{wiped, wipes_seen};
 
-use crate::drawing::{draw_bands, draw_view};
+use crate::drawing::{draw_bands, draw_shown_bands, draw_view};
 use crate::lists::DrawList;
 use crate::surfaces::Surface;
 use crate::texts::{write_parts, write_pieces};
@@ -30,6 +30,19 @@ pub trait Rasterizer {
         ensures total { IfSome result (λ total. total ≡ sum room.new % 2 ^ 32) }
     {
         write_pieces(room, colors, wants_sum)
+    }
+
+    /// Makes wipes and draws, and writes the text of the colours then.
+    fn draw_shown(
+        &mut self,
+        surface: &mut Surface,
+        wipes: &[Wipe],
+        list: &DrawList<'_>,
+        text: &mut [u8],
+        wants_sum: bool,
+    ) -> Option<u32> {
+        self.draw(surface, wipes, list);
+        self.write_text(text, surface.color.texels.as_slice(), wants_sum)
     }
 }
 
@@ -105,5 +118,19 @@ impl<'r, R: Threads> Rasterizer for BandRasterizer<'r, R> {
     fn write_text(&mut self, room: &mut [u8], colors: &[[u8; 4]], wants_sum: bool) -> Option<u32> {
         let parts = self.bands((colors.len() as u64).saturating_mul(WORK_OF_TEXT));
         write_parts(self.rt, room, colors, wants_sum, parts)
+    }
+
+    fn draw_shown(
+        &mut self,
+        surface: &mut Surface,
+        wipes: &[Wipe],
+        list: &DrawList<'_>,
+        text: &mut [u8],
+        wants_sum: bool,
+    ) -> Option<u32> {
+        let texels = surface.color.texels.len() as u64;
+        let work = list.work().saturating_add(texels.saturating_mul(WORK_OF_TEXT));
+        let bands = self.bands(work);
+        draw_shown_bands(self.rt, surface, wipes, list, bands, text, wants_sum)
     }
 }

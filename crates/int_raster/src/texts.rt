@@ -53,7 +53,7 @@ fn write_colors(room: &mut [u8], colors: &[[u8; 4]])
 }
 
 /// The sum of two texts, one behind the other, where those of both are told.
-fn sum_of_both(first: Option<u32>, second: Option<u32>) -> Option<u32>
+pub(crate) fn sum_of_both(first: Option<u32>, second: Option<u32>) -> Option<u32>
     ensures { result ≡ both_told first second }
 {
     match (first, second) {

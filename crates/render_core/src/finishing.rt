@@ -86,9 +86,18 @@ impl Canvas {
         ensures stores { OnOk result (stores_seen self.new.stores ≡ frame_by_index (stores_seen opening.now.value.canvas.stores) (frame_seen frame.now)) }
         ensures text { OnOk result (self.new.text.text.items ≡ picture_text (stores_seen self.new.stores).back.color) }
     {
-        self.end(rasterizer, frame, entered, opening)?;
-        self.text
-            .write(rasterizer, &self.stores.back.color, wants_sum);
+        let (text, head) = self.text.take_room(self.alloc);
+        self.room.lend_text(text, head, wants_sum);
+        let done = self.end(rasterizer, frame, entered, opening);
+        let (text, told) = self.room.take_text();
+        self.text.put_room(text);
+        done?;
+        match told {
+            Some(told) => self.text.tell(told),
+            None => self
+                .text
+                .write(rasterizer, &self.stores.back.color, wants_sum),
+        }
         Ok(())
     }
 

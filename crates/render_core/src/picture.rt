@@ -8,6 +8,7 @@ use fix_math::Texels;
 use int_raster::Rasterizer;
 use io_edge::sum_of;
 use std::alloc::{AllocError, Global};
+use std::mem::replace;
 
 /// The text of a picture, which is written anew for each frame, and the sum of its bytes where it was wanted. Its room is kept.
 #[derive(Drop)]
@@ -40,6 +41,24 @@ impl PictureText {
             head,
             total: None,
         })
+    }
+
+    /// Gives the room of the text away, with the place behind its head.
+    pub(crate) fn take_room(&mut self, alloc: Global) -> (Vec<u8>, usize) {
+        (replace(&mut self.text, Vec::new(alloc)), self.head)
+    }
+
+    /// Takes the room back.
+    pub(crate) fn put_room(&mut self, text: Vec<u8>) {
+        self.text = text;
+    }
+
+    /// Keeps the sum of what was written behind the head.
+    pub(crate) fn tell(&mut self, told: Option<u32>) {
+        self.total = match told {
+            Some(total) => Some(total.wrapping_add(sum_of(&self.text[..self.head]))),
+            None => None,
+        };
     }
 
     /// Writes the picture of texels of the same sides by a rasterizer. It takes no memory.

@@ -57,6 +57,28 @@ fn draw_cleared<D: Rasterizer>(
     }
 }
 
+/// The same, and writes the text of the colours into the room.
+fn draw_shown<D: Rasterizer>(
+    rasterizer: &mut D,
+    surface: &mut Surface,
+    cleared: &[ViewPart<'_>],
+    list: &DrawList<'_>,
+    room: &mut DrawingRoom,
+) {
+    let wants_sum = room.wants_sum;
+    let head = room.head;
+    let listed = list_wipes(&mut room.wipes, cleared, surface.color.width, surface.color.height);
+    let text = &mut room.text[head..];
+    let told = match listed {
+        Ok(()) => rasterizer.draw_shown(surface, room.wipes.as_slice(), list, text, wants_sum),
+        Err(_) => {
+            clear_all(surface, cleared);
+            rasterizer.draw_shown(surface, &[], list, text, wants_sum)
+        }
+    };
+    room.told = Some(told);
+}
+
 /// Clears a surface of the things' sides, makes the draws of a pass on it, and gives their values. Where memory is wanting for a draw,
 /// it is cleared, the values of the items up to that draw are given, and nothing is drawn.
 fn draw_surface<D: Rasterizer>(
@@ -66,6 +88,7 @@ fn draw_surface<D: Rasterizer>(
     buffers: &mut BufferStore,
     pass: Pass<'_>,
     room: &mut DrawingRoom,
+    shown: bool,
 ) -> Result<(), AllocError>
     requires wide { things.now.width ≡ surface.old.color.width }
     requires high { things.now.height ≡ surface.old.color.height }
@@ -76,7 +99,11 @@ fn draw_surface<D: Rasterizer>(
 {
     match list_of(things, buffers, pass.drawn, room) {
         Ok(list) => {
-            draw_cleared(rasterizer, surface, pass.cleared, &list, &mut room.wipes);
+            if shown {
+                draw_shown(rasterizer, surface, pass.cleared, &list, room);
+            } else {
+                draw_cleared(rasterizer, surface, pass.cleared, &list, &mut room.wipes);
+            }
             room.list = list.into_room();
             Ok(())
         }
@@ -118,6 +145,7 @@ fn draw_target<D: Rasterizer>(
                 &mut stores.buffers,
                 pass,
                 room,
+                false,
             );
             stores
                 .textures
@@ -143,6 +171,7 @@ fn draw_back<D: Rasterizer>(
         width: stores.back.color.width,
         height: stores.back.color.height,
     };
+    let shown = room.last;
     let done = draw_surface(
         rasterizer,
         &mut stores.back,
@@ -150,6 +179,7 @@ fn draw_back<D: Rasterizer>(
         &mut stores.buffers,
         pass,
         room,
+        shown,
     );
     done
 }

@@ -101,6 +101,7 @@ fn enter_first<D: Rasterizer>(
 {
     let first = views[0];
     let count = length_of_pass(first.view, views);
+    room.last = room.lent && count.max(1) == views.len();
     if count == 0 {
         enter_view(
             rasterizer,

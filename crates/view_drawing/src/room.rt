@@ -15,6 +15,12 @@ pub struct DrawingRoom {
     pub(crate) vertices: Vec<Option<ScreenVertex>>,
     pub(crate) triangles: Vec<Setup>,
     pub(crate) list: DrawRoom,
+    pub(crate) last: bool,
+    pub(crate) lent: bool,
+    pub(crate) text: Vec<u8>,
+    pub(crate) head: usize,
+    pub(crate) wants_sum: bool,
+    pub(crate) told: Option<Option<u32>>,
 }
 
 impl DrawingRoom {
@@ -26,7 +32,31 @@ impl DrawingRoom {
             vertices: Vec::new(alloc),
             triangles: Vec::new(alloc),
             list: DrawRoom::new(alloc),
+            last: false,
+            lent: false,
+            text: Vec::new(alloc),
+            head: 0,
+            wants_sum: false,
+            told: None,
         }
+    }
+
+    /// Lends the room of the picture's text, which begins at a place, to be written by who draws the last pass of the back buffer.
+    pub fn lend_text(&mut self, text: Vec<u8>, head: usize, wants_sum: bool) {
+        self.text = text;
+        self.head = head;
+        self.wants_sum = wants_sum;
+        self.lent = true;
+        self.told = None;
+    }
+
+    /// Takes the room of the text back, and answers whether it was written, with the sum of its bytes where it was wanted.
+    pub fn take_text(&mut self) -> (Vec<u8>, Option<Option<u32>>) {
+        self.lent = false;
+        self.last = false;
+        let told = self.told;
+        self.told = None;
+        (replace(&mut self.text, Vec::new(self.alloc)), told)
     }
 
     /// The triangles of the draw that was prepared last.
