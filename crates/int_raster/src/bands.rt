@@ -11,6 +11,7 @@ use crate::flat::draw_flat;
 use crate::lists::DrawList;
 use crate::rows::Rows;
 use crate::texts::{sum_of_both, write_pieces};
+use crate::watch::Watch;
 use crate::wipe::Wipe;
 use crate::wipes::{wipe_deep, wipe_flat};
 use fix_math::tell_texels;
@@ -270,10 +271,13 @@ pub(crate) fn shown_bands<R: Threads>(
     depths: &mut [[u8; 4]],
     text: &mut [u8],
     wants_sum: bool,
+    watch: &Watch,
 ) -> Option<u32> {
     if bands < 2 {
         let strips = list.strips(rows);
-        return shown_strips(rows, wipes, list, strips, colors, depths, text, wants_sum);
+        let sum = shown_strips(rows, wipes, list, strips, colors, depths, text, wants_sum);
+        watch.look();
+        return sum;
     }
     let more = bands - 1;
     let (upper, lower) = rows.cut(1, bands);
@@ -284,11 +288,14 @@ pub(crate) fn shown_bands<R: Threads>(
     let (first, second) = join_mut(
         rt,
         &mut || -> Option<u32> {
+            watch.begin();
             let strips = list.strips(&upper);
             shown_strips(&upper, wipes, list, strips, above, near, before, wants_sum)
         },
         &mut || -> Option<u32> {
-            shown_bands(rt, &lower, wipes, list, more, under, far, behind, wants_sum)
+            shown_bands(
+                rt, &lower, wipes, list, more, under, far, behind, wants_sum, watch,
+            )
         },
     );
     sum_of_both(first, second)

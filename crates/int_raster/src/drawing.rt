@@ -9,6 +9,7 @@ use crate::lists::DrawList;
 use crate::rows::Rows;
 use crate::surfaces::Surface;
 use crate::texts::write_pieces;
+use crate::watch::Watch;
 use crate::wipe::Wipe;
 use std::thread::Threads;
 
@@ -66,7 +67,7 @@ pub fn draw_bands<R: Threads>(
 }
 
 /// The same on a surface with depth, and writes the text of the colours, each band that of its own. None where there is no depth.
-pub fn draw_shown_bands<R: Threads>(
+pub(crate) fn draw_shown_bands<R: Threads>(
     rt: &R,
     surface: &mut Surface,
     wipes: &[Wipe],
@@ -74,13 +75,13 @@ pub fn draw_shown_bands<R: Threads>(
     bands: u32,
     text: &mut [u8],
     wants_sum: bool,
+    watch: &Watch,
 ) -> Option<u32> {
     let rows = Rows {
         width: surface.color.width,
         top: 0,
         count: surface.color.height,
     };
-    let bands = bands.min(rows.count as u32).min(MOST_BANDS);
     let colors = surface.color.texels.as_mut_slice();
     match &mut surface.depth {
         None => {
@@ -89,7 +90,7 @@ pub fn draw_shown_bands<R: Threads>(
         }
         Some(depth) => {
             let depths = depth.texels.as_mut_slice();
-            shown_bands(rt, &rows, wipes, list, bands, colors, depths, text, wants_sum)
+            shown_bands(rt, &rows, wipes, list, bands, colors, depths, text, wants_sum, watch)
         }
     }
 }

@@ -29,6 +29,7 @@ mod surfaces;
 mod texts;
 mod tiles;
 mod wipe;
+mod watch;
 mod wipes;
 
 pub use cuts::{draw_cut, view_rect};

@@ -8,6 +8,7 @@ use crate::drawing::{draw_bands, draw_shown_bands, draw_view};
 use crate::lists::DrawList;
 use crate::surfaces::Surface;
 use crate::texts::{write_parts, write_pieces};
+use crate::watch::Watch;
 use crate::wipe::Wipe;
 use std::thread;
 use std::thread::Threads;
@@ -65,6 +66,9 @@ const WORK_OF_TEXT: u64 = 2;
 // More bands than this do not pay for their threads.
 const MOST_PAID: u64 = 8;
 
+// After so many forks without a late band one band more is tried.
+const CALM: u32 = 16;
+
 /// Makes the draws in bands of whole rows, side by side, where their work is worth more threads than the one that calls: one
 /// band for each 131,072 pixels that the triangles cover by their areas, a triangle itself counting as 400 more, at most 8, and no
 /// more than there are processors, which are asked for once. Texts are written in as many parts, the text of a texel counting as two pixels.
@@ -72,6 +76,8 @@ const MOST_PAID: u64 = 8;
 pub struct BandRasterizer<'r, R> {
     rt: &'r R,
     processors: Option<u64>,
+    most: u32,
+    calm: u32,
 }
 
 impl<'r, R: Threads> BandRasterizer<'r, R> {
@@ -80,6 +86,8 @@ impl<'r, R: Threads> BandRasterizer<'r, R> {
         BandRasterizer {
             rt,
             processors: None,
+            most: MOST_PAID as u32,
+            calm: 0,
         }
     }
 
@@ -94,6 +102,20 @@ impl<'r, R: Threads> BandRasterizer<'r, R> {
         };
         self.processors = Some(count);
         count
+    }
+
+    /// Halves how many bands a fork has at most where one of so many was late; takes one more after 16 forks without a late one.
+    fn heed(&mut self, bands: u32, late: bool) {
+        if late {
+            self.most = (bands / 2).max(1);
+            self.calm = 0;
+            return;
+        }
+        self.calm = self.calm.saturating_add(1);
+        if self.calm >= CALM {
+            self.calm = 0;
+            self.most = self.most.saturating_add(1).min(MOST_PAID as u32);
+        }
     }
 
     /// In how many bands work of so many pixels is done.
@@ -130,7 +152,10 @@ impl<'r, R: Threads> Rasterizer for BandRasterizer<'r, R> {
     ) -> Option<u32> {
         let texels = surface.color.texels.len() as u64;
         let work = list.work().saturating_add(texels.saturating_mul(WORK_OF_TEXT));
-        let bands = self.bands(work);
-        draw_shown_bands(self.rt, surface, wipes, list, bands, text, wants_sum)
+        let bands = self.bands(work).min(self.most).min(surface.color.height as u32);
+        let watch = Watch::new(bands);
+        let sum = draw_shown_bands(self.rt, surface, wipes, list, bands, text, wants_sum, &watch);
+        self.heed(bands, watch.was_late());
+        sum
     }
 }
