@@ -5,10 +5,11 @@ ghost use Rattle.scene_model.specs.Generated.{draw_lines, block_of, first_lines,
 ghost use Rattle.generated_scene.specs.Draws.{lines_of_draw};
 ghost use Rattle.scene_text.specs.Seen.{encoder_line_seen, resource_line_seen, block_seen, frame_seen, name_seen, scene_seen};
 
-use crate::squares::square;
+use crate::squares::put_square;
 use gfx_words::{MOST_ROOM_ITEMS, ProgramKind};
 use scene_text::{
     Clear, EncBlock, EncLine, LayoutPart, ResLine, Room, Scene, SceneFrame, SceneName, Sequence,
+    SharedBytes,
 };
 use std::alloc::{AllocError, Global};
 use std::thread::{Threads, available_parallelism, join};
@@ -19,15 +20,14 @@ const STATE: u64 = 274_877_906_975;
 
 // The three lines of a draw.
 fn push_draw(
-    alloc: Global,
+    all: &SharedBytes,
     lines: &mut Vec<EncLine>,
-    frame: u32,
     draw: u32,
 ) -> Result<(), AllocError>
     requires { (frame < 512) × (draw < 1200) }
     ensures { OnOk result (map encoder_line_seen lines.new.items ≡ map encoder_line_seen lines.old.items ++ draw_lines frame draw) }
 {
-    let bytes = square(alloc, frame, draw)?;
+    let bytes = all.part(draw / 4 * 96, 96)?;
     lines.push(EncLine::State { word: STATE })?;
     lines.push(EncLine::TransientVertices { layout: 0, bytes })?;
     lines.push(EncLine::Submit {
@@ -41,9 +41,8 @@ fn push_draw(
 
 // The lines of a draw where it is the encoder's.
 fn push_own(
-    alloc: Global,
+    all: &SharedBytes,
     lines: &mut Vec<EncLine>,
-    frame: u32,
     encoder: u8,
     draw: u32,
 ) -> Result<(), AllocError>
@@ -53,7 +52,7 @@ fn push_own(
     if draw % 4 != encoder as u32 {
         return Ok(());
     }
-    push_draw(alloc, lines, frame, draw)?;
+    push_draw(all, lines, draw)?;
     Ok(())
 }
 
@@ -62,9 +61,16 @@ fn block(alloc: Global, frame: u32, encoder: u8) -> Result<EncBlock, AllocError>
     requires { frame < 512 }
     ensures { IfOk result (λ b. block_seen b ≡ block_of frame encoder) }
 {
+    let mut bytes = Vec::with_capacity(alloc, 28_800)?;
+    for draw in 0..1200u32 {
+        if draw % 4 == encoder as u32 {
+            put_square(&mut bytes, frame, draw)?;
+        }
+    }
+    let all = SharedBytes::from_vec(alloc, bytes)?;
     let mut lines = Vec::with_capacity(alloc, 900)?;
     for draw in 0..1200u32 {
-        push_own(alloc, &mut lines, frame, encoder, draw)?;
+        push_own(&all, &mut lines, encoder, draw)?;
     }
     Ok(EncBlock {
         encoder,

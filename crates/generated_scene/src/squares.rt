@@ -2,8 +2,7 @@
 ghost use Rattle.std.specs.Prelude.{◌≡◌, ◌≤◌, ◌<◌, ◌/◌, ◌%◌, IfOk};
 ghost use Rattle.scene_model.specs.Generated.{grid_x, grid_y, corner, square};
 
-use scene_text::Sequence;
-use std::alloc::{AllocError, Global};
+use std::alloc::AllocError;
 
 // A column of the grid, of which there are 41, in units of 1/65536.
 fn grid_x(i: u32) -> i32
@@ -37,19 +36,17 @@ fn corner(frame: u32, draw: u32, i: u32, j: u32) -> [u8; 16]
     ]
 }
 
-/// The two triangles of a draw's square.
-pub(crate) fn square(alloc: Global, frame: u32, draw: u32) -> Result<Sequence<u8>, AllocError>
+/// Puts the two triangles of a draw's square.
+pub(crate) fn put_square(bytes: &mut Vec<u8>, frame: u32, draw: u32) -> Result<(), AllocError>
     requires { (frame < 512) × (draw < 1200) }
-    ensures { IfOk result (λ s. s ≡ square frame draw (draw % 40) (draw / 40)) }
 {
     let i = draw % 40;
     let j = draw / 40;
-    let mut bytes = Vec::with_capacity(alloc, 96)?;
     bytes.extend_from_slice(&corner(frame, draw, i, j))?;
     bytes.extend_from_slice(&corner(frame, draw, i + 1, j))?;
     bytes.extend_from_slice(&corner(frame, draw, i + 1, j + 1))?;
     bytes.extend_from_slice(&corner(frame, draw, i, j))?;
     bytes.extend_from_slice(&corner(frame, draw, i + 1, j + 1))?;
     bytes.extend_from_slice(&corner(frame, draw, i, j + 1))?;
-    Ok(Sequence::from_vec(bytes))
+    Ok(())
 }

@@ -9,6 +9,7 @@ ghost use Rattle.scene_text.specs.Seen.{encoder_line_seen};
 ghost use Rattle.scene_text.specs.SeenWords.{word_seen};
 
 use crate::bytes::hex_bytes;
+use crate::line_bytes::LineBytes;
 use crate::fault::{Cause, LineFault};
 use crate::fields::{field, has_count};
 use crate::lists::{rect, transform};
@@ -93,7 +94,7 @@ fn transient_vertices(alloc: Global, names: &Names, fields: &[&[u8]]) -> Result<
 {
     has_count(fields, 3)?;
     let layout = names.used(field(fields, 1))?;
-    let bytes = hex_bytes(alloc, field(fields, 2))?;
+    let bytes = LineBytes::from_sequence(alloc, hex_bytes(alloc, field(fields, 2))?)?;
     Ok(EncLine::TransientVertices { layout, bytes })
 }
 
@@ -102,7 +103,7 @@ fn transient_indices(alloc: Global, names: &Names, fields: &[&[u8]]) -> Result<E
     ensures { MayGive encoder_line_seen result (encoder_form names.now (texts fields.now) model.transient_indices_word) }
 {
     has_count(fields, 2)?;
-    let bytes = hex_bytes(alloc, field(fields, 1))?;
+    let bytes = LineBytes::from_sequence(alloc, hex_bytes(alloc, field(fields, 1))?)?;
     Ok(EncLine::TransientIndices { bytes })
 }
 

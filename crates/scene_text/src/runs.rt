@@ -7,6 +7,7 @@ ghost use Rattle.scene_text.specs.Runs.{part, IsPart, AreDigits, IsFirstLine, Ar
 ghost use Rattle.scene_text.specs.Seen.{encoder_line_seen, frame_seen};
 
 use crate::bytes::hex_bytes;
+use crate::line_bytes::LineBytes;
 use crate::encoder_lines::four;
 use crate::frames::add_encoder_line;
 use crate::marks::{lowest, marks_from};
@@ -173,7 +174,10 @@ fn vertices_at(alloc: Global, names: &Names, bytes: &[u8]) -> Option<(EncLine, u
     let (layout, first) = name_at(names, bytes, 10)?;
     let end = end_at(bytes, first + 1, b'\n')?;
     match hex_bytes(alloc, &bytes[first + 1..end]) {
-        Ok(bytes) => Some((EncLine::TransientVertices { layout, bytes }, end)),
+        Ok(bytes) => match LineBytes::from_sequence(alloc, bytes) {
+            Ok(bytes) => Some((EncLine::TransientVertices { layout, bytes }, end)),
+            Err(_) => None,
+        },
         Err(_) => None,
     }
 }

@@ -1,5 +1,6 @@
 // Scenes as data.
 
+use crate::line_bytes::LineBytes;
 use crate::sequence::Sequence;
 use fix_math::{Affine, Rect};
 use gfx_words::{Format, ProgramKind, Room, TexSource, UniformKind, UniformValue, ViewMode};
@@ -156,11 +157,11 @@ pub enum EncLine {
     /// `tvertices LAYOUT HEX`
     TransientVertices {
         layout: u32,
-        bytes: Sequence<u8>,
+        bytes: LineBytes,
     },
     /// `tindices HEX`
     TransientIndices {
-        bytes: Sequence<u8>,
+        bytes: LineBytes,
     },
     /// `bind STAGE NAME`
     Bind {
