@@ -66,8 +66,9 @@ const WORK_OF_TEXT: u64 = 2;
 // More bands than this do not pay for their threads.
 const MOST_PAID: u64 = 8;
 
-// After so many forks without a late band one band more is tried.
-const CALM: u32 = 16;
+// How many forks with one band follow one in which a band began late.
+const SHORTEST_PAUSE: u32 = 8;
+const LONGEST_PAUSE: u32 = 512;
 
 /// Makes the draws in bands of whole rows, side by side, where their work is worth more threads than the one that calls: one
 /// band for each 131,072 pixels that the triangles cover by their areas, a triangle itself counting as 400 more, at most 8, and no
@@ -76,8 +77,8 @@ const CALM: u32 = 16;
 pub struct BandRasterizer<'r, R> {
     rt: &'r R,
     processors: Option<u64>,
-    most: u32,
-    calm: u32,
+    wait: u32,
+    pause: u32,
 }
 
 impl<'r, R: Threads> BandRasterizer<'r, R> {
@@ -86,8 +87,8 @@ impl<'r, R: Threads> BandRasterizer<'r, R> {
         BandRasterizer {
             rt,
             processors: None,
-            most: MOST_PAID as u32,
-            calm: 0,
+            wait: 0,
+            pause: SHORTEST_PAUSE,
         }
     }
 
@@ -104,17 +105,26 @@ impl<'r, R: Threads> BandRasterizer<'r, R> {
         count
     }
 
-    /// Halves how many bands a fork has at most where one of so many was late; takes one more after 16 forks without a late one.
+    /// How many bands the next fork has of so many that its work is worth: one in a pause.
+    fn allowed(&mut self, bands: u32) -> u32 {
+        if self.wait == 0 {
+            return bands;
+        }
+        self.wait -= 1;
+        1
+    }
+
+    /// After a fork in which a band began late, some frames are drawn by this thread alone: twice as many each time, and half as many again
+    /// after each fork without a late one.
     fn heed(&mut self, bands: u32, late: bool) {
-        if late {
-            self.most = (bands / 2).max(1);
-            self.calm = 0;
+        if bands < 2 {
             return;
         }
-        self.calm = self.calm.saturating_add(1);
-        if self.calm >= CALM {
-            self.calm = 0;
-            self.most = self.most.saturating_add(1).min(MOST_PAID as u32);
+        if late {
+            self.wait = self.pause;
+            self.pause = self.pause.saturating_mul(2).min(LONGEST_PAUSE);
+        } else {
+            self.pause = (self.pause / 2).max(SHORTEST_PAUSE);
         }
     }
 
@@ -152,7 +162,8 @@ impl<'r, R: Threads> Rasterizer for BandRasterizer<'r, R> {
     ) -> Option<u32> {
         let texels = surface.color.texels.len() as u64;
         let work = list.work().saturating_add(texels.saturating_mul(WORK_OF_TEXT));
-        let bands = self.bands(work).min(self.most).min(surface.color.height as u32);
+        let worth = self.bands(work).min(surface.color.height as u32);
+        let bands = self.allowed(worth);
         let watch = Watch::new(bands);
         let sum = draw_shown_bands(self.rt, surface, wipes, list, bands, text, wants_sum, &watch);
         self.heed(bands, watch.was_late());
