@@ -284,7 +284,12 @@ pub fn record_line<C: Naming>(
             set_transient_indices(encoder, names, bytes.as_slice())
         }
         EncLine::Bind { stage, texture } => set_texture(encoder, names, *stage, *texture),
-        EncLine::Set { uniform, value } => set_uniform(encoder, names, *uniform, *value),
+        EncLine::SetVec4 { uniform, value } => {
+            set_uniform(encoder, names, *uniform, UniformValue::Vec4(*value))
+        }
+        EncLine::SetInt { uniform, value } => {
+            set_uniform(encoder, names, *uniform, UniformValue::Int(*value))
+        }
         EncLine::Submit {
             view,
             program,

@@ -147,7 +147,10 @@ fn set(names: &Names, fields: &[&[u8]]) -> Result<EncLine, Cause>
     }
     let uniform = names.used(field(fields, 1))?;
     let value = uniform_value(fields)?;
-    Ok(EncLine::Set { uniform, value })
+    Ok(match value {
+        UniformValue::Vec4(value) => EncLine::SetVec4 { uniform, value },
+        UniformValue::Int(value) => EncLine::SetInt { uniform, value },
+    })
 }
 
 /// `submit V NAME DEPTH FLAGS`

@@ -13,7 +13,6 @@ use crate::frames::add_encoder_line;
 use crate::marks::{lowest, marks_from};
 use crate::names::Names;
 use crate::scene::{EncLine, SceneFrame};
-use gfx_words::UniformValue;
 use std::alloc::{AllocError, Global};
 use text_fields::is_digit;
 
@@ -144,8 +143,8 @@ fn set_at(names: &Names, bytes: &[u8]) -> Option<(EncLine, usize)>
     let (y, third) = i32_at(bytes, second + 1, b' ')?;
     let (z, fourth) = i32_at(bytes, third + 1, b' ')?;
     let (w, end) = i32_at(bytes, fourth + 1, b'\n')?;
-    let value = UniformValue::Vec4(four(x, y, z, w));
-    Some((EncLine::Set { uniform, value }, end))
+    let value = four(x, y, z, w);
+    Some((EncLine::SetVec4 { uniform, value }, end))
 }
 
 /// `submit V NAME DEPTH FLAGS`

@@ -3,7 +3,7 @@
 use crate::line_bytes::LineBytes;
 use crate::sequence::Sequence;
 use fix_math::{Affine, Rect};
-use gfx_words::{Format, ProgramKind, Room, TexSource, UniformKind, UniformValue, ViewMode};
+use gfx_words::{Format, ProgramKind, Room, TexSource, UniformKind, ViewMode};
 use vertex_layout::{Attr, AttrType};
 use view_table::Clear;
 
@@ -168,10 +168,15 @@ pub enum EncLine {
         stage: u8,
         texture: Option<u32>,
     },
-    /// `set NAME` and one number or four
-    Set {
+    /// `set NAME` and four numbers
+    SetVec4 {
         uniform: u32,
-        value: UniformValue,
+        value: [i32; 4],
+    },
+    /// `set NAME` and one number
+    SetInt {
+        uniform: u32,
+        value: i32,
     },
     /// `submit V NAME DEPTH FLAGS`
     Submit {

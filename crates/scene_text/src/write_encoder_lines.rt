@@ -171,7 +171,12 @@ pub fn put_encoder_line<'a>(
             ];
             put_line(text, b"bind", &fields)
         }
-        EncLine::Set { uniform, value } => put_set(text, names, *uniform, value),
+        EncLine::SetVec4 { uniform, value } => {
+            put_set(text, names, *uniform, &UniformValue::Vec4(*value))
+        }
+        EncLine::SetInt { uniform, value } => {
+            put_set(text, names, *uniform, &UniformValue::Int(*value))
+        }
         EncLine::Submit {
             view,
             program,
