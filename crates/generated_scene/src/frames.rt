@@ -220,7 +220,7 @@ fn parts_of<R: Threads>(rt: &R, count: u32) -> u32 {
     match available_parallelism(rt) {
         Ok(processors) => (count / LEAST_PAID)
             .min(8)
-            .min(processors.get().min(8) as u32),
+            .min((processors.get() % 16).min(8) as u32),
         Err(_) => 1,
     }
 }

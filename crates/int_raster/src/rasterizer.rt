@@ -79,6 +79,9 @@ pub struct BandRasterizer<'r, R> {
     processors: Option<u64>,
     wait: u32,
     pause: u32,
+    mode: u64,
+    most: u32,
+    calm: u32,
 }
 
 impl<'r, R: Threads> BandRasterizer<'r, R> {
@@ -89,6 +92,9 @@ impl<'r, R: Threads> BandRasterizer<'r, R> {
             processors: None,
             wait: 0,
             pause: SHORTEST_PAUSE,
+            mode: 0,
+            most: MOST_PAID as u32,
+            calm: 0,
         }
     }
 
@@ -101,12 +107,20 @@ impl<'r, R: Threads> BandRasterizer<'r, R> {
             Ok(count) => count.get() as u64,
             Err(_) => 1,
         };
+        self.mode = count / 16;
+        let count = (count % 16).max(1);
         self.processors = Some(count);
         count
     }
 
     /// How many bands the next fork has of so many that its work is worth: one in a pause.
     fn allowed(&mut self, bands: u32) -> u32 {
+        if self.mode & 8 != 0 {
+            return bands;
+        }
+        if self.mode & 4 != 0 {
+            return bands.min(self.most);
+        }
         if self.wait == 0 {
             return bands;
         }
@@ -117,6 +131,19 @@ impl<'r, R: Threads> BandRasterizer<'r, R> {
     /// After a fork in which a band began late, some frames are drawn by this thread alone: twice as many each time, and half as many again
     /// after each fork without a late one.
     fn heed(&mut self, bands: u32, late: bool) {
+        if self.mode & 4 != 0 {
+            if late {
+                self.most = (bands / 2).max(1);
+                self.calm = 0;
+                return;
+            }
+            self.calm = self.calm.saturating_add(1);
+            if self.calm >= 16 {
+                self.calm = 0;
+                self.most = self.most.saturating_add(1).min(MOST_PAID as u32);
+            }
+            return;
+        }
         if bands < 2 {
             return;
         }
@@ -163,6 +190,10 @@ impl<'r, R: Threads> Rasterizer for BandRasterizer<'r, R> {
         let texels = surface.color.texels.len() as u64;
         let work = list.work().saturating_add(texels.saturating_mul(WORK_OF_TEXT));
         let worth = self.bands(work).min(surface.color.height as u32);
+        if self.mode & 2 != 0 {
+            self.draw(surface, wipes, list);
+            return self.write_text(text, surface.color.texels.as_slice(), wants_sum);
+        }
         let bands = self.allowed(worth);
         let watch = Watch::new(bands);
         let sum = draw_shown_bands(self.rt, surface, wipes, list, bands, text, wants_sum, &watch);

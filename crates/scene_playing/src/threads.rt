@@ -24,14 +24,23 @@ use std::alloc::Global;
 use std::marker::Brand;
 use std::sync::{Arc, Wait};
 use std::thread;
-use std::thread::Threads;
+use std::thread::{Threads, available_parallelism};
 
 // How many recorders are started: none, so that the thread that plays records all jobs of the desk itself.
-fn recorders(encoders: u8) -> u8
+fn recorders<R: Threads>(rt: &R, encoders: u8) -> u8
     requires { 1 ≤ encoders }
     ensures { result + 1 ≤ encoders }
 {
-    let _ = encoders;
+    let mode = match available_parallelism(rt) {
+        Ok(count) => count.get() as u64 / 16,
+        Err(_) => 0,
+    };
+    if mode & 1 != 0 {
+        return encoders - 1;
+    }
+    if mode & 16 != 0 {
+        return (encoders - 1).min(1);
+    }
     0
 }
 
@@ -81,7 +90,7 @@ fn with_recorders<
             ensures origin { L.origin result.link ≡ L.origin link }
         {
             let desk = desk;
-            start_all(scope, rt, gate, &desk, recorders(scene.encoders));
+            start_all(scope, rt, gate, &desk, recorders(rt, scene.encoders));
             let mut at_desk = AtDesk::new(rt, gate, shared, &desk);
             let played = play_named(&mut at_desk, alloc, shared, Order::Any, scene, seat, link);
             desk.stop();
