@@ -8,6 +8,9 @@ use std::alloc::{AllocError, Global};
 use std::sync::Wait;
 use std::sync::atomic::{AtomicU32, Ordering};
 
+// How often a wait spins, longer each time, before it sleeps: a yield would give a busy processor to other work for a slice of it.
+const SPINS: u32 = 7;
+
 /// The queue of the jobs that wait, with 8 places, and whether more may come. What is known of each job is known by its type.
 #[derive(Drop)]
 pub struct Desk<'t, C: Naming> {
@@ -52,6 +55,7 @@ impl<'t, C: Naming> Desk<'t, C> {
     /// A job, for which it waits. `None` where none waits and no more will come.
     pub fn take<R: Wait>(&self, rt: &R) -> Option<Job<'t, C>> {
         let backoff = Backoff::new();
+        let mut tries: u32 = 0;
         for _ in rt.forever() {
             let stopped = self.is_stopped();
             if let Some(job) = self.jobs.pop(rt) {
@@ -60,10 +64,12 @@ impl<'t, C: Naming> Desk<'t, C> {
             if stopped {
                 return None;
             }
-            if !backoff.is_completed() {
-                backoff.snooze();
+            if tries < SPINS {
+                tries += 1;
+                backoff.spin();
             } else {
                 self.sleep(rt);
+                tries = 0;
                 backoff.reset();
             }
         }

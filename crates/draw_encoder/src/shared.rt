@@ -12,6 +12,9 @@ use std::alloc::Global;
 use std::marker::PhantomData;
 use std::sync::Wait;
 
+// How often a wait spins, longer each time, before it sleeps: a yield would give a busy processor to other work for a slice of it.
+const SPINS: u32 = 7;
+
 /// The named table.
 #[derive(Drop)]
 struct NamedTable<C: Naming> {
@@ -85,14 +88,17 @@ impl<C: Naming> Shared<C> {
     /// Takes a bundle out of the queue, and waits until there is one.
     pub fn collect<R: Wait>(&self, rt: &R) -> Bundle<C> {
         let backoff = Backoff::new();
+        let mut tries: u32 = 0;
         for _ in rt.forever() {
             if let Some(bundle) = self.queue.pop(rt) {
                 return bundle;
             }
-            if !backoff.is_completed() {
-                backoff.snooze();
+            if tries < SPINS {
+                tries += 1;
+                backoff.spin();
             } else {
                 self.sleep(rt);
+                tries = 0;
                 backoff.reset();
             }
         }

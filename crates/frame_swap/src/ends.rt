@@ -13,6 +13,9 @@ use frame_record::{Frame, RenderedFrame};
 use std::alloc::{AllocError, Global};
 use std::sync::{Arc, Wait};
 
+// How often a wait spins, longer each time, before it sleeps: a yield would give a busy processor to other work for a slice of it.
+const SPINS: u32 = 7;
+
 /// The table of the frames: as many words and slots as frames may be out; its key is that number.
 pub type FrameTable = Table<Option<Content>, View, u8, Law, Global>;
 
@@ -171,14 +174,17 @@ impl ApiEnd {
         ensures same { (self.new.seat.table_id ≡ self.old.seat.table_id) × (self.new.latency ≡ self.old.latency) }
     {
         let backoff = Backoff::new();
+        let mut tries: u32 = 0;
         for _ in rt.forever() {
             if let Some(rendered) = self.try_take_back() {
                 return rendered;
             }
-            if !backoff.is_completed() {
-                backoff.snooze();
+            if tries < SPINS {
+                tries += 1;
+                backoff.spin();
             } else {
                 self.sleep(rt);
+                tries = 0;
                 backoff.reset();
             }
         }
@@ -249,14 +255,17 @@ impl RenderEnd {
         ensures same { self.new.seat.table_id ≡ self.old.seat.table_id }
     {
         let backoff = Backoff::new();
+        let mut tries: u32 = 0;
         for _ in rt.forever() {
             if let Ok(taken) = self.try_take() {
                 return taken;
             }
-            if !backoff.is_completed() {
-                backoff.snooze();
+            if tries < SPINS {
+                tries += 1;
+                backoff.spin();
             } else {
                 self.sleep(rt);
+                tries = 0;
                 backoff.reset();
             }
         }
