@@ -245,10 +245,10 @@ pub(crate) fn texcoord_of(placed: &Option<PlacedAttr>, bytes: &[u8], at: usize) 
     }
 }
 
-/// The place of an attribute of three fixed numbers.
-pub(crate) fn fixed_three(placed: &PlacedAttr) -> Option<usize> {
-    if is_fixed(placed) && placed.count == 3 {
-        return Some(placed.offset as usize);
+/// The place of an attribute of two or three fixed numbers, and whether there are three.
+pub(crate) fn fixed_two(placed: &PlacedAttr) -> Option<(usize, bool)> {
+    if is_fixed(placed) && (placed.count == 3 || placed.count == 2) {
+        return Some((placed.offset as usize, placed.count == 3));
     }
     None
 }

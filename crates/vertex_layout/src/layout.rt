@@ -9,7 +9,7 @@ ghost use Rattle.vertex_layout.specs.Seen.{vertex_seen};
 
 use crate::attributes::{Attr, AttrList, PlacedAttr};
 use crate::fetch::{
-    Vertex, bytes_four, color_of, fixed_three, four_at, number_at, position_of, texcoord_of,
+    Vertex, bytes_four, color_of, fixed_two, four_at, number_at, position_of, texcoord_of,
 };
 use fix_math::Point;
 use std::marker::Model;
@@ -127,14 +127,14 @@ impl VertexLayout {
         }
     }
 
-    /// Where positions and colours stand, for a layout with a position of three fixed numbers and without a texture coordinate, whose
+    /// Where positions and colours stand, for a layout with a position of two or three fixed numbers and without a texture coordinate, whose
     /// colour, where it has one, is four bytes: then a vertex needs no case of its layout.
     pub fn plain(&self) -> Option<PlainLayout> {
         if self.texcoord.is_some() {
             return None;
         }
-        let position = match self.position {
-            Some(placed) => match fixed_three(&placed) {
+        let (position, has_z) = match self.position {
+            Some(placed) => match fixed_two(&placed) {
                 Some(at) => at,
                 None => return None,
             },
@@ -150,6 +150,7 @@ impl VertexLayout {
         Some(PlainLayout {
             stride: self.stride as usize,
             position,
+            has_z,
             color,
         })
     }
@@ -160,6 +161,7 @@ impl VertexLayout {
 pub struct PlainLayout {
     stride: usize,
     position: usize,
+    has_z: bool,
     color: Option<usize>,
 }
 
@@ -182,7 +184,11 @@ impl PlainLayout {
             position: Point {
                 x: number_at(bytes, here),
                 y: number_at(bytes, here + 4),
-                z: number_at(bytes, here + 8),
+                z: if self.has_z {
+                    number_at(bytes, here + 8)
+                } else {
+                    0
+                },
             },
             color,
             texcoord: [0; 2],
