@@ -67,7 +67,7 @@ const WORK_OF_TEXT: u64 = 2;
 const MOST_PAID: u64 = 8;
 
 // How many forks with one band follow one in which a band began late.
-const SHORTEST_PAUSE: u32 = 8;
+const SHORTEST_PAUSE: u32 = 2;
 const LONGEST_PAUSE: u32 = 512;
 
 /// Makes the draws in bands of whole rows, side by side, where their work is worth more threads than the one that calls: one
