@@ -25,6 +25,16 @@ four_lanes P p (a ∷ b ∷ []) h = absurd (omega arith)
 four_lanes P p (a ∷ b ∷ c ∷ []) h = absurd (omega arith)
 four_lanes P p (a ∷ b ∷ c ∷ d ∷ e ∷ xs) h = absurd (omega arith)
 
+-- what holds of each of two lanes
+pub below_two : (P : ℕ → Type 0) → P 0 → P 1 → (j : ℕ) → j < 2 → P j
+below_two P p0 p1 zero h = p0
+below_two P p0 p1 (suc zero) h = p1
+below_two P p0 p1 (suc (suc n)) h = absurd (omega arith)
+
+-- each lane of words that are shifted down
+pub shifted : (n : ℕ) (words : List ℕ) → length words ≡ 4 → (j : ℕ) → j < 4 → slice_index (zip2 (λ x y. x / 2 ^ y) words (n ∷ n ∷ n ∷ n ∷ [])) j ≡ slice_index words j / 2 ^ n
+shifted n = four_lanes (λ words. (j : ℕ) → j < 4 → slice_index (zip2 (λ x y. x / 2 ^ y) words (n ∷ n ∷ n ∷ n ∷ [])) j ≡ slice_index words j / 2 ^ n) (λ a b c d. below_four _ refl refl refl refl)
+
 -- a lane of a mask
 abbrev pub masked : Bool → ℕ
 masked b = cond b 4294967295 0

@@ -1,17 +1,19 @@
 // The colours of a piece of a row, by a painter, and its depths, by a ramp. What is borrowed may change with each entry that is
 // stored, as far as a compiler can tell; so each loop copies it first, and the places of the piece are known to ascend by one.
-ghost use Rattle.std.specs.Prelude.{◌≡◌, ◌≤◌, ◌<◌, ◌+◌, ◌*◌, ◌/◌, ◌%◌, ◌^◌, ℕ, pos, length};
+ghost use Rattle.std.specs.Prelude.{◌≡◌, ◌≤◌, ◌<◌, ◌+◌, ◌*◌, ◌/◌, ◌%◌, ◌^◌, ℕ, pos, length, slice_index, IsTrue};
 ghost use Rattle.gfx_model.specs.Number.{zip_with, byte_product};
 ghost use Rattle.gfx_model.specs.Raster.{sample};
 ghost use Rattle.fix_math.specs.Seen.{texels_seen};
 ghost use Rattle.tri_cover.specs.Widened.{wide_whole};
 ghost use Rattle.int_raster.specs.Painted.{place_at, shade_at, painter_color, HoldsPiece, HoldsDepths, AreDepths};
 
+use crate::lanes::{halves_of, larger, put_numbers, stepped_on, upper_halves};
 use crate::painters::{Painter, Place, Shade, packed, value_at, wide_value_at};
 use crate::painting::product;
 use crate::sampling::{sampler_of, texel_at};
 use crate::spans::Span;
 use fix_math::Texels;
+use std::simd::prelude::*;
 use tri_cover::WideRamp;
 
 /// The position within one unit of a value of a texture position's ramp.
@@ -136,6 +138,38 @@ fn sum_of_halves(high: u64, low: u64, by_high: u64, by_low: u64) -> (u64, u64)
     (high.wrapping_add(by_high).wrapping_add(carry), sum)
 }
 
+/// The depths of four values that have 24 bits before the point.
+#[inline(always)]
+fn four_depths(front: u64x2, back: u64x2) -> u32x4
+    ensures front { (j : ℕ) → j < 2 → slice_index result j ≡ slice_index front j / 2 ^ 40 }
+    ensures back { (j : ℕ) → j < 2 → slice_index result (2 + j) ≡ slice_index back j / 2 ^ 40 }
+{
+    upper_halves(front, back) >> u32x4::splat(8)
+}
+
+/// The depths of a ramp by the upper halves of its values alone, four columns at a time: whether they are right. In so many columns
+/// the lower halves carry no more than one a column to the upper ones, so a depth is right where its fraction has room for that.
+fn depths_by_four(first: u64, by: u64, count: u16, depths: &mut [u32]) -> bool
+    ensures { IsTrue result → (start right k : ℕ) → start / 2 ^ 64 ≡ first → right / 2 ^ 64 ≡ by → k < count → slice_index depths.new k ≡ (start + k * right) % 2 ^ 128 / 2 ^ 104 }
+{
+    let fours = (count as usize + 3) / 4;
+    if depths.len() < 4 * fours {
+        return false;
+    }
+    let step = u64x2::splat(by.wrapping_mul(4));
+    let mut front = u64x2::from_array([first, first.wrapping_add(by)]);
+    let mut back = stepped_on(front, u64x2::splat(by.wrapping_mul(2)));
+    let mut most = u32x4::splat(0);
+    for i in 0..fours {
+        put_numbers(depths, 4 * i, four_depths(front, back));
+        most = larger(most, larger(halves_of(front), halves_of(back)));
+        front = stepped_on(front, step);
+        back = stepped_on(back, step);
+    }
+    let most = most.to_array();
+    most[0].max(most[2]) < 0xffff_0000
+}
+
 /// The depths of a ramp.
 pub(crate) fn depth_piece(ramp: &WideRamp, piece: &Span, depths: &mut [u32])
     requires room { piece.now.after ≤ piece.now.first + length depths.old }
@@ -146,6 +180,9 @@ pub(crate) fn depth_piece(ramp: &WideRamp, piece: &Span, depths: &mut [u32])
     let start = wide_value_at(&ramp, piece.first, piece.y);
     let (mut high, mut low) = (upper_half(start), lower_half(start));
     let (by_high, by_low) = (upper_half(ramp.right), lower_half(ramp.right));
+    if depths_by_four(high, by_high, piece.after - piece.first, depths) {
+        return;
+    }
     for x in piece.first..piece.after {
         depths[(x - piece.first) as usize] = (high >> 40) as u32;
         (high, low) = sum_of_halves(high, low, by_high, by_low);
