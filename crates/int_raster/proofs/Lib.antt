@@ -10,6 +10,7 @@ pub mod Tested
 pub mod Grown
 pub mod Held
 pub mod Carried
+pub mod Halved
 pub mod Colored
 pub mod Level
 pub mod Vectors

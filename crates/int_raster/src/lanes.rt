@@ -141,3 +141,38 @@ pub(crate) fn larger(a: u32x4, b: u32x4) -> u32x4
 {
     a.simd_max(b)
 }
+
+/// The halves of four words, of each the lower one first.
+#[inline(always)]
+pub(crate) fn parts_of(four: u32x4) -> u16x8
+    ensures lower { (j : ℕ) → j < 4 → slice_index result (2 * j) ≡ slice_index four j % 2 ^ 16 }
+    ensures upper { (j : ℕ) → j < 4 → slice_index result (2 * j + 1) ≡ slice_index four j / 2 ^ 16 }
+{
+    u16x8::from_le_bytes(four.to_le_bytes())
+}
+
+/// The upper halves of eight words.
+#[inline(always)]
+pub(crate) fn upper_parts(a: u32x4, b: u32x4) -> u16x8
+    ensures front { (j : ℕ) → j < 4 → slice_index result j ≡ slice_index a j / 2 ^ 16 }
+    ensures back { (j : ℕ) → j < 4 → slice_index result (4 + j) ≡ slice_index b j / 2 ^ 16 }
+{
+    let (a, b) = (parts_of(a), parts_of(b));
+    a.shuffle(b, [1, 3, 5, 7, 9, 11, 13, 15])
+}
+
+/// The words of eight halves, of each the lower one first.
+#[inline(always)]
+pub(crate) fn joined(eight: u16x8) -> u32x4
+    ensures { (j : ℕ) → j < 4 → slice_index result j ≡ slice_index eight (2 * j) + 2 ^ 16 * slice_index eight (2 * j + 1) }
+{
+    u32x4::from_le_bytes(eight.to_le_bytes())
+}
+
+/// The larger ones of two halves of words, lane by lane.
+#[inline(always)]
+pub(crate) fn larger_parts(a: u16x8, b: u16x8) -> u16x8
+    ensures { (j : ℕ) → j < 8 → slice_index result j ≡ max (slice_index a j) (slice_index b j) }
+{
+    a.simd_max(b)
+}

@@ -5,12 +5,16 @@ ghost use Rattle.gfx_model.specs.Number.{zip_with, byte_product};
 ghost use Rattle.gfx_model.specs.Raster.{sample};
 ghost use Rattle.fix_math.specs.Seen.{texels_seen};
 ghost use Rattle.tri_cover.specs.Widened.{wide_whole};
+ghost use Rattle.int_raster.specs.Sampled.{sampler_seen};
 ghost use Rattle.int_raster.specs.Painted.{place_at, shade_at, painter_color, HoldsPiece, HoldsDepths, AreDepths};
 
-use crate::lanes::{halves_of, larger, put_numbers, stepped_on, upper_halves};
+use crate::lanes::{
+    halves_of, larger, larger_parts, parts_of, put_numbers, put_words, stepped_on, upper_halves,
+};
 use crate::painters::{Painter, Place, Shade, packed, value_at, wide_value_at};
 use crate::painting::product;
-use crate::sampling::{sampler_of, texel_at};
+use crate::samplers::Sampler;
+use crate::sampling::{sampler_of, sides_of, texel_at, texels_at};
 use crate::spans::Span;
 use fix_math::Texels;
 use std::simd::prelude::*;
@@ -50,6 +54,52 @@ fn shade_piece(shade: &Shade, piece: &Span, colors: &mut [[u8; 4]])
     }
 }
 
+/// The bits of a texture position that are stepped: its 16 bits within one unit, and 48 behind the point.
+#[inline(always)]
+fn middle_bits(value: u128) -> u64
+    ensures { result ≡ value / 2 ^ 56 % 2 ^ 64 }
+{
+    ((value >> 56) % (1 << 64)) as u64
+}
+
+/// Whether the first 16 bits behind the point have room in all texture positions, of which these words have the largest ones by turns.
+#[inline(always)]
+fn have_room(most: u16x8) -> bool
+    ensures { IsTrue result → (j : ℕ) → j < 4 → slice_index most (2 * j) < 65535 }
+{
+    let most = most.to_array();
+    most[0].max(most[2]).max(most[4].max(most[6])) < 0xffff
+}
+
+/// The texels at the texture positions by their middle bits alone, four columns at a time: whether they are right. In so many columns
+/// the lowest bits carry no more than one a column to the middle ones, so a position is right where there is room for that behind the point.
+fn texels_by_four(sampler: &Sampler, at: &Place, piece: &Span, colors: &mut [[u8; 4]]) -> bool
+    ensures { IsTrue result → HoldsPiece colors.new (λ x. sample (sampler_seen sampler.now) (pos (place_at at.now.u x piece.now.y)) (pos (place_at at.now.v x piece.now.y))) piece.now.first piece.now.after }
+{
+    let (sampler, at, piece) = (*sampler, *at, *piece);
+    let fours = ((piece.after - piece.first) as usize + 3) / 4;
+    if colors.len() < 4 * fours {
+        return false;
+    }
+    let sides = sides_of(&sampler);
+    let by = u64x2::from_array([middle_bits(at.u.right), middle_bits(at.v.right)]);
+    let mut a = u64x2::from_array([
+        middle_bits(wide_value_at(&at.u, piece.first, piece.y)),
+        middle_bits(wide_value_at(&at.v, piece.first, piece.y)),
+    ]);
+    let mut most = u16x8::splat(0);
+    for i in 0..fours {
+        let b = stepped_on(a, by);
+        let c = stepped_on(b, by);
+        let d = stepped_on(c, by);
+        let (front, back) = (upper_halves(a, b), upper_halves(c, d));
+        most = larger_parts(most, larger_parts(parts_of(front), parts_of(back)));
+        put_words(colors, 4 * i, texels_at(&sampler, &sides, front, back));
+        a = stepped_on(d, by);
+    }
+    have_room(most)
+}
+
 /// The texels at the texture positions.
 fn texture_piece(texels: &Texels, at: &Place, piece: &Span, colors: &mut [[u8; 4]])
     requires room { piece.now.after ≤ piece.now.first + length colors.old }
@@ -57,6 +107,9 @@ fn texture_piece(texels: &Texels, at: &Place, piece: &Span, colors: &mut [[u8; 4
 {
     let (at, piece) = (*at, *piece);
     let sampler = sampler_of(texels);
+    if texels_by_four(&sampler, &at, &piece, colors) {
+        return;
+    }
     let mut u = wide_value_at(&at.u, piece.first, piece.y);
     let mut v = wide_value_at(&at.v, piece.first, piece.y);
     for x in piece.first..piece.after {
