@@ -1,10 +1,12 @@
 -- Lanes that are taken as narrower or as wider ones.
-use Rattle.std.proofs.Common.{◌≡◌, ◌≤◌, ◌<◌, ℕ, zero, suc, ◌+◌, ◌*◌, ◌/◌, ◌%◌, ◌^◌, List, [], ◌∷◌, length, slice_index, Fits, w16, w32, max, map, cond, nat_lt, refl, sym, subst, ap, ◌∙◌, arith}
+use Rattle.std.proofs.Common.{◌≡◌, ◌≤◌, ◌<◌, ℕ, zero, suc, ◌+◌, ◌*◌, ◌/◌, ◌%◌, ◌^◌, ◌++◌, List, [], ◌∷◌, length, slice_index, Fits, w16, w32, max, map, cond, nat_lt, refl, sym, subst, ap, ◌∙◌, arith}
 use Rattle.std.specs.Prelude.{replicate}
-use Rattle.std.proofs.Math.Nat.{pow-suc, mul-le-mul_left, mul-le-mul_right}
+use Rattle.std.specs.Int.{to_le_bytes}
+use Rattle.std.proofs.Math.Nat.{mod-lt, pow-suc, mul-le-mul_left, mul-le-mul_right}
 use Rattle.std.proofs.lemmas.Bool.Decides.{nat_tests}
 use Rattle.std.proofs.lemmas.Simd.{get_or_wider, get_or_narrower, below_from_Fits, tops_compared}
-use lib.Lanes.{Each1, number_l, digits_l, chunk, zip2, sel_l, top}
+use lib.Lanes.{Each1, number_l, digits_l, chunk, pick_l, zip2, sel_l, top}
+use Rattle.int_raster.proofs.Vectors.{below_two}
 
 -- a number by its bytes
 bytes_back : (n x : ℕ) → x < 256 ^ n → number_l 256 (digits_l 256 n x) ≡ x
@@ -141,3 +143,50 @@ module _ (a b : List ℕ) (e : length a ≡ 8) (f : Each1 (Fits w16) a) (g : len
   -- they are halves too
   pub shares_fit : Each1 (Fits w16) (shares (wide a) (wide b) eight)
   shares_fit = subst (Each1 (Fits w16)) (sym taken) (shares_small a b (e ∙ sym g) (below_from_Fits w16 a f) (below_from_Fits w16 b h))
+
+-- ---- the lower bytes of sixteen halves as four words
+
+abbrev bytes_in : List ℕ → List ℕ
+bytes_in xs = digits_l 256 16 (number_l (2 ^ 16) xs)
+
+byte_is : (xs : List ℕ) → Each1 (Fits w16) xs → (j : ℕ) → j < 8 → slice_index (bytes_in xs) (2 * j + 0) ≡ slice_index xs j % 256
+byte_is xs f j h = get_or_narrower (2 ^ 16) 2 256 16 xs j 0 (omega arith) (below_from_Fits w16 xs f) (omega arith) (omega (arith, h)) ∙ omega arith
+
+abbrev picked : List ℕ → List ℕ → List ℕ
+picked a b = pick_l 0 (bytes_in a ++ bytes_in b) (0 ∷ 2 ∷ 4 ∷ 6 ∷ 8 ∷ 10 ∷ 12 ∷ 14 ∷ 16 ∷ 18 ∷ 20 ∷ 22 ∷ 24 ∷ 26 ∷ 28 ∷ 30 ∷ [])
+
+abbrev lowest : List ℕ → List ℕ → List ℕ
+lowest a b = digits_l (2 ^ 32) 4 (number_l 256 (picked a b))
+
+picked_small : (a b : List ℕ) → Each1 (λ x. x < 256) (picked a b)
+picked_small a b =
+    let p : 0 < 256 = omega arith in
+    (mod-lt _ p, (mod-lt _ p, (mod-lt _ p, (mod-lt _ p, (mod-lt _ p, (mod-lt _ p, (mod-lt _ p, (mod-lt _ p, (mod-lt _ p, (mod-lt _ p, (mod-lt _ p, (mod-lt _ p, (mod-lt _ p, (mod-lt _ p, (mod-lt _ p, (mod-lt _ p, tt))))))))))))))))
+
+small : (n : ℕ) → n % 256 < 256
+small n = omega arith
+
+word_is : (w p q r s : ℕ) → p < 256 → q < 256 → r < 256 → s < 256 → w ≡ p + 256 * (q + 256 * (r + 256 * (s + 256 * 0))) → to_le_bytes w32 w ≡ p ∷ q ∷ r ∷ s ∷ []
+word_is w p q r s hp hq hr hs e =
+    let first : w % 256 ≡ p = omega (arith, e, hp) in
+    let second : w / 256 % 256 ≡ q = omega (arith, e, hp, hq) in
+    let third : w / 65536 % 256 ≡ r = omega (arith, e, hp, hq, hr) in
+    let last : w / 16777216 % 256 ≡ s = omega (arith, e, hp, hq, hr, hs) in
+    (λ i. first i ∷ second i ∷ third i ∷ last i ∷ [])
+
+abbrev pub four_bytes : List ℕ → ℕ → List ℕ
+four_bytes xs i = slice_index xs i % 256 ∷ slice_index xs (i + 1) % 256 ∷ slice_index xs (i + 2) % 256 ∷ slice_index xs (i + 3) % 256 ∷ []
+
+module _ (a b : List ℕ) (f : Each1 (Fits w16) a) (g : Each1 (Fits w16) b) where
+  lane : (j : ℕ) → j < 4 → slice_index (lowest a b) j ≡ number_l 256 (chunk (4 * j) 4 (picked a b))
+  lane j h = get_or_wider 256 4 (2 ^ 32) 4 (picked a b) j (omega arith) (picked_small a b) h
+
+  pub front_bytes : (j : ℕ) → j < 2 → to_le_bytes w32 (slice_index (lowest a b) j) ≡ four_bytes a (4 * j)
+  front_bytes = below_two _
+      (word_is _ _ _ _ _ (small _) (small _) (small _) (small _) (lane 0 (omega arith)) ∙ (λ i. byte_is a f 0 (omega arith) i ∷ byte_is a f 1 (omega arith) i ∷ byte_is a f 2 (omega arith) i ∷ byte_is a f 3 (omega arith) i ∷ []))
+      (word_is _ _ _ _ _ (small _) (small _) (small _) (small _) (lane 1 (omega arith)) ∙ (λ i. byte_is a f 4 (omega arith) i ∷ byte_is a f 5 (omega arith) i ∷ byte_is a f 6 (omega arith) i ∷ byte_is a f 7 (omega arith) i ∷ []))
+
+  pub back_bytes : (j : ℕ) → j < 2 → to_le_bytes w32 (slice_index (lowest a b) (2 + j)) ≡ four_bytes b (4 * j)
+  back_bytes = below_two _
+      (word_is _ _ _ _ _ (small _) (small _) (small _) (small _) (lane 2 (omega arith)) ∙ (λ i. byte_is b g 0 (omega arith) i ∷ byte_is b g 1 (omega arith) i ∷ byte_is b g 2 (omega arith) i ∷ byte_is b g 3 (omega arith) i ∷ []))
+      (word_is _ _ _ _ _ (small _) (small _) (small _) (small _) (lane 3 (omega arith)) ∙ (λ i. byte_is b g 4 (omega arith) i ∷ byte_is b g 5 (omega arith) i ∷ byte_is b g 6 (omega arith) i ∷ byte_is b g 7 (omega arith) i ∷ []))

@@ -1,5 +1,5 @@
 // Four texels at a time, as words.
-ghost use Rattle.std.specs.Prelude.{◌≡◌, ◌≤◌, ◌<◌, ◌+◌, ◌*◌, ◌/◌, ◌%◌, ◌^◌, ℕ, [], length, slice_index, slice_index_or, false, ◌&&◌, nat_le, nat_lt, max, if◌then◌else◌};
+ghost use Rattle.std.specs.Prelude.{◌≡◌, ◌≤◌, ◌<◌, ◌+◌, ◌*◌, ◌/◌, ◌%◌, ◌^◌, ℕ, [], ◌∷◌, length, slice_index, slice_index_or, false, ◌&&◌, nat_le, nat_lt, max, if◌then◌else◌};
 ghost use Rattle.gfx_model.specs.Number.{u32_at};
 ghost use Rattle.int_raster.specs.Tiled.{word_bytes, deep_word, is_among};
 
@@ -175,4 +175,27 @@ pub(crate) fn larger_parts(a: u16x8, b: u16x8) -> u16x8
     ensures { (j : ℕ) → j < 8 → slice_index result j ≡ max (slice_index a j) (slice_index b j) }
 {
     a.simd_max(b)
+}
+
+/// The lower halves of eight words.
+#[inline(always)]
+pub(crate) fn lower_halves(a: u32x4, b: u32x4) -> u16x8
+    ensures front { (j : ℕ) → j < 4 → slice_index result j ≡ slice_index a j % 2 ^ 16 }
+    ensures back { (j : ℕ) → j < 4 → slice_index result (4 + j) ≡ slice_index b j % 2 ^ 16 }
+{
+    let (a, b) = (parts_of(a), parts_of(b));
+    a.shuffle(b, [0, 2, 4, 6, 8, 10, 12, 14])
+}
+
+/// The words of four texels, of which each lane has a byte.
+#[inline(always)]
+pub(crate) fn lowest_bytes(a: u16x8, b: u16x8) -> u32x4
+    ensures front { (j : ℕ) → j < 2 → word_bytes (slice_index result j) ≡ slice_index a (4 * j) % 256 ∷ slice_index a (4 * j + 1) % 256 ∷ slice_index a (4 * j + 2) % 256 ∷ slice_index a (4 * j + 3) % 256 ∷ [] }
+    ensures back { (j : ℕ) → j < 2 → word_bytes (slice_index result (2 + j)) ≡ slice_index b (4 * j) % 256 ∷ slice_index b (4 * j + 1) % 256 ∷ slice_index b (4 * j + 2) % 256 ∷ slice_index b (4 * j + 3) % 256 ∷ [] }
+{
+    let bytes = a.to_le_bytes().shuffle(
+        b.to_le_bytes(),
+        [0, 2, 4, 6, 8, 10, 12, 14, 16, 18, 20, 22, 24, 26, 28, 30],
+    );
+    u32x4::from_le_bytes(bytes)
 }

@@ -1,15 +1,18 @@
 // The colours of a piece of a row, by a painter, and its depths, by a ramp. What is borrowed may change with each entry that is
 // stored, as far as a compiler can tell; so each loop copies it first, and the places of the piece are known to ascend by one.
-ghost use Rattle.std.specs.Prelude.{◌≡◌, ◌≤◌, ◌<◌, ◌+◌, ◌*◌, ◌/◌, ◌%◌, ◌^◌, ℕ, pos, length, slice_index, IsTrue};
+ghost use Rattle.std.specs.Prelude.{◌≡◌, ◌≤◌, ◌<◌, ◌+◌, ◌*◌, ◌/◌, ◌%◌, ◌^◌, ℕ, pos, [], ◌∷◌, length, slice_index, IsTrue};
 ghost use Rattle.gfx_model.specs.Number.{zip_with, byte_product};
 ghost use Rattle.gfx_model.specs.Raster.{sample};
 ghost use Rattle.fix_math.specs.Seen.{texels_seen};
 ghost use Rattle.tri_cover.specs.Widened.{wide_whole};
 ghost use Rattle.int_raster.specs.Sampled.{sampler_seen};
+ghost use Rattle.int_raster.specs.Tinted.{IsTint, IsTintGain};
+ghost use Rattle.int_raster.specs.Tiled.{word_bytes};
 ghost use Rattle.int_raster.specs.Painted.{place_at, shade_at, painter_color, HoldsPiece, HoldsDepths, AreDepths};
 
 use crate::lanes::{
-    halves_of, larger, larger_parts, parts_of, put_numbers, put_words, stepped_on, upper_halves,
+    halves_of, larger, larger_parts, lower_halves, lowest_bytes, parts_of, put_numbers, put_words,
+    stepped_on, upper_halves,
 };
 use crate::painters::{Painter, Place, Shade, packed, value_at, wide_value_at};
 use crate::painting::product;
@@ -29,11 +32,94 @@ fn unit_part(value: u128) -> u32
     (value >> 104) as u32 % 65536
 }
 
+/// The values of the four channels' ramps at a pixel: red and green, blue and alpha.
+#[derive(Clone, Copy)]
+struct Tint {
+    front: u64x2,
+    back: u64x2,
+}
+
+/// The channels' values at a pixel.
+fn tint_at(shade: &Shade, x: u16, y: u16) -> Tint
+    ensures { IsTint result shade.now x y }
+{
+    let (red, green) = (value_at(&shade.red, x, y), value_at(&shade.green, x, y));
+    let (blue, alpha) = (value_at(&shade.blue, x, y), value_at(&shade.alpha, x, y));
+    Tint {
+        front: u64x2::from_array([red, green]),
+        back: u64x2::from_array([blue, alpha]),
+    }
+}
+
+/// What the channels' values gain in a column.
+#[inline(always)]
+fn tint_gain(shade: &Shade) -> Tint
+    ensures { IsTintGain result shade.now }
+{
+    Tint {
+        front: u64x2::from_array([shade.red.right, shade.green.right]),
+        back: u64x2::from_array([shade.blue.right, shade.alpha.right]),
+    }
+}
+
+/// The channels' values one column on.
+#[inline(always)]
+fn tint_on(at: Tint, by: Tint) -> Tint
+    ensures { (s : Shade) (x y : ℕ) → IsTint at s x y → IsTintGain by s → IsTint result s (x + 1) y }
+{
+    Tint {
+        front: stepped_on(at.front, by.front),
+        back: stepped_on(at.back, by.back),
+    }
+}
+
+/// The four channels of a pixel.
+#[inline(always)]
+fn channels_of(at: Tint) -> u32x4
+    ensures { (s : Shade) (x y : ℕ) → IsTint at s x y → slice_index result 0 ∷ slice_index result 1 ∷ slice_index result 2 ∷ slice_index result 3 ∷ [] ≡ shade_at s x y }
+{
+    upper_halves(at.front, at.back) >> u32x4::splat(24)
+}
+
+/// The colours of four pixels side by side, as words.
+#[inline(always)]
+fn four_shades(a: Tint, b: Tint, c: Tint, d: Tint) -> u32x4
+    ensures { (s : Shade) (x y : ℕ) → IsTint a s x y → IsTint b s (x + 1) y → IsTint c s (x + 2) y → IsTint d s (x + 3) y → (j : ℕ) → j < 4 → word_bytes (slice_index result j) ≡ shade_at s (x + j) y }
+{
+    let front = lower_halves(channels_of(a), channels_of(b));
+    let back = lower_halves(channels_of(c), channels_of(d));
+    lowest_bytes(front, back)
+}
+
+/// The vertices' colours, four columns at a time: whether the list has room for the last four.
+fn shades_by_four(shade: &Shade, piece: &Span, colors: &mut [[u8; 4]]) -> bool
+    ensures { IsTrue result → HoldsPiece colors.new (λ x. shade_at shade.now x piece.now.y) piece.now.first piece.now.after }
+{
+    let (shade, piece) = (*shade, *piece);
+    let fours = ((piece.after - piece.first) as usize + 3) / 4;
+    if colors.len() < 4 * fours {
+        return false;
+    }
+    let by = tint_gain(&shade);
+    let mut a = tint_at(&shade, piece.first, piece.y);
+    for i in 0..fours {
+        let b = tint_on(a, by);
+        let c = tint_on(b, by);
+        let d = tint_on(c, by);
+        put_words(colors, 4 * i, four_shades(a, b, c, d));
+        a = tint_on(d, by);
+    }
+    true
+}
+
 /// The vertices' colours.
 fn shade_piece(shade: &Shade, piece: &Span, colors: &mut [[u8; 4]])
     requires room { piece.now.after ≤ piece.now.first + length colors.old }
     ensures { HoldsPiece colors.new (λ x. shade_at shade.now x piece.now.y) piece.now.first piece.now.after }
 {
+    if shades_by_four(shade, piece, colors) {
+        return;
+    }
     let (shade, piece) = (*shade, *piece);
     let mut red = value_at(&shade.red, piece.first, piece.y);
     let mut green = value_at(&shade.green, piece.first, piece.y);
