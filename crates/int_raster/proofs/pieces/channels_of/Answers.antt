@@ -1,4 +1,4 @@
-use Rattle.std.proofs.Common.{◌≡◌, ℕ, ◌+◌, ◌/◌, ◌^◌, [], ◌∷◌, length, slice_index, arith, rules, ap, ◌∙◌}
+use Rattle.std.proofs.Common.{◌≡◌, ℕ, ◌/◌, ◌^◌, [], ◌∷◌, length, arith, rules, ap, ◌∙◌}
 use Rattle.tri_cover.specs.Slope.{ramp_at}
 use Rattle.int_raster.proofs.Vectors.{shifted}
 use Rattle.int_raster.proofs.pieces.channels_of.Goals as goal

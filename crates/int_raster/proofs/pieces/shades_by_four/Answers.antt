@@ -1,4 +1,4 @@
-use Rattle.std.proofs.Common.{◌≡◌, ◌<◌, ℕ, ◌+◌, ◌*◌, [], slice_index_or, arith, ap, subst, ◌∙◌}
+use Rattle.std.proofs.Common.{◌≡◌, ◌+◌, ◌*◌, [], slice_index_or, arith, ap, subst, ◌∙◌}
 use Rattle.int_raster.specs.Painted.{shade_at}
 use Rattle.int_raster.specs.Tinted.{IsTint}
 use Rattle.int_raster.proofs.Carried.{four_more}
