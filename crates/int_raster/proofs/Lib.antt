@@ -9,6 +9,8 @@ pub mod Ramped
 pub mod Tested
 pub mod Grown
 pub mod Held
+pub mod Carried
+pub mod Halved
 pub mod Colored
 pub mod Level
 pub mod Vectors

@@ -25,6 +25,16 @@ four_lanes P p (a ∷ b ∷ []) h = absurd (omega arith)
 four_lanes P p (a ∷ b ∷ c ∷ []) h = absurd (omega arith)
 four_lanes P p (a ∷ b ∷ c ∷ d ∷ e ∷ xs) h = absurd (omega arith)
 
+-- what holds of each of two lanes
+pub below_two : (P : ℕ → Type 0) → P 0 → P 1 → (j : ℕ) → j < 2 → P j
+below_two P p0 p1 zero h = p0
+below_two P p0 p1 (suc zero) h = p1
+below_two P p0 p1 (suc (suc n)) h = absurd (omega arith)
+
+-- each lane of words that are shifted down
+pub shifted : (n : ℕ) (words : List ℕ) → length words ≡ 4 → (j : ℕ) → j < 4 → slice_index (zip2 (λ x y. x / 2 ^ y) words (n ∷ n ∷ n ∷ n ∷ [])) j ≡ slice_index words j / 2 ^ n
+shifted n = four_lanes (λ words. (j : ℕ) → j < 4 → slice_index (zip2 (λ x y. x / 2 ^ y) words (n ∷ n ∷ n ∷ n ∷ [])) j ≡ slice_index words j / 2 ^ n) (λ a b c d. below_four _ refl refl refl refl)
+
 -- a lane of a mask
 abbrev pub masked : Bool → ℕ
 masked b = cond b 4294967295 0
@@ -117,3 +127,18 @@ pub same_depth : (word : ℕ) → word < 2 ^ 32 → deep_word 4294967295 0 word 
 same_depth word h =
     let all : bit_and word 4294967295 ≡ word % 4294967296 = and_mask word 32 in
     omega (arith, all, h)
+
+-- the numbers of texels in columns, the lower halves of words, and rows, the upper ones
+number_there : (p w : ℕ) → (p / 65536 * w % 4294967296 + bit_and p 65535) % 4294967296 ≡ (p / 65536 * w + p % 65536) % 4294967296
+number_there p w = omega (arith, and_mask p 16)
+
+abbrev Numbers : List ℕ → List ℕ → Type 0
+Numbers places width = (j : ℕ) → j < 4
+    → slice_index (zip2 (λ x y. (x + y) % 4294967296) (zip2 (λ x y. x * y % 4294967296) (zip2 (λ x y. x / 2 ^ y) places (16 ∷ 16 ∷ 16 ∷ 16 ∷ [])) width) (zip2 bit_and places (65535 ∷ 65535 ∷ 65535 ∷ 65535 ∷ []))) j
+    ≡ (slice_index places j / 65536 * slice_index width j + slice_index places j % 65536) % 4294967296
+
+pub numbers_there : (places : List ℕ) → length places ≡ 4 → (width : List ℕ) → length width ≡ 4 → Numbers places width
+numbers_there =
+    four_lanes (λ places. (width : List ℕ) → length width ≡ 4 → Numbers places width) (λ p0 p1 p2 p3.
+    four_lanes (λ width. Numbers (p0 ∷ p1 ∷ p2 ∷ p3 ∷ []) width) (λ w0 w1 w2 w3.
+    below_four _ (number_there p0 w0) (number_there p1 w1) (number_there p2 w2) (number_there p3 w3)))

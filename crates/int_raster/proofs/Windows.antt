@@ -23,7 +23,7 @@ nothing_behind : (b : Bool) → (b && false) ≡ false
 nothing_behind true = refl
 nothing_behind false = refl
 
-not_within_low : (x i : ℕ) → i < x → (nat_le x i && nat_lt i (x + 4)) ≡ false
+pub not_within_low : (x i : ℕ) → i < x → (nat_le x i && nat_lt i (x + 4)) ≡ false
 not_within_low x i h = ap (λ b. b && nat_lt i (x + 4)) (lt-leb x i h)
 
 not_within_high : (x i : ℕ) → x + 4 ≤ i → (nat_le x i && nat_lt i (x + 4)) ≡ false
