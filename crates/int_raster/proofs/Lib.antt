@@ -22,3 +22,4 @@ pub mod Covered
 pub mod Twice
 pub mod Two
 pub mod FourPixels
+pub mod Eights

@@ -1,8 +1,9 @@
 // Four texels at a time, as words.
 ghost use Rattle.std.specs.Prelude.{◌≡◌, ◌≤◌, ◌<◌, ◌+◌, ◌*◌, ◌/◌, ◌%◌, ◌^◌, ℕ, [], ◌∷◌, length, slice_index, slice_index_or, false, ◌&&◌, nat_le, nat_lt, max, if◌then◌else◌};
 ghost use Rattle.gfx_model.specs.Number.{u32_at};
-ghost use Rattle.int_raster.specs.Tiled.{word_bytes, deep_word, is_among};
+ghost use Rattle.int_raster.specs.Tiled.{word_bytes, deep_word, is_among, deep_of, is_within};
 
+use crate::reaches::Reach;
 use std::simd::prelude::*;
 
 /// The word of a texel, its lowest byte first.
@@ -17,7 +18,7 @@ pub(crate) fn word_of(texel: [u8; 4]) -> u32
 
 /// The texel of a word.
 #[inline(always)]
-fn texel_of(word: u32) -> [u8; 4]
+pub(crate) fn texel_of(word: u32) -> [u8; 4]
     ensures word { u32_at result 0 ≡ word }
     ensures bytes { result ≡ word_bytes word }
 {
@@ -62,6 +63,20 @@ pub(crate) fn put_words(texels: &mut [[u8; 4]], at: usize, words: u32x4)
     texels[at + 3] = d;
 }
 
+/// Four numbers from a place on.
+#[inline(always)]
+pub(crate) fn numbers_of(numbers: &[u32], at: usize) -> u32x4
+    requires { at + 4 ≤ length numbers.now }
+    ensures { (j : ℕ) → j < 4 → slice_index result j ≡ slice_index_or numbers.now (at + j) 0 }
+{
+    u32x4::from_array([
+        numbers[at],
+        numbers[at + 1],
+        numbers[at + 2],
+        numbers[at + 3],
+    ])
+}
+
 /// Some bits of words, with a number that comes to them.
 #[inline(always)]
 pub(crate) fn with_depth(words: u32x4, bits: u32, depth: u32) -> u32x4
@@ -90,6 +105,33 @@ pub(crate) fn first_kept(old: u32x4, new: u32x4, left: u32) -> u32x4
 {
     let lanes = u32x4::from_array([0, 1, 2, 3]);
     lanes.simd_lt(u32x4::splat(left)).select(new, old)
+}
+
+/// The new words in the first lanes whose stored depths are within reach of new depths, and the old ones in the others.
+#[inline(always)]
+pub(crate) fn kept_within(
+    old: u32x4,
+    new: u32x4,
+    words: u32x4,
+    depths: u32x4,
+    reach: &Reach,
+    left: u32,
+) -> u32x4
+    ensures { (j : ℕ) → j < 4 → slice_index result j ≡ (if nat_lt j left && is_within reach.now.least reach.now.more (slice_index depths j) (slice_index words j % 2 ^ 24) then slice_index new j else slice_index old j) }
+{
+    let lanes = u32x4::from_array([0, 1, 2, 3]);
+    let inside = lanes.simd_lt(u32x4::splat(left));
+    let behind = (words & u32x4::splat(0xff_ffff)) - depths - u32x4::splat(reach.least);
+    let on = inside & behind.simd_le(u32x4::splat(reach.more));
+    on.select(new, old)
+}
+
+/// The bits of words that stay, with those of new depths that come to them.
+#[inline(always)]
+pub(crate) fn with_depths(words: u32x4, depths: u32x4, reach: &Reach) -> u32x4
+    ensures { (j : ℕ) → j < 4 → slice_index result j ≡ deep_of reach.now.bits reach.now.taken (slice_index depths j) (slice_index words j) }
+{
+    (words & u32x4::splat(reach.bits)) + (depths & u32x4::splat(reach.taken))
 }
 
 /// Puts four numbers from a place on.

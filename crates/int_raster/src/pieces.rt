@@ -1,6 +1,6 @@
 // The colours of a piece of a row, by a painter, and its depths, by a ramp. What is borrowed may change with each entry that is
-// stored, as far as a compiler can tell; so each loop copies it first, and the places of the piece are known to ascend by one.
-ghost use Rattle.std.specs.Prelude.{◌≡◌, ◌≤◌, ◌<◌, ◌+◌, ◌*◌, ◌/◌, ◌%◌, ◌^◌, ℕ, pos, [], ◌∷◌, length, slice_index, IsTrue};
+// stored, as far as a compiler can tell; so each loop copies it first. Four columns at a time where the list has room for them, else one.
+ghost use Rattle.std.specs.Prelude.{◌≡◌, ◌≤◌, ◌<◌, ◌+◌, ◌*◌, ◌/◌, ◌%◌, ◌^◌, ℕ, pos, [], ◌∷◌, length, slice_index, slice_index_or, IsTrue};
 ghost use Rattle.gfx_model.specs.Number.{zip_with, byte_product};
 ghost use Rattle.gfx_model.specs.Raster.{sample};
 ghost use Rattle.fix_math.specs.Seen.{texels_seen};
@@ -12,10 +12,10 @@ ghost use Rattle.int_raster.specs.Painted.{place_at, shade_at, painter_color, Ho
 
 use crate::lanes::{
     halves_of, larger, larger_parts, lower_halves, lowest_bytes, parts_of, put_numbers, put_words,
-    stepped_on, upper_halves,
+    stepped_on, upper_halves, words_of,
 };
+use crate::overlays::four_products;
 use crate::painters::{Painter, Place, Shade, packed, value_at, wide_value_at};
-use crate::painting::product;
 use crate::samplers::Sampler;
 use crate::sampling::{sampler_of, sides_of, texel_at, texels_at};
 use crate::spans::Span;
@@ -207,21 +207,30 @@ fn texture_piece(texels: &Texels, at: &Place, piece: &Span, colors: &mut [[u8; 4
     }
 }
 
+/// The products of the first colours of a list, so many times four, with those of another one.
+fn multiply_fours(colors: &mut [[u8; 4]], shades: &[[u8; 4]], fours: usize)
+    requires room { 4 * fours ≤ length colors.old }
+    requires shades { 4 * fours ≤ length shades.now }
+    ensures { (k : ℕ) → k < 4 * fours → slice_index_or colors.new k [] ≡ zip_with byte_product (slice_index_or colors.old k []) (slice_index_or shades.now k []) }
+{
+    for i in 0..fours {
+        let four = four_products(words_of(colors, 4 * i), words_of(shades, 4 * i));
+        put_words(colors, 4 * i, four);
+    }
+}
+
 /// The products of the texels at the texture positions and of the vertices' colours.
 fn product_piece(texels: &Texels, at: &Place, shade: &Shade, piece: &Span, colors: &mut [[u8; 4]])
     requires room { piece.now.after ≤ piece.now.first + length colors.old }
+    requires whole { length colors.old % 4 ≡ 0 }
     requires short { piece.now.after ≤ piece.now.first + 32 }
     ensures { HoldsPiece colors.new (λ x. zip_with byte_product (sample (texels_seen texels.now) (pos (place_at at.now.u x piece.now.y)) (pos (place_at at.now.v x piece.now.y))) (shade_at shade.now x piece.now.y)) piece.now.first piece.now.after }
 {
-    let mut samples = [[0; 4]; 32];
     let mut shades = [[0; 4]; 32];
-    texture_piece(texels, at, piece, &mut samples);
+    texture_piece(texels, at, piece, colors);
     shade_piece(shade, piece, &mut shades);
-    let piece = *piece;
-    for x in piece.first..piece.after {
-        let place = (x - piece.first) as usize;
-        colors[place] = product(samples[place], shades[place]);
-    }
+    let fours = ((piece.after - piece.first) as usize + 3) / 4;
+    multiply_fours(colors, &shades, fours);
 }
 
 /// One colour.
@@ -238,6 +247,7 @@ fn solid_piece(color: [u8; 4], piece: &Span, colors: &mut [[u8; 4]])
 /// The colours of a painter.
 pub(crate) fn paint_piece(painter: &Painter, piece: &Span, colors: &mut [[u8; 4]])
     requires room { piece.now.after ≤ piece.now.first + length colors.old }
+    requires whole { length colors.old % 4 ≡ 0 }
     requires short { piece.now.after ≤ piece.now.first + 32 }
     ensures { HoldsPiece colors.new (λ x. painter_color painter.now x piece.now.y) piece.now.first piece.now.after }
 {

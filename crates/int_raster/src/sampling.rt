@@ -59,7 +59,7 @@ pub(crate) fn sides_of(sampler: &Sampler) -> Sides
 
 /// The columns and the rows at positions of 1/65536 within one unit, of these sides.
 #[inline(always)]
-fn places_of(at: u16x8, sides: u16x8) -> u16x8
+pub(crate) fn places_of(at: u16x8, sides: u16x8) -> u16x8
     ensures { (j : ℕ) → j < 8 → slice_index result j ≡ slice_index at j * slice_index sides j / 2 ^ 16 }
 {
     ((at.cast::<u32>() * sides.cast::<u32>()) >> u32x8::splat(16)).cast::<u16>()
