@@ -9,6 +9,8 @@ pub mod Ramped
 pub mod Tested
 pub mod Grown
 pub mod Held
+pub mod Carried
+pub mod Halved
 pub mod Colored
 pub mod Level
 pub mod Vectors
@@ -20,3 +22,4 @@ pub mod Covered
 pub mod Twice
 pub mod Two
 pub mod FourPixels
+pub mod Eights

@@ -1,7 +1,10 @@
 -- A ramp one column on.
-use Rattle.std.proofs.Common.{◌≡◌, ℕ, ◌+◌, ◌*◌, ◌/◌, ◌%◌, ◌^◌, ◌<◌, ap, ◌∙◌, arith}
+use Rattle.std.proofs.Common.{◌≡◌, ℕ, ◌+◌, ◌*◌, ◌/◌, ◌%◌, ◌^◌, ◌<◌, [], ◌∷◌, slice_index, refl, ap, ◌∙◌, arith}
 use Rattle.tri_cover.specs.declared.ramps.Ramp.{Ramp}
 use Rattle.tri_cover.specs.declared.ramps.WideRamp.{WideRamp}
+use Rattle.gfx_model.specs.Vertex.{Color}
+use Rattle.int_raster.specs.declared.painters.Shade.{Shade}
+use Rattle.int_raster.specs.Painted.{shade_at}
 use Rattle.tri_cover.specs.Slope.{ramp_at}
 use Rattle.tri_cover.specs.Widened.{wide_at, wide_whole}
 
@@ -10,6 +13,9 @@ next_column s x r d = omega arith
 
 pub ramp_more : (r : Ramp) (x y v : ℕ) → v ≡ ramp_at r x y → (v + r.right) % 2 ^ 64 ≡ ramp_at r (x + 1) y
 ramp_more r x y v e = ap (λ n. (n + r.right) % 2 ^ 64) e ∙ next_column r.start x r.right (y * r.down)
+
+pub ramp_on : (r : Ramp) (x y : ℕ) → (ramp_at r x y + r.right) % 2 ^ 64 ≡ ramp_at r (x + 1) y
+ramp_on r x y = ramp_more r x y (ramp_at r x y) refl
 
 next_wide : (s x r d : ℕ) → ((s + x * r + d) % 2 ^ 128 + r) % 2 ^ 128 ≡ (s + (x + 1) * r + d) % 2 ^ 128
 next_wide s x r d = omega arith
@@ -34,3 +40,18 @@ upper_whole r x y high low e b = upper high low b ∙ ap (λ n. n / 2 ^ 104) e
   where
     upper : (high low : ℕ) → low < 2 ^ 64 → high / 2 ^ 40 ≡ (high * 2 ^ 64 + low) / 2 ^ 104
     upper high low b = omega (arith, b)
+
+-- a channel by its lane
+channel_lane : (r : Ramp) (x y lane channel : ℕ) → lane ≡ channel % 2 ^ 16 → channel ≡ ramp_at r x y / 2 ^ 56 → lane % 256 ≡ ramp_at r x y / 2 ^ 56
+channel_lane r x y lane channel e f = omega (arith, e, f)
+
+-- a texel of which each lane has a channel
+pub lanes_shade : (s : Shade) (x y : ℕ) (texel channels : Color) (a b c d : ℕ) → texel ≡ a % 256 ∷ b % 256 ∷ c % 256 ∷ d % 256 ∷ []
+    → a ≡ slice_index channels 0 % 2 ^ 16 → b ≡ slice_index channels 1 % 2 ^ 16 → c ≡ slice_index channels 2 % 2 ^ 16 → d ≡ slice_index channels 3 % 2 ^ 16
+    → slice_index channels 0 ∷ slice_index channels 1 ∷ slice_index channels 2 ∷ slice_index channels 3 ∷ [] ≡ shade_at s x y → texel ≡ shade_at s x y
+lanes_shade s x y texel channels a b c d e ha hb hc hd h =
+    let red = channel_lane s.red x y a (slice_index channels 0) ha (ap (λ l. slice_index l 0) h) in
+    let green = channel_lane s.green x y b (slice_index channels 1) hb (ap (λ l. slice_index l 1) h) in
+    let blue = channel_lane s.blue x y c (slice_index channels 2) hc (ap (λ l. slice_index l 2) h) in
+    let alpha = channel_lane s.alpha x y d (slice_index channels 3) hd (ap (λ l. slice_index l 3) h) in
+    e ∙ (λ i. red i ∷ green i ∷ blue i ∷ alpha i ∷ [])

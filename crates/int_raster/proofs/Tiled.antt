@@ -44,6 +44,13 @@ lane_stored true true new old lane n texel before h e f g k = e ∙ ap word_byte
 lane_stored true false new old lane n texel before h e f g k = e ∙ ap word_bytes f ∙ k
 lane_stored false a new old lane n texel before h e f g k = cc
 
+-- the same where what is stored depends on the lane
+pub lane_over : (b a : Bool) (new old lane : ℕ) (texel over before : Color) → b ≡ true → texel ≡ word_bytes lane → lane ≡ (if b && a then new else old) → word_bytes new ≡ over → word_bytes old ≡ before
+    → texel ≡ (if a then over else before)
+lane_over true true new old lane texel over before h e f g k = e ∙ ap word_bytes f ∙ g
+lane_over true false new old lane texel over before h e f g k = e ∙ ap word_bytes f ∙ k
+lane_over false a new old lane texel over before h e f g k = cc
+
 -- a texel of another lane
 pub lane_kept : (b a : Bool) (new old lane : ℕ) (texel before : Color) → b ≡ false → texel ≡ word_bytes lane → lane ≡ (if b && a then new else old) → word_bytes old ≡ before
     → texel ≡ before
@@ -57,7 +64,7 @@ lane_deep b a f new old lane word n h e k g s =
     e ∙ k ∙ (λ i. if h i && a (s i) then (g ∙ ap f s) i else s i)
 
 -- the depth word that a tile leaves, its stencil kept
-word_of_two : (p w : Bool) (new depth word : ℕ) → new ≡ (if w then depth else word % 2 ^ 24) + 2 ^ 24 * (word / 2 ^ 24)
+pub word_of_two : (p w : Bool) (new depth word : ℕ) → new ≡ (if w then depth else word % 2 ^ 24) + 2 ^ 24 * (word / 2 ^ 24)
     → (if p then new else word) ≡ (if p && w then depth else word % 2 ^ 24) + 2 ^ 24 * (word / 2 ^ 24)
 word_of_two true w new depth word e = e
 word_of_two false w new depth word e = omega arith

@@ -4,7 +4,7 @@ use Rattle.std.proofs.lemmas.Nat.{and_mask}
 use Rattle.std.proofs.lemmas.Nat.Bits.{and_high_mask}
 use Rattle.std.proofs.lemmas.Bool.{cases_lt, lt-leb}
 use Rattle.std.proofs.lemmas.Bool.Decides.{nat_tests}
-use Rattle.int_raster.specs.Tiled.{deep_word, is_among}
+use Rattle.int_raster.specs.Tiled.{deep_word, is_among, deep_of, is_within}
 use lib.Lanes.{zip2, sel_l, top}
 use mathlib.Core.Logic.{inl, inr}
 
@@ -24,6 +24,16 @@ four_lanes P p (a ∷ []) h = absurd (omega arith)
 four_lanes P p (a ∷ b ∷ []) h = absurd (omega arith)
 four_lanes P p (a ∷ b ∷ c ∷ []) h = absurd (omega arith)
 four_lanes P p (a ∷ b ∷ c ∷ d ∷ e ∷ xs) h = absurd (omega arith)
+
+-- what holds of each of two lanes
+pub below_two : (P : ℕ → Type 0) → P 0 → P 1 → (j : ℕ) → j < 2 → P j
+below_two P p0 p1 zero h = p0
+below_two P p0 p1 (suc zero) h = p1
+below_two P p0 p1 (suc (suc n)) h = absurd (omega arith)
+
+-- each lane of words that are shifted down
+pub shifted : (n : ℕ) (words : List ℕ) → length words ≡ 4 → (j : ℕ) → j < 4 → slice_index (zip2 (λ x y. x / 2 ^ y) words (n ∷ n ∷ n ∷ n ∷ [])) j ≡ slice_index words j / 2 ^ n
+shifted n = four_lanes (λ words. (j : ℕ) → j < 4 → slice_index (zip2 (λ x y. x / 2 ^ y) words (n ∷ n ∷ n ∷ n ∷ [])) j ≡ slice_index words j / 2 ^ n) (λ a b c d. below_four _ refl refl refl refl)
 
 -- a lane of a mask
 abbrev pub masked : Bool → ℕ
@@ -117,3 +127,60 @@ pub same_depth : (word : ℕ) → word < 2 ^ 32 → deep_word 4294967295 0 word 
 same_depth word h =
     let all : bit_and word 4294967295 ≡ word % 4294967296 = and_mask word 32 in
     omega (arith, all, h)
+
+-- a distance around 2^32, of a word's depth from a new one
+abbrev far_from : (least new word : ℕ) → ℕ
+far_from least new word = ((bit_and word 16777215 + (4294967296 - new)) % 4294967296 + (4294967296 - least)) % 4294967296
+
+lane_within : (a : Bool) (least more new w x y : ℕ)
+    → cond (top 31 (bit_and (masked a) (masked (nat_le (far_from least new w) more)))) x y ≡ (if a && is_within least more new (w % 16777216) then x else y)
+lane_within a least more new w x y =
+    lane_of a (nat_le (far_from least new w) more) x y
+    ∙ ap (λ n. if a && nat_le (((n + (4294967296 - new)) % 4294967296 + (4294967296 - least)) % 4294967296) more then x else y) (and_mask w 24)
+
+abbrev pub KeepsWithin : ℕ → ℕ → ℕ → List ℕ → List ℕ → List ℕ → List ℕ → Type 0
+KeepsWithin left least more old new words depths = (j : ℕ) → j < 4
+    → slice_index (sel_l (map (top 31) (zip2 bit_and (masked (nat_lt 0 left) ∷ masked (nat_lt 1 left) ∷ masked (nat_lt 2 left) ∷ masked (nat_lt 3 left) ∷ [])
+    (zip2 (λ a b. masked (nat_le a b))
+    (zip2 (λ x y. (x + (4294967296 - y)) % 4294967296) (zip2 (λ x y. (x + (4294967296 - y)) % 4294967296) (zip2 bit_and words (16777215 ∷ 16777215 ∷ 16777215 ∷ 16777215 ∷ [])) depths) (least ∷ least ∷ least ∷ least ∷ []))
+    (more ∷ more ∷ more ∷ more ∷ [])))) new old) j
+    ≡ (if nat_lt j left && is_within least more (slice_index depths j) (slice_index words j % 16777216) then slice_index new j else slice_index old j)
+
+pub keeps_within : (left least more : ℕ)
+    → (old : List ℕ) → length old ≡ 4 → (new : List ℕ) → length new ≡ 4 → (words : List ℕ) → length words ≡ 4 → (depths : List ℕ) → length depths ≡ 4 → KeepsWithin left least more old new words depths
+keeps_within left least more =
+    four_lanes (λ old. (new : List ℕ) → length new ≡ 4 → (words : List ℕ) → length words ≡ 4 → (depths : List ℕ) → length depths ≡ 4 → KeepsWithin left least more old new words depths) (λ a0 a1 a2 a3.
+    four_lanes (λ new. (words : List ℕ) → length words ≡ 4 → (depths : List ℕ) → length depths ≡ 4 → KeepsWithin left least more (a0 ∷ a1 ∷ a2 ∷ a3 ∷ []) new words depths) (λ b0 b1 b2 b3.
+    four_lanes (λ words. (depths : List ℕ) → length depths ≡ 4 → KeepsWithin left least more (a0 ∷ a1 ∷ a2 ∷ a3 ∷ []) (b0 ∷ b1 ∷ b2 ∷ b3 ∷ []) words depths) (λ w0 w1 w2 w3.
+    four_lanes (λ depths. KeepsWithin left least more (a0 ∷ a1 ∷ a2 ∷ a3 ∷ []) (b0 ∷ b1 ∷ b2 ∷ b3 ∷ []) (w0 ∷ w1 ∷ w2 ∷ w3 ∷ []) depths) (λ d0 d1 d2 d3.
+    below_four _
+    (lane_within (nat_lt 0 left) least more d0 w0 b0 a0)
+    (lane_within (nat_lt 1 left) least more d1 w1 b1 a1)
+    (lane_within (nat_lt 2 left) least more d2 w2 b2 a2)
+    (lane_within (nat_lt 3 left) least more d3 w3 b3 a3)))))
+
+-- each lane of words and depths whose bits are taken and added
+abbrev pub Deeper : (bits taken : ℕ) → List ℕ → List ℕ → Type 0
+Deeper bits taken words depths = (j : ℕ) → j < 4
+    → slice_index (zip2 (λ x y. (x + y) % 4294967296) (zip2 bit_and words (bits ∷ bits ∷ bits ∷ bits ∷ [])) (zip2 bit_and depths (taken ∷ taken ∷ taken ∷ taken ∷ []))) j
+    ≡ deep_of bits taken (slice_index depths j) (slice_index words j)
+
+pub deeper_words : (bits taken : ℕ) (words : List ℕ) → length words ≡ 4 → (depths : List ℕ) → length depths ≡ 4 → Deeper bits taken words depths
+deeper_words bits taken =
+    four_lanes (λ words. (depths : List ℕ) → length depths ≡ 4 → Deeper bits taken words depths) (λ a b c d.
+    four_lanes (λ depths. Deeper bits taken (a ∷ b ∷ c ∷ d ∷ []) depths) (λ e f g h. below_four _ refl refl refl refl))
+
+-- the numbers of texels in columns, the lower halves of words, and rows, the upper ones
+number_there : (p w : ℕ) → (p / 65536 * w % 4294967296 + bit_and p 65535) % 4294967296 ≡ (p / 65536 * w + p % 65536) % 4294967296
+number_there p w = omega (arith, and_mask p 16)
+
+abbrev Numbers : List ℕ → List ℕ → Type 0
+Numbers places width = (j : ℕ) → j < 4
+    → slice_index (zip2 (λ x y. (x + y) % 4294967296) (zip2 (λ x y. x * y % 4294967296) (zip2 (λ x y. x / 2 ^ y) places (16 ∷ 16 ∷ 16 ∷ 16 ∷ [])) width) (zip2 bit_and places (65535 ∷ 65535 ∷ 65535 ∷ 65535 ∷ []))) j
+    ≡ (slice_index places j / 65536 * slice_index width j + slice_index places j % 65536) % 4294967296
+
+pub numbers_there : (places : List ℕ) → length places ≡ 4 → (width : List ℕ) → length width ≡ 4 → Numbers places width
+numbers_there =
+    four_lanes (λ places. (width : List ℕ) → length width ≡ 4 → Numbers places width) (λ p0 p1 p2 p3.
+    four_lanes (λ width. Numbers (p0 ∷ p1 ∷ p2 ∷ p3 ∷ []) width) (λ w0 w1 w2 w3.
+    below_four _ (number_there p0 w0) (number_there p1 w1) (number_there p2 w2) (number_there p3 w3)))

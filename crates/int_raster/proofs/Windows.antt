@@ -23,10 +23,10 @@ nothing_behind : (b : Bool) → (b && false) ≡ false
 nothing_behind true = refl
 nothing_behind false = refl
 
-not_within_low : (x i : ℕ) → i < x → (nat_le x i && nat_lt i (x + 4)) ≡ false
+pub not_within_low : (x i : ℕ) → i < x → (nat_le x i && nat_lt i (x + 4)) ≡ false
 not_within_low x i h = ap (λ b. b && nat_lt i (x + 4)) (lt-leb x i h)
 
-not_within_high : (x i : ℕ) → x + 4 ≤ i → (nat_le x i && nat_lt i (x + 4)) ≡ false
+pub not_within_high : (x i : ℕ) → x + 4 ≤ i → (nat_le x i && nat_lt i (x + 4)) ≡ false
 not_within_high x i h = ap (λ b. nat_le x i && b) (le-ltb i (x + 4) h) ∙ nothing_behind (nat_le x i)
 
 outside_is : {A : Type 0} (g : ℕ → A → A) (at i : ℕ) (u : A) → (nat_le at i && nat_lt i (at + 4)) ≡ false → u ≡ spanned g at (at + 4) i u

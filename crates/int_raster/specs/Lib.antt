@@ -3,6 +3,7 @@ pub mod Seen
 pub mod Places
 pub mod Painted
 pub mod Tiled
+pub mod Tinted
 pub mod Rules
 pub mod Wiping
 pub mod Bands

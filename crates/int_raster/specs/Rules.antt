@@ -14,10 +14,11 @@ use Rattle.int_raster.specs.Places.{deep_pixel}
 use Rattle.int_raster.specs.Painted.{IsOpaque}
 use Rattle.pixel_ops.specs.Blended.{IsBlending}
 use Rattle.int_raster.specs.declared.opaque.Rule.{Rule}
+use Rattle.int_raster.specs.declared.reaches.Reach.{Reach}
 use Rattle.int_raster.specs.declared.opaque.Mix.{Mix}
 use Rattle.int_raster.specs.declared.opaque.Level.{Level}
 use Rattle.int_raster.specs.declared.opaque.Tile.{Tile}
-use Rattle.int_raster.specs.Tiled.{word_bytes, deep_word, is_among}
+use Rattle.int_raster.specs.Tiled.{word_bytes, deep_word, is_among, deep_of, is_within}
 
 -- the answer for less, equal or greater
 abbrev pub by_order : Rule → ℕ → ℕ → Bool
@@ -27,6 +28,11 @@ by_order r new stored = if nat_lt new stored then r.less else (if new == stored 
 pub record IsRule (r : Rule) (state : ℕ) : Type 0 where
   pub test : (new stored : ℕ) → by_order r new stored ≡ passes_depth (depth_test_of state) new stored
   pub stores : r.writes ≡ writes_depth state
+
+-- by how far a stored depth lies behind a new one, and by the bits of a depth word, a rule's test and what it stores
+pub record IsReach (t : Reach) (r : Rule) : Type 0 where
+  pub test : (new stored : ℕ) → new ≤ 16777215 → stored < 16777216 → by_order r new stored ≡ is_within t.least t.more new stored
+  pub stores : (new word : ℕ) → new ≤ 16777215 → word < 2 ^ 32 → deep_of t.bits t.taken new word ≡ (if r.writes then new else word % 2 ^ 24) + 2 ^ 24 * (word / 2 ^ 24)
 
 -- every depth passes, and none is stored
 pub record IsOver (r : Rule) : Type 0 where

@@ -1,5 +1,5 @@
 // Draws on colours alone: on surfaces without depth, and where depths are neither tested nor stored.
-ghost use Rattle.std.specs.Prelude.{◌≡◌, ◌≤◌, ◌<◌, ◌+◌, ◌*◌, ℕ, true, List, length, IfSome, IsTrue};
+ghost use Rattle.std.specs.Prelude.{◌≡◌, ◌≤◌, ◌<◌, ◌+◌, ◌*◌, ◌%◌, ℕ, true, List, length, IfSome, IsTrue};
 ghost use Rattle.gfx_model.specs.Number.{map_from};
 ghost use Rattle.gfx_model.specs.Raster.{covers, fragment_at};
 ghost use Rattle.gfx_model.specs.Vertex.{Color};
@@ -13,6 +13,7 @@ ghost use Rattle.int_raster.specs.Painted.{shade_at, PaintsSpan, Paints, IsOpaqu
 ghost use Rattle.int_raster.specs.Seen.{paint_seen, color_seen, color_change};
 
 use crate::columns::{drawn_columns, drawn_limits, drawn_rows};
+use crate::fours::store_colored;
 use crate::lists::Prepared;
 use crate::painters::{Painter, Shade, is_opaque, packed, value_at, whole};
 use crate::painting::stepped;
@@ -77,8 +78,8 @@ fn store_shade(colors: &mut [[u8; 4]], span: &Span, shade: &Shade, setup: &Setup
     }
 }
 
-/// Stores painted colours in a piece.
-fn store<S: Store>(
+/// Stores painted colours in a piece, pixel by pixel.
+pub(crate) fn color_each<S: Store>(
     colors: &mut [[u8; 4]],
     span: &Span,
     paints: &[[u8; 4]],
@@ -112,17 +113,18 @@ fn store_piece(
 )
     requires inside { span.now.start + span.now.after ≤ length colors.old }
     requires room { span.now.after ≤ span.now.first + length paints.now }
+    requires whole { length paints.now % 4 ≡ 0 }
     requires opaque { IsTrue opaque → IsOpaque draw.now.state }
     requires blending { IsBlending blending.now draw.now.state }
     requires paints { HoldsPiece paints.now (λ x. painted (paint_seen draw.now.paint) (fragment_at (setup_seen setup.now).triangle x span.now.y)) span.now.first span.now.after }
     ensures { colors.new ≡ map_from (spanned (in_row span.now.start span.now.y (color_seen draw.now setup.now)) (span.now.start + span.now.first) (span.now.start + span.now.after)) 0 colors.old }
 {
     if opaque {
-        store(colors, span, paints, &Opaque, setup, draw);
+        store_colored(colors, span, paints, &Opaque, setup, draw);
     } else if blending.lays_over() {
-        store(colors, span, paints, &Laid, setup, draw);
+        store_colored(colors, span, paints, &Laid, setup, draw);
     } else {
-        store(colors, span, paints, blending, setup, draw);
+        store_colored(colors, span, paints, blending, setup, draw);
     }
 }
 

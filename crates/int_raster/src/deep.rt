@@ -1,5 +1,5 @@
 // Draws on a surface with depth.
-ghost use Rattle.std.specs.Prelude.{◌≡◌, ◌≤◌, ◌<◌, ◌+◌, ◌*◌, ℕ, Bool, true, false, List, length, map, take, slice_index_or, IfSome, IsTrue};
+ghost use Rattle.std.specs.Prelude.{◌≡◌, ◌≤◌, ◌<◌, ◌+◌, ◌*◌, ◌%◌, ℕ, Bool, true, false, List, length, map, take, slice_index_or, IfSome, IsTrue};
 ghost use Rattle.gfx_model.specs.Number.{map_from};
 ghost use Rattle.gfx_model.specs.Raster.{covers, fragment_at};
 ghost use Rattle.gfx_model.specs.Pixel.{Pixel};
@@ -16,7 +16,8 @@ ghost use Rattle.int_raster.specs.Seen.{paint_seen, prepared_seen, step_seen, ch
 
 use crate::colors::triangle_colors;
 use crate::columns::{columns_at, drawn_columns, drawn_limits, drawn_rows, meets};
-use crate::deep_spans::{fill, step, step_exactly, store, store_level, store_shade};
+use crate::deep_spans::{fill, step, step_exactly, store_level, store_shade};
+use crate::fours::store_painted;
 use crate::lists::Prepared;
 use crate::opaque::{Level, Mix, Rule, Tile, is_over, rule_of};
 use crate::painters::{Brush, Painter, brush_of, is_opaque, one_color, one_depth, painter_of};
@@ -45,7 +46,8 @@ fn store_mixed(
     requires same { length depths.old ≡ length colors.old }
     requires room { span.now.after ≤ span.now.first + length paints.now }
     requires paints { HoldsPiece paints.now (λ x. painted (paint_seen draw.now.paint) (fragment_at (setup_seen setup.now).triangle x span.now.y)) span.now.first span.now.after }
-    requires new_room { span.now.after ≤ span.now.first + length news.now }
+    requires whole { length paints.now % 4 ≡ 0 }
+    requires new_room { length news.now ≡ length paints.now }
     requires depths { HoldsDepths news.now (λ x. (fragment_at (setup_seen setup.now).triangle x span.now.y).depth) span.now.first span.now.after }
     requires few { AreDepths news.now span.now.first span.now.after }
     requires mixing { IsMix mixing.now draw.now setup.now }
@@ -53,9 +55,9 @@ fn store_mixed(
 {
     let (rule, blending) = (&mixing.rule, &mixing.blending);
     if blending.lays_over() {
-        store(colors, depths, span, paints, news, rule, &Laid, setup, draw);
+        store_painted(colors, depths, span, paints, news, rule, &Laid, setup, draw);
     } else {
-        store(
+        store_painted(
             colors, depths, span, paints, news, rule, blending, setup, draw,
         );
     }
@@ -77,7 +79,8 @@ fn store_piece(
     requires same { length depths.old ≡ length colors.old }
     requires room { span.now.after ≤ span.now.first + length paints.now }
     requires paints { HoldsPiece paints.now (λ x. painted (paint_seen draw.now.paint) (fragment_at (setup_seen setup.now).triangle x span.now.y)) span.now.first span.now.after }
-    requires new_room { span.now.after ≤ span.now.first + length news.now }
+    requires whole { length paints.now % 4 ≡ 0 }
+    requires new_room { length news.now ≡ length paints.now }
     requires depths { HoldsDepths news.now (λ x. (fragment_at (setup_seen setup.now).triangle x span.now.y).depth) span.now.first span.now.after }
     requires few { AreDepths news.now span.now.first span.now.after }
     requires rule { IfSome rule.now (λ r. IsPlain r draw.now setup.now) }
@@ -85,7 +88,7 @@ fn store_piece(
     ensures { deep_pixels colors.new depths.new ≡ map_from (spanned (in_row span.now.start span.now.y (step_seen draw.now setup.now)) (span.now.start + span.now.first) (span.now.start + span.now.after)) 0 (deep_pixels colors.old depths.old) }
 {
     match rule {
-        Some(rule) => store(
+        Some(rule) => store_painted(
             colors, depths, span, paints, news, rule, &Opaque, setup, draw,
         ),
         None => match mixing {

@@ -268,8 +268,8 @@ pub(crate) fn store_shade(
     }
 }
 
-/// Stores painted colours in a piece where their depths pass.
-pub(crate) fn store<S: Store>(
+/// Stores painted colours in a piece where their depths pass, pixel by pixel.
+pub(crate) fn store_each<S: Store>(
     colors: &mut [[u8; 4]],
     depths: &mut [[u8; 4]],
     span: &Span,

@@ -1,11 +1,15 @@
 // How painted colours are stored over old ones: as they are, laid over by their alpha, or by a state word's parts.
-ghost use Rattle.std.specs.Prelude.{◌≡◌, ℕ};
+ghost use Rattle.std.specs.Prelude.{◌≡◌, ◌<◌, ℕ, slice_index};
 ghost use Rattle.gfx_model.specs.Pixel.{stored_color};
 ghost use Rattle.pixel_ops.specs.Blended.{IsBlending, LaysOver};
 ghost use Rattle.int_raster.specs.Painted.{IsOpaque};
+ghost use Rattle.int_raster.specs.Tiled.{word_bytes};
 
+use crate::lanes::{texel_of, word_of};
+use crate::overlays::four_over;
 use crate::painters::whole;
 use pixel_ops::{Blending, lay_over};
+use std::simd::prelude::*;
 
 /// What is chosen once for many pixels, so that their loop does not ask again.
 pub(crate) trait Store {
@@ -15,6 +19,10 @@ pub(crate) trait Store {
     /// The colour that is stored of a new one and an old one.
     fn stored_over(&self, new: [u8; 4], old: [u8; 4]) -> [u8; 4]
         ensures { (state : ℕ) → meets self.now state → result ≡ stored_color state new old };
+
+    /// The words of the colours that are stored of four new ones and four old ones.
+    fn four_over(&self, new: u32x4, old: u32x4) -> u32x4
+        ensures { (state j : ℕ) → meets self.now state → j < 4 → word_bytes (slice_index result j) ≡ stored_color state (word_bytes (slice_index new j)) (word_bytes (slice_index old j)) };
 }
 
 /// Colours are stored as they are.
@@ -27,6 +35,11 @@ impl Store for Opaque {
     #[inline(always)]
     fn stored_over(&self, new: [u8; 4], _old: [u8; 4]) -> [u8; 4] {
         whole(new)
+    }
+
+    #[inline(always)]
+    fn four_over(&self, new: u32x4, _old: u32x4) -> u32x4 {
+        new
     }
 }
 
@@ -41,6 +54,11 @@ impl Store for Laid {
     fn stored_over(&self, new: [u8; 4], old: [u8; 4]) -> [u8; 4] {
         lay_over(new, old)
     }
+
+    #[inline(always)]
+    fn four_over(&self, new: u32x4, old: u32x4) -> u32x4 {
+        four_over(new, old)
+    }
 }
 
 impl Store for Blending {
@@ -49,5 +67,15 @@ impl Store for Blending {
     #[inline(always)]
     fn stored_over(&self, new: [u8; 4], old: [u8; 4]) -> [u8; 4] {
         self.stored(new, old)
+    }
+
+    fn four_over(&self, new: u32x4, old: u32x4) -> u32x4 {
+        let (new, old) = (new.to_array(), old.to_array());
+        u32x4::from_array([
+            word_of(self.stored(texel_of(new[0]), texel_of(old[0]))),
+            word_of(self.stored(texel_of(new[1]), texel_of(old[1]))),
+            word_of(self.stored(texel_of(new[2]), texel_of(old[2]))),
+            word_of(self.stored(texel_of(new[3]), texel_of(old[3]))),
+        ])
     }
 }

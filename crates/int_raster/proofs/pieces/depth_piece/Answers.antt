@@ -1,15 +1,31 @@
-use Rattle.std.proofs.Common.{◌<◌, ◌≤◌, ◌-◌, ◌/◌, ◌^◌, arith, length, ◌∙◌}
+use Rattle.std.proofs.Common.{◌<◌, ◌≤◌, ◌-◌, ◌/◌, ◌^◌, arith, length, sym, ◌∙◌}
 use Rattle.tri_cover.specs.Widened.{wide_whole}
 use Rattle.int_raster.proofs.Ramped.{halves, halves_more, upper_whole}
+use Rattle.int_raster.proofs.Carried.{depths_right, depths_few}
 use Rattle.int_raster.proofs.Held.{depths_none, few_none, depths_more, few_more, depths_all, few_all}
 use Rattle.int_raster.proofs.pieces.depth_piece.Goals as goal
+
+pub returns-then-depths_by_four-clause-depths : goal.returns-then-depths_by_four-clause-depths
+returns-then-depths_by_four-clause-depths c =
+    let s = c.args.piece.now in
+    let start = c.wide_value_at-start.result in
+    depths_right c.args.ramp.now s.y s.first s.after start c.depths_by_four.new.depths c.wide_value_at-start.ensures
+    (λ k h. c.depths_by_four.ensures c.if-depths_by_four.true start c.args.ramp.now.right k (sym c.upper_half-high.ensures) (sym c.upper_half-by_high.ensures) h)
+
+pub returns-then-depths_by_four-clause-few : goal.returns-then-depths_by_four-clause-few
+returns-then-depths_by_four-clause-few c =
+    let s = c.args.piece.now in
+    let start = c.wide_value_at-start.result in
+    depths_few c.args.ramp.now s.y s.first s.after c.depths_by_four.new.depths
+    (depths_right c.args.ramp.now s.y s.first s.after start c.depths_by_four.new.depths c.wide_value_at-start.ensures
+    (λ k h. c.depths_by_four.ensures c.if-depths_by_four.true start c.args.ramp.now.right k (sym c.upper_half-high.ensures) (sym c.upper_half-by_high.ensures) h))
 
 pub loop-x-init : goal.loop-x-init
 loop-x-init c = record {
   depth = halves c.wide_value_at-start.result c.upper_half-high.result c.lower_half-low.result c.upper_half-high.ensures c.lower_half-low.ensures ∙ c.wide_value_at-start.ensures;
   small = omega (arith, c.lower_half-low.ensures);
-  held = depths_none (λ x. wide_whole c.args.ramp.now x c.args.piece.now.y) c.args.piece.now.first c.args.depths.now;
-  few = few_none c.args.piece.now.first c.args.depths.now;
+  held = depths_none (λ x. wide_whole c.args.ramp.now x c.args.piece.now.y) c.args.piece.now.first c.depths_by_four.new.depths;
+  few = few_none c.args.piece.now.first c.depths_by_four.new.depths;
 }
 
 pub loop-x-preserved : goal.loop-x-preserved

@@ -5,13 +5,16 @@ use Rattle.int_raster.specs.Painted.{shade_at}
 use Rattle.int_raster.proofs.Held.{held_none, held_more, held_all}
 use Rattle.int_raster.proofs.pieces.shade_piece.Goals as goal
 
+pub returns-then-shades_by_four : goal.returns-then-shades_by_four
+returns-then-shades_by_four c = c.shades_by_four.ensures c.if-shades_by_four.true
+
 pub loop-x-init : goal.loop-x-init
 loop-x-init c = record {
   red = c.value_at-red.ensures;
   green = c.value_at-green.ensures;
   blue = c.value_at-blue.ensures;
   alpha = c.value_at-alpha.ensures;
-  held = held_none (λ x. shade_at c.args.shade.now x c.args.piece.now.y) c.args.piece.now.first c.args.colors.now;
+  held = held_none (λ x. shade_at c.args.shade.now x c.args.piece.now.y) c.args.piece.now.first c.shades_by_four.new.colors;
 }
 
 pub loop-x-preserved : goal.loop-x-preserved

@@ -7,11 +7,17 @@ use Rattle.int_raster.specs.Painted.{place_at}
 use Rattle.int_raster.proofs.Held.{held_none, held_more, held_all}
 use Rattle.int_raster.proofs.pieces.texture_piece.Goals as goal
 
+pub returns-then-texels_by_four : goal.returns-then-texels_by_four
+returns-then-texels_by_four c x lo hi =
+    let y = c.args.piece.now.y in
+    c.texels_by_four.ensures c.if-texels_by_four.true x lo hi
+    ∙ (λ j. sample (c.sampler_of-sampler.ensures j) (pos (place_at c.args.at.now.u x y)) (pos (place_at c.args.at.now.v x y)))
+
 pub loop-x-init : goal.loop-x-init
 loop-x-init c = record {
   u = c.wide_value_at-u.ensures;
   v = c.wide_value_at-v.ensures;
-  held = held_none (λ x. sample (texels_seen c.args.texels.now) (pos (place_at c.args.at.now.u x c.args.piece.now.y)) (pos (place_at c.args.at.now.v x c.args.piece.now.y))) c.args.piece.now.first c.args.colors.now;
+  held = held_none (λ x. sample (texels_seen c.args.texels.now) (pos (place_at c.args.at.now.u x c.args.piece.now.y)) (pos (place_at c.args.at.now.v x c.args.piece.now.y))) c.args.piece.now.first c.texels_by_four.new.colors;
 }
 
 pub loop-x-preserved : goal.loop-x-preserved

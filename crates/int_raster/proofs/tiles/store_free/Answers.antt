@@ -24,7 +24,7 @@ loop-x-preserved c =
     record {
       low = omega (arith, i.low);
       many = put.many ∙ i.many;
-      done = free_more c.args.tile.now c.args.level.now c.args.draw.now c.args.setup.now c.args.span.now c.loop-x.x c.args.colors.now c.loop-x.colors c.put_words.new.texels
+      done = free_more c.args.draw.now c.args.setup.now c.args.span.now c.loop-x.x c.args.colors.now c.loop-x.colors c.put_words.new.texels c.args.tile.now c.args.level.now
           c.requires.level c.requires.tile i.low i.done put.many
           (λ j four less. put.bytes j four ∙ ap word_bytes (splat_lane c.args.tile.now.color j four))
           (λ j four more. absurd (omega (arith, four, more)))
@@ -36,7 +36,7 @@ returns-then-x-after c =
     let s = c.args.span.now in
     let i = c.loop-x.invariant in
     let put = c.store_first.ensures in
-    free_more c.args.tile.now c.args.level.now c.args.draw.now c.args.setup.now s c.loop-x.x c.args.colors.now c.loop-x.colors c.store_first.new.colors
+    free_more c.args.draw.now c.args.setup.now s c.loop-x.x c.args.colors.now c.loop-x.colors c.store_first.new.colors c.args.tile.now c.args.level.now
     c.requires.level c.requires.tile i.low i.done
     put.many put.stored put.rest put.others
     ∙ cut_behind (in_row s.start s.y (color_seen c.args.draw.now c.args.setup.now)) (s.start + s.first) (s.start + s.after) (s.start + (c.loop-x.x + 4)) c.args.colors.now (omega arith)

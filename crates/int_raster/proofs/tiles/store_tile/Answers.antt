@@ -23,7 +23,7 @@ loop-x-preserved c =
       low = omega (arith, i.low);
       many = c.store_four.ensures.many.0 ∙ i.many;
       deep = c.store_four.ensures.many.1 ∙ i.deep;
-      done = window_more c.args.tile.now c.args.level.now c.args.draw.now c.args.setup.now c.args.span.now c.loop-x.x c.args.colors.now c.args.depths.now c.loop-x.colors c.loop-x.depths c.store_four.new.colors c.store_four.new.depths
+      done = window_more c.args.draw.now c.args.setup.now c.args.span.now c.loop-x.x c.args.colors.now c.args.depths.now c.loop-x.colors c.loop-x.depths c.store_four.new.colors c.store_four.new.depths c.args.tile.now c.args.level.now
           c.requires.level c.requires.tile i.low (i.deep ∙ c.requires.same ∙ sym i.many) i.done
           c.store_four.ensures.many c.store_four.ensures.small
           (λ j four less. c.store_four.ensures.stored j four four)
@@ -36,7 +36,7 @@ returns-then-x-after c =
     let s = c.args.span.now in
     let i = c.loop-x.invariant in
     let stored = c.store_four-then-x-after.ensures in
-    window_more c.args.tile.now c.args.level.now c.args.draw.now c.args.setup.now s c.loop-x.x c.args.colors.now c.args.depths.now c.loop-x.colors c.loop-x.depths c.store_four-then-x-after.new.colors c.store_four-then-x-after.new.depths
+    window_more c.args.draw.now c.args.setup.now s c.loop-x.x c.args.colors.now c.args.depths.now c.loop-x.colors c.loop-x.depths c.store_four-then-x-after.new.colors c.store_four-then-x-after.new.depths c.args.tile.now c.args.level.now
     c.requires.level c.requires.tile i.low (i.deep ∙ c.requires.same ∙ sym i.many) i.done
     stored.many stored.small stored.stored stored.rest stored.others
     ∙ cut_behind (in_row s.start s.y (step_seen c.args.draw.now c.args.setup.now)) (s.start + s.first) (s.start + s.after) (s.start + (c.loop-x.x + 4)) (deep_pixels c.args.colors.now c.args.depths.now) (omega arith)

@@ -5,7 +5,7 @@ use Rattle.int_raster.specs.Places.{spanned, in_row}
 use Rattle.int_raster.specs.Seen.{color_seen}
 use Rattle.int_raster.proofs.Changes.{span_none}
 use Rattle.int_raster.proofs.Along.{color_more}
-use Rattle.int_raster.proofs.colors.store.Goals as goal
+use Rattle.int_raster.proofs.colors.color_each.Goals as goal
 
 pub loop-x-init : goal.loop-x-init
 loop-x-init g c =

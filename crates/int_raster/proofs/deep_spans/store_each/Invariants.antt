@@ -2,7 +2,7 @@ use Rattle.std.proofs.Common.{◌≡◌, ◌+◌}
 use Rattle.gfx_model.specs.Number.{map_from}
 use Rattle.int_raster.specs.Places.{deep_pixels, spanned, in_row}
 use Rattle.int_raster.specs.Seen.{step_seen}
-use Rattle.int_raster.proofs.deep_spans.store.Given as goal
+use Rattle.int_raster.proofs.deep_spans.store_each.Given as goal
 
 -- the pixels before the column are stepped
 abbrev pub invariant-loop-x : goal.invariant-loop-x

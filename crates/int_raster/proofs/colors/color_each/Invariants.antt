@@ -2,7 +2,7 @@ use Rattle.std.proofs.Common.{◌≡◌, ◌+◌}
 use Rattle.gfx_model.specs.Number.{map_from}
 use Rattle.int_raster.specs.Places.{spanned, in_row}
 use Rattle.int_raster.specs.Seen.{color_seen}
-use Rattle.int_raster.proofs.colors.store.Given as goal
+use Rattle.int_raster.proofs.colors.color_each.Given as goal
 
 -- the pixels before the column are stepped
 abbrev pub invariant-loop-x : goal.invariant-loop-x

@@ -5,7 +5,7 @@ use Rattle.int_raster.specs.Seen.{step_seen}
 use Rattle.int_raster.proofs.Changes.{span_none}
 use Rattle.int_raster.proofs.Along.{deep_more}
 use Rattle.int_raster.proofs.Tested.{deep_after}
-use Rattle.int_raster.proofs.deep_spans.store.Goals as goal
+use Rattle.int_raster.proofs.deep_spans.store_each.Goals as goal
 
 pub loop-x-init : goal.loop-x-init
 loop-x-init g c =

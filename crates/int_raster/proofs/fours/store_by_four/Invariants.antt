@@ -1,0 +1,18 @@
+use Rattle.std.proofs.Common.{◌≡◌, ◌≤◌, ◌+◌, ◌-◌, ◌%◌, length}
+use Rattle.gfx_model.specs.Number.{map_from}
+use Rattle.int_raster.specs.Places.{deep_pixels, spanned, in_row}
+use Rattle.int_raster.specs.Seen.{step_seen}
+use Rattle.int_raster.proofs.fours.store_by_four.Given as goal
+
+-- the pixels of the span before the column are stepped
+abbrev pub invariant-loop-x : goal.invariant-loop-x
+invariant-loop-x g l = record {
+  low : l.fn.span.first ≤ l.x;
+  fours : (l.x - l.fn.span.first) % 4 ≡ 0;
+  many : length l.colors ≡ length l.fn.colors;
+  deep : length l.depths ≡ length l.fn.depths;
+  done : deep_pixels l.colors l.depths ≡ map_from (spanned (spanned (in_row l.fn.span.start l.fn.span.y (step_seen l.fn.draw l.fn.setup)) 0 (l.fn.span.start + l.fn.span.after)) (l.fn.span.start + l.fn.span.first) (l.fn.span.start + l.x)) 0 (deep_pixels l.fn.colors l.fn.depths);
+}
+
+abbrev pub decreases-loop-x : goal.decreases-loop-x
+decreases-loop-x g l = l.fn.span.after - l.x
