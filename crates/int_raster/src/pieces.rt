@@ -1,6 +1,6 @@
 // The colours of a piece of a row, by a painter, and its depths, by a ramp. What is borrowed may change with each entry that is
 // stored, as far as a compiler can tell; so each loop copies it first. Four columns at a time where the list has room for them, else one.
-ghost use Rattle.std.specs.Prelude.{◌≡◌, ◌≤◌, ◌<◌, ◌+◌, ◌*◌, ◌/◌, ◌%◌, ◌^◌, ℕ, pos, [], ◌∷◌, length, slice_index, slice_index_or, IsTrue};
+ghost use Rattle.std.specs.Prelude.{◌≡◌, ◌≤◌, ◌<◌, ◌+◌, ◌-◌, ◌*◌, ◌/◌, ◌%◌, ◌^◌, ℕ, pos, [], ◌∷◌, length, slice_index, slice_index_or, IsTrue};
 ghost use Rattle.gfx_model.specs.Number.{zip_with, byte_product};
 ghost use Rattle.gfx_model.specs.Raster.{sample};
 ghost use Rattle.fix_math.specs.Seen.{texels_seen};
@@ -207,15 +207,23 @@ fn texture_piece(texels: &Texels, at: &Place, piece: &Span, colors: &mut [[u8; 4
     }
 }
 
-/// The products of the first colours of a list, so many times four, with those of another one.
-fn multiply_fours(colors: &mut [[u8; 4]], shades: &[[u8; 4]], fours: usize)
-    requires room { 4 * fours ≤ length colors.old }
-    requires shades { 4 * fours ≤ length shades.now }
-    ensures { (k : ℕ) → k < 4 * fours → slice_index_or colors.new k [] ≡ zip_with byte_product (slice_index_or colors.old k []) (slice_index_or shades.now k []) }
+/// The products of a list's colours and of the vertices', four columns at a time.
+fn tint_by_four(shade: &Shade, piece: &Span, colors: &mut [[u8; 4]])
+    requires room { piece.now.after ≤ piece.now.first + length colors.old }
+    requires whole { length colors.old % 4 ≡ 0 }
+    ensures { (x : ℕ) → piece.now.first ≤ x → x < piece.now.after → slice_index_or colors.new (x - piece.now.first) [] ≡ zip_with byte_product (slice_index_or colors.old (x - piece.now.first) []) (shade_at shade.now x piece.now.y) }
 {
+    let (shade, piece) = (*shade, *piece);
+    let fours = ((piece.after - piece.first) as usize + 3) / 4;
+    let by = tint_gain(&shade);
+    let mut a = tint_at(&shade, piece.first, piece.y);
     for i in 0..fours {
-        let four = four_products(words_of(colors, 4 * i), words_of(shades, 4 * i));
+        let b = tint_on(a, by);
+        let c = tint_on(b, by);
+        let d = tint_on(c, by);
+        let four = four_products(words_of(colors, 4 * i), four_shades(a, b, c, d));
         put_words(colors, 4 * i, four);
+        a = tint_on(d, by);
     }
 }
 
@@ -223,14 +231,10 @@ fn multiply_fours(colors: &mut [[u8; 4]], shades: &[[u8; 4]], fours: usize)
 fn product_piece(texels: &Texels, at: &Place, shade: &Shade, piece: &Span, colors: &mut [[u8; 4]])
     requires room { piece.now.after ≤ piece.now.first + length colors.old }
     requires whole { length colors.old % 4 ≡ 0 }
-    requires short { piece.now.after ≤ piece.now.first + 32 }
     ensures { HoldsPiece colors.new (λ x. zip_with byte_product (sample (texels_seen texels.now) (pos (place_at at.now.u x piece.now.y)) (pos (place_at at.now.v x piece.now.y))) (shade_at shade.now x piece.now.y)) piece.now.first piece.now.after }
 {
-    let mut shades = [[0; 4]; 32];
     texture_piece(texels, at, piece, colors);
-    shade_piece(shade, piece, &mut shades);
-    let fours = ((piece.after - piece.first) as usize + 3) / 4;
-    multiply_fours(colors, &shades, fours);
+    tint_by_four(shade, piece, colors);
 }
 
 /// One colour.
@@ -248,7 +252,6 @@ fn solid_piece(color: [u8; 4], piece: &Span, colors: &mut [[u8; 4]])
 pub(crate) fn paint_piece(painter: &Painter, piece: &Span, colors: &mut [[u8; 4]])
     requires room { piece.now.after ≤ piece.now.first + length colors.old }
     requires whole { length colors.old % 4 ≡ 0 }
-    requires short { piece.now.after ≤ piece.now.first + 32 }
     ensures { HoldsPiece colors.new (λ x. painter_color painter.now x piece.now.y) piece.now.first piece.now.after }
 {
     match painter {
