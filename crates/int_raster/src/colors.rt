@@ -128,7 +128,37 @@ fn store_piece(
     }
 }
 
-/// Draws a span with a painter, piece by piece.
+/// Draws a span with a painter in pieces of at most as many columns as a list has places for their colours.
+fn pieces_with(
+    colors: &mut [[u8; 4]],
+    paints: &mut [[u8; 4]],
+    span: &Span,
+    painter: &Painter,
+    opaque: bool,
+    blending: &Blending,
+    setup: &Setup,
+    draw: &Prepared,
+)
+    requires some { 0 < length paints.old }
+    requires few { length paints.old ≤ 256 }
+    requires whole { length paints.old % 4 ≡ 0 }
+    requires inside { span.now.start + span.now.after ≤ length colors.old }
+    requires opaque { IsTrue opaque → IsOpaque draw.now.state }
+    requires blending { IsBlending blending.now draw.now.state }
+    requires paints { PaintsSpan painter.now draw.now setup.now span.now.y span.now.first span.now.after }
+    ensures { colors.new ≡ map_from (spanned (in_row span.now.start span.now.y (color_seen draw.now setup.now)) (span.now.start + span.now.first) (span.now.start + span.now.after)) 0 colors.old }
+{
+    let most = paints.len() as u16;
+    let mut first = span.first;
+    while first < span.after {
+        let piece = span.piece(first, most);
+        paint_piece(painter, &piece, paints);
+        store_piece(colors, &piece, paints, opaque, blending, setup, draw);
+        first = piece.after;
+    }
+}
+
+/// Draws a span with a painter, piece by piece: with a list of 16, 64 or 256 places by its length.
 fn in_pieces(
     colors: &mut [[u8; 4]],
     span: &Span,
@@ -144,13 +174,43 @@ fn in_pieces(
     requires paints { PaintsSpan painter.now draw.now setup.now span.now.y span.now.first span.now.after }
     ensures { colors.new ≡ map_from (spanned (in_row span.now.start span.now.y (color_seen draw.now setup.now)) (span.now.start + span.now.first) (span.now.start + span.now.after)) 0 colors.old }
 {
-    let mut paints = [[0; 4]; 32];
-    let mut first = span.first;
-    while first < span.after {
-        let piece = span.piece(first);
-        paint_piece(painter, &piece, &mut paints);
-        store_piece(colors, &piece, &paints, opaque, blending, setup, draw);
-        first = piece.after;
+    let count = span.after - span.first;
+    if count <= 16 {
+        let mut paints = [[0; 4]; 16];
+        pieces_with(
+            colors,
+            &mut paints,
+            span,
+            painter,
+            opaque,
+            blending,
+            setup,
+            draw,
+        );
+    } else if count <= 64 {
+        let mut paints = [[0; 4]; 64];
+        pieces_with(
+            colors,
+            &mut paints,
+            span,
+            painter,
+            opaque,
+            blending,
+            setup,
+            draw,
+        );
+    } else {
+        let mut paints = [[0; 4]; 256];
+        pieces_with(
+            colors,
+            &mut paints,
+            span,
+            painter,
+            opaque,
+            blending,
+            setup,
+            draw,
+        );
     }
 }
 

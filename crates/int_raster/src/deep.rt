@@ -98,7 +98,45 @@ fn store_piece(
     }
 }
 
-/// Draws a span with a brush, piece by piece.
+/// Draws a span with a brush in pieces of at most as many columns as each of two lists has places, for their colours and their depths.
+fn pieces_with(
+    colors: &mut [[u8; 4]],
+    depths: &mut [[u8; 4]],
+    paints: &mut [[u8; 4]],
+    news: &mut [u32],
+    span: &Span,
+    brush: &Brush,
+    rule: &Option<Rule>,
+    mixing: &Option<Mix>,
+    setup: &Setup,
+    draw: &Prepared,
+)
+    requires some { 0 < length paints.old }
+    requires few { length paints.old ≤ 256 }
+    requires whole { length paints.old % 4 ≡ 0 }
+    requires news { length news.old ≡ length paints.old }
+    requires inside { span.now.start + span.now.after ≤ length colors.old }
+    requires same { length depths.old ≡ length colors.old }
+    requires paints { PaintsSpan brush.now.painter draw.now setup.now span.now.y span.now.first span.now.after }
+    requires depths { HasWideSpanDepths brush.now.depth setup.now span.now.y span.now.first span.now.after }
+    requires rule { IfSome rule.now (λ r. IsPlain r draw.now setup.now) }
+    requires mixing { IfSome mixing.now (λ m. IsMix m draw.now setup.now) }
+    ensures { deep_pixels colors.new depths.new ≡ map_from (spanned (in_row span.now.start span.now.y (step_seen draw.now setup.now)) (span.now.start + span.now.first) (span.now.start + span.now.after)) 0 (deep_pixels colors.old depths.old) }
+{
+    let most = paints.len() as u16;
+    let mut first = span.first;
+    while first < span.after {
+        let piece = span.piece(first, most);
+        paint_piece(&brush.painter, &piece, paints);
+        depth_piece(&brush.depth, &piece, news);
+        store_piece(
+            colors, depths, &piece, paints, news, rule, mixing, setup, draw,
+        );
+        first = piece.after;
+    }
+}
+
+/// Draws a span with a brush, piece by piece: with lists of 16, 64 or 256 places by its length.
 fn in_pieces(
     colors: &mut [[u8; 4]],
     depths: &mut [[u8; 4]],
@@ -117,17 +155,52 @@ fn in_pieces(
     requires mixing { IfSome mixing.now (λ m. IsMix m draw.now setup.now) }
     ensures { deep_pixels colors.new depths.new ≡ map_from (spanned (in_row span.now.start span.now.y (step_seen draw.now setup.now)) (span.now.start + span.now.first) (span.now.start + span.now.after)) 0 (deep_pixels colors.old depths.old) }
 {
-    let mut paints = [[0; 4]; 32];
-    let mut news = [0; 32];
-    let mut first = span.first;
-    while first < span.after {
-        let piece = span.piece(first);
-        paint_piece(&brush.painter, &piece, &mut paints);
-        depth_piece(&brush.depth, &piece, &mut news);
-        store_piece(
-            colors, depths, &piece, &paints, &news, rule, mixing, setup, draw,
+    let count = span.after - span.first;
+    if count <= 16 {
+        let mut paints = [[0; 4]; 16];
+        let mut news = [0; 16];
+        pieces_with(
+            colors,
+            depths,
+            &mut paints,
+            &mut news,
+            span,
+            brush,
+            rule,
+            mixing,
+            setup,
+            draw,
         );
-        first = piece.after;
+    } else if count <= 64 {
+        let mut paints = [[0; 4]; 64];
+        let mut news = [0; 64];
+        pieces_with(
+            colors,
+            depths,
+            &mut paints,
+            &mut news,
+            span,
+            brush,
+            rule,
+            mixing,
+            setup,
+            draw,
+        );
+    } else {
+        let mut paints = [[0; 4]; 256];
+        let mut news = [0; 256];
+        pieces_with(
+            colors,
+            depths,
+            &mut paints,
+            &mut news,
+            span,
+            brush,
+            rule,
+            mixing,
+            setup,
+            draw,
+        );
     }
 }
 

@@ -12,18 +12,19 @@ pub(crate) struct Span {
 }
 
 impl Span {
-    /// The piece of at most 32 columns from a column on.
-    pub fn piece(&self, first: u16) -> Span
-        requires { first ≤ self.now.after }
+    /// The piece of at most so many columns from a column on.
+    pub fn piece(&self, first: u16, most: u16) -> Span
+        requires within { first ≤ self.now.after }
+        requires most { 0 < most }
         ensures row { (result.start ≡ self.now.start) × (result.y ≡ self.now.y) × (result.first ≡ first) }
         ensures within { result.after ≤ self.now.after }
-        ensures short { result.after ≤ first + 32 }
+        ensures short { result.after ≤ first + most }
         ensures some { first < self.now.after → first < result.after }
     {
-        let after = if self.after - first < 32 {
+        let after = if self.after - first < most {
             self.after
         } else {
-            first + 32
+            first + most
         };
         Span {
             start: self.start,

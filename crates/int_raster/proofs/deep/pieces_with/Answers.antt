@@ -3,7 +3,7 @@ use Rattle.gfx_model.specs.Number.{map_from}
 use Rattle.int_raster.specs.Places.{deep_pixels, spanned, in_row}
 use Rattle.int_raster.specs.Seen.{step_seen}
 use Rattle.int_raster.proofs.Changes.{span_none, spans_joined}
-use Rattle.int_raster.proofs.deep.in_pieces.Goals as goal
+use Rattle.int_raster.proofs.deep.pieces_with.Goals as goal
 
 pub loop-first-init : goal.loop-first-init
 loop-first-init c = record {
