@@ -9,6 +9,9 @@ use Rattle.gfx_model.specs.Vertex.{Color}
 use Rattle.tri_cover.specs.declared.ramps.WideRamp.{WideRamp}
 use Rattle.tri_cover.specs.Widened.{wide_at, wide_whole}
 use Rattle.int_raster.specs.Painted.{place_at, HoldsDepths, AreDepths}
+use Rattle.int_raster.specs.declared.painters.Place.{Place}
+use Rattle.int_raster.specs.Placed.{middle, AreBits}
+use Rattle.int_raster.proofs.Ramped.{wide_more}
 use Rattle.int_raster.proofs.Vectors.{below_two, below_four}
 use Rattle.int_raster.proofs.Windows.{not_within_low}
 use mathlib.Core.Logic.{inl, inr}
@@ -50,10 +53,6 @@ depth_is w d k n by e f h l =
     let c = carry (2 ^ 64) w d k in
     let sum : (w + k * d) / 2 ^ 64 ≡ n + k * by + c = upper_is (2 ^ 64) w d k (omega arith) ∙ (λ i. e i + k * f i + c) in
     sym (halves_of_all (w + k * d) ∙ ap (λ z. z % 2 ^ 64 / 2 ^ 40) sum ∙ depth_stays (n + k * by) c (omega (arith, few, h)) l)
-
--- the bits of a texture position that are stepped
-abbrev pub middle : ℕ → ℕ
-middle n = n / 2 ^ 56 % 2 ^ 64
 
 -- a carry that stays behind the point of a position
 place_stays : (m c : ℕ) → c < 2 ^ 16 → m % 2 ^ 64 / 2 ^ 32 % 2 ^ 16 < 65535 → (m + c) % 2 ^ 64 / 2 ^ 48 ≡ m % 2 ^ 64 / 2 ^ 48
@@ -230,3 +229,31 @@ below_all most h =
     let h2 = h 2 (omega arith) in
     let h3 = h 3 (omega arith) in
     omega (arith, h0, h1, h2, h3)
+
+-- ---- positions that gain no lower bits
+
+bits_sum : (w d : ℕ) → d % 2 ^ 56 ≡ 0 → (middle w + middle d) % 2 ^ 64 ≡ middle ((w + d) % 2 ^ 128)
+bits_sum w d h = omega (arith, h)
+
+-- the bits of a position one column on
+pub bits_more : (r : WideRamp) (x y at step : ℕ) → at ≡ middle (wide_at r x y) → step ≡ middle r.right → r.right % 2 ^ 56 ≡ 0 → (at + step) % 2 ^ 64 ≡ middle (wide_at r (x + 1) y)
+bits_more r x y at step e s h = (λ i. (e i + s i) % 2 ^ 64) ∙ bits_sum (wide_at r x y) r.right h ∙ ap middle (wide_more r x y (wide_at r x y) refl)
+
+-- the position by its bits
+pub bits_place : (r : WideRamp) (x y at : ℕ) → at ≡ middle (wide_at r x y) → at / 2 ^ 48 ≡ place_at r x y
+bits_place r x y at e = ap (λ n. n / 2 ^ 48) e ∙ placed (r.start + x * r.right + y * r.down)
+  where
+    placed : (n : ℕ) → n % 2 ^ 128 / 2 ^ 56 % 2 ^ 64 / 2 ^ 48 ≡ n % 2 ^ 128 / 2 ^ 104 % 65536
+    placed n = omega arith
+
+-- the same column by another sum
+pub bits_as : (p : Place) (y : ℕ) (two : List ℕ) (m n : ℕ) → m ≡ n → AreBits two p m y → AreBits two p n y
+bits_as p y two m n e = subst (λ k. AreBits two p k y) e
+
+-- the texel of a lane by the bits of its positions
+pub bits_texel : (t : Texels) (p : Place) (x y : ℕ) (two : List ℕ) (word : Color) (u v : ℕ) → AreBits two p x y → word ≡ sample t (pos (u / 2 ^ 16)) (pos (v / 2 ^ 16))
+    → u ≡ slice_index two 0 / 2 ^ 32 → v ≡ slice_index two 1 / 2 ^ 32 → word ≡ sample t (pos (place_at p.u x y)) (pos (place_at p.v x y))
+bits_texel t p x y two word u v at e hu hv =
+    let column = bits_place p.u x y (slice_index two 0) at.u in
+    let row = bits_place p.v x y (slice_index two 1) at.v in
+    lane_texel t word u v (slice_index two 0) (slice_index two 1) (slice_index two 0) (slice_index two 1) e hu hv refl refl ∙ (λ i. sample t (pos (column i)) (pos (row i)))

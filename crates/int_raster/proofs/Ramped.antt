@@ -1,10 +1,12 @@
 -- A ramp one column on.
-use Rattle.std.proofs.Common.{◌≡◌, ℕ, ◌+◌, ◌*◌, ◌/◌, ◌%◌, ◌^◌, ◌<◌, [], ◌∷◌, slice_index, refl, ap, ◌∙◌, arith}
+use Rattle.std.proofs.Common.{◌≡◌, ℕ, ◌+◌, ◌*◌, ◌/◌, ◌%◌, ◌^◌, ◌<◌, ◌≤◌, [], ◌∷◌, slice_index, refl, ap, subst, ◌∙◌, arith}
 use Rattle.tri_cover.specs.declared.ramps.Ramp.{Ramp}
 use Rattle.tri_cover.specs.declared.ramps.WideRamp.{WideRamp}
 use Rattle.gfx_model.specs.Vertex.{Color}
 use Rattle.int_raster.specs.declared.painters.Shade.{Shade}
-use Rattle.int_raster.specs.Painted.{shade_at}
+use Rattle.int_raster.specs.declared.pieces.Tint.{Tint}
+use Rattle.int_raster.specs.Painted.{depth_at, shade_at}
+use Rattle.int_raster.specs.Tinted.{IsTint}
 use Rattle.tri_cover.specs.Slope.{ramp_at}
 use Rattle.tri_cover.specs.Widened.{wide_at, wide_whole}
 
@@ -55,3 +57,24 @@ lanes_shade s x y texel channels a b c d e ha hb hc hd h =
     let blue = channel_lane s.blue x y c (slice_index channels 2) hc (ap (λ l. slice_index l 2) h) in
     let alpha = channel_lane s.alpha x y d (slice_index channels 3) hd (ap (λ l. slice_index l 3) h) in
     e ∙ (λ i. red i ∷ green i ∷ blue i ∷ alpha i ∷ [])
+
+next_four : (s x r d : ℕ) → ((s + x * r + d) % 2 ^ 64 + r * 4 % 2 ^ 64) % 2 ^ 64 ≡ (s + (x + 4) * r + d) % 2 ^ 64
+next_four s x r d = omega arith
+
+-- a ramp four columns on
+pub ramp_four : (r : Ramp) (x y : ℕ) → (ramp_at r x y + r.right * 4 % 2 ^ 64) % 2 ^ 64 ≡ ramp_at r (x + 4) y
+ramp_four r x y = next_four r.start x r.right (y * r.down)
+
+-- depths have 24 bits
+pub few_depths : (r : Ramp) (x y n : ℕ) → n ≡ depth_at r x y → n ≤ 16777215
+few_depths r x y n e = omega (arith, e)
+
+-- the channels' values two, three and four columns on
+pub two_columns : (s : Shade) (x y : ℕ) (t : Tint) → IsTint t s (x + 1 + 1) y → IsTint t s (x + 2) y
+two_columns s x y t = subst (λ n. IsTint t s n y) (omega arith)
+
+pub three_columns : (s : Shade) (x y : ℕ) (t : Tint) → IsTint t s (x + 2 + 1) y → IsTint t s (x + 3) y
+three_columns s x y t = subst (λ n. IsTint t s n y) (omega arith)
+
+pub four_columns : (s : Shade) (x y : ℕ) (t : Tint) → IsTint t s (x + 3 + 1) y → IsTint t s (x + 4) y
+four_columns s x y t = subst (λ n. IsTint t s n y) (omega arith)

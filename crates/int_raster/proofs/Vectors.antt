@@ -31,6 +31,10 @@ below_two P p0 p1 zero h = p0
 below_two P p0 p1 (suc zero) h = p1
 below_two P p0 p1 (suc (suc n)) h = absurd (omega arith)
 
+-- each lane of one number
+pub splat_two : (n j : ℕ) → j < 2 → slice_index (n ∷ n ∷ []) j ≡ n
+splat_two n = below_two (λ j. slice_index (n ∷ n ∷ []) j ≡ n) refl refl
+
 -- each lane of words that are shifted down
 pub shifted : (n : ℕ) (words : List ℕ) → length words ≡ 4 → (j : ℕ) → j < 4 → slice_index (zip2 (λ x y. x / 2 ^ y) words (n ∷ n ∷ n ∷ n ∷ [])) j ≡ slice_index words j / 2 ^ n
 shifted n = four_lanes (λ words. (j : ℕ) → j < 4 → slice_index (zip2 (λ x y. x / 2 ^ y) words (n ∷ n ∷ n ∷ n ∷ [])) j ≡ slice_index words j / 2 ^ n) (λ a b c d. below_four _ refl refl refl refl)

@@ -4,6 +4,8 @@ pub mod Places
 pub mod Painted
 pub mod Tiled
 pub mod Tinted
+pub mod Deepened
+pub mod Placed
 pub mod Rules
 pub mod Wiping
 pub mod Bands

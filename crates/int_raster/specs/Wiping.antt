@@ -1,5 +1,5 @@
 -- Rectangles of a surface that are cleared before its draws.
-use Rattle.std.specs.Prelude.{ℕ, if◌then◌else◌, List, map}
+use Rattle.std.specs.Prelude.{ℕ, List, map}
 use Rattle.gfx_model.specs.Number.{u32_at}
 use Rattle.gfx_model.specs.Vertex.{Color}
 use Rattle.gfx_model.specs.Raster.{Rect, contains}

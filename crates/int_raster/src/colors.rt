@@ -21,6 +21,7 @@ use crate::pieces::paint_piece;
 use crate::rows::Rows;
 use crate::spans::Span;
 use crate::stores::{Laid, Opaque, Store};
+use crate::textured::{goes_by_four, texture_by_four};
 use pixel_ops::{Blending, Pixel};
 use tri_cover::Setup;
 
@@ -234,6 +235,13 @@ fn paint(
         match painter {
             Painter::Solid(color) => fill(colors, span, *color, setup, draw),
             Painter::Vertex(shade) => store_shade(colors, span, shade, setup, draw),
+            Painter::Texture(texels, at) => {
+                if goes_by_four(colors, span, at) {
+                    texture_by_four(colors, span, texels, at, setup, draw);
+                } else {
+                    in_pieces(colors, span, painter, opaque, blending, setup, draw);
+                }
+            }
             _ => in_pieces(colors, span, painter, opaque, blending, setup, draw),
         }
     } else {

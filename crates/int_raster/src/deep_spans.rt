@@ -9,6 +9,7 @@ ghost use Rattle.int_raster.specs.Painted.{shade_at, HoldsPiece, HoldsDepths, Ar
 ghost use Rattle.int_raster.specs.Rules.{IsLevel, IsPlain, IsRule};
 ghost use Rattle.int_raster.specs.Seen.{facing_seen, paint_seen, step_seen};
 
+use crate::gradients::{fill_by_four, shade_by_four};
 use crate::lists::Prepared;
 use crate::opaque::{Level, Rule, stored_after};
 use crate::painters::{Shade, value_at};
@@ -17,10 +18,6 @@ use crate::spans::Span;
 use crate::stores::{Opaque, Store};
 use pixel_ops::Pixel;
 use tri_cover::{Ramp, Setup};
-
-/// From so many columns on it pays to copy what does not change along a span. What is borrowed may change with each pixel
-/// that is stored, as far as a compiler can tell, so it is read again for each.
-const LONG: u16 = 16;
 
 /// The depth word of a depth texel.
 fn depth_word(texel: [u8; 4]) -> u32
@@ -138,9 +135,8 @@ pub(crate) fn store_level(
     }
 }
 
-/// Stores one colour in a span where its depth passes.
-#[inline(always)]
-fn fill_by(
+/// Stores one colour in a span where its depth passes, pixel by pixel.
+fn fill_each(
     colors: &mut [[u8; 4]],
     depths: &mut [[u8; 4]],
     span: &Span,
@@ -170,7 +166,7 @@ fn fill_by(
     }
 }
 
-/// Stores one colour in a span where its depth passes.
+/// Stores one colour in a span where its depth passes: in windows, and near the end of the lists pixel by pixel.
 pub(crate) fn fill(
     colors: &mut [[u8; 4]],
     depths: &mut [[u8; 4]],
@@ -188,17 +184,15 @@ pub(crate) fn fill(
     requires depths { HasSpanDepths depth.now setup.now span.now.y span.now.first span.now.after }
     ensures { deep_pixels colors.new depths.new ≡ map_from (spanned (in_row span.now.start span.now.y (step_seen draw.now setup.now)) (span.now.start + span.now.first) (span.now.start + span.now.after)) 0 (deep_pixels colors.old depths.old) }
 {
-    if span.after - span.first < LONG {
-        fill_by(colors, depths, span, color, depth, rule, setup, draw);
+    if colors.len() - (span.start + span.after as usize) < 3 {
+        fill_each(colors, depths, span, color, depth, rule, setup, draw);
     } else {
-        let (depth, rule) = (*depth, *rule);
-        fill_by(colors, depths, span, color, &depth, &rule, setup, draw);
+        fill_by_four(colors, depths, span, color, depth, rule, setup, draw);
     }
 }
 
-/// Stores the vertices' colours in a span where their depths pass.
-#[inline(always)]
-fn store_shade_by(
+/// Stores the vertices' colours in a span where their depths pass, pixel by pixel.
+fn shade_each(
     colors: &mut [[u8; 4]],
     depths: &mut [[u8; 4]],
     span: &Span,
@@ -242,7 +236,7 @@ fn store_shade_by(
     }
 }
 
-/// Stores the vertices' colours in a span where their depths pass.
+/// Stores the vertices' colours in a span where their depths pass: in windows, and near the end of the lists pixel by pixel.
 pub(crate) fn store_shade(
     colors: &mut [[u8; 4]],
     depths: &mut [[u8; 4]],
@@ -260,11 +254,10 @@ pub(crate) fn store_shade(
     requires depths { HasSpanDepths depth.now setup.now span.now.y span.now.first span.now.after }
     ensures { deep_pixels colors.new depths.new ≡ map_from (spanned (in_row span.now.start span.now.y (step_seen draw.now setup.now)) (span.now.start + span.now.first) (span.now.start + span.now.after)) 0 (deep_pixels colors.old depths.old) }
 {
-    if span.after - span.first < LONG {
-        store_shade_by(colors, depths, span, shade, depth, rule, setup, draw);
+    if colors.len() - (span.start + span.after as usize) < 3 {
+        shade_each(colors, depths, span, shade, depth, rule, setup, draw);
     } else {
-        let (shade, depth, rule) = (*shade, *depth, *rule);
-        store_shade_by(colors, depths, span, &shade, &depth, &rule, setup, draw);
+        shade_by_four(colors, depths, span, shade, depth, rule, setup, draw);
     }
 }
 

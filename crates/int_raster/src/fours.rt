@@ -24,9 +24,9 @@ use tri_cover::Setup;
 
 /// Four fragments: their colours as words, and their depths.
 #[derive(Clone, Copy)]
-struct Four {
-    colors: u32x4,
-    depths: u32x4,
+pub(crate) struct Four {
+    pub colors: u32x4,
+    pub depths: u32x4,
 }
 
 /// Four fragments of a piece from a place of its lists on.
@@ -45,7 +45,13 @@ fn four_at(paints: &[[u8; 4]], news: &[u32], from: usize) -> Four
 
 /// Stores the first ones of four colours over those at four places.
 #[inline(always)]
-fn store_colors<S: Store>(colors: &mut [[u8; 4]], at: usize, left: u32, new: u32x4, store: &S)
+pub(crate) fn store_colors<S: Store>(
+    colors: &mut [[u8; 4]],
+    at: usize,
+    left: u32,
+    new: u32x4,
+    store: &S,
+)
     requires inside { at + 4 ≤ length colors.old }
     ensures many { length colors.new ≡ length colors.old }
     ensures stored { (state j : ℕ) → S.meets store.now state → j < 4 → j < left → slice_index_or colors.new (at + j) [] ≡ stored_color state (word_bytes (slice_index new j)) (slice_index_or colors.old (at + j) []) }
@@ -166,7 +172,7 @@ fn put_depths(
 
 /// Stores the first ones of four fragments at four places, where their depths pass.
 #[inline(always)]
-fn store_four<S: Store>(
+pub(crate) fn store_four<S: Store>(
     colors: &mut [[u8; 4]],
     depths: &mut [[u8; 4]],
     at: usize,

@@ -34,13 +34,13 @@ fn unit_part(value: u128) -> u32
 
 /// The values of the four channels' ramps at a pixel: red and green, blue and alpha.
 #[derive(Clone, Copy)]
-struct Tint {
+pub(crate) struct Tint {
     front: u64x2,
     back: u64x2,
 }
 
 /// The channels' values at a pixel.
-fn tint_at(shade: &Shade, x: u16, y: u16) -> Tint
+pub(crate) fn tint_at(shade: &Shade, x: u16, y: u16) -> Tint
     ensures { IsTint result shade.now x y }
 {
     let (red, green) = (value_at(&shade.red, x, y), value_at(&shade.green, x, y));
@@ -53,7 +53,7 @@ fn tint_at(shade: &Shade, x: u16, y: u16) -> Tint
 
 /// What the channels' values gain in a column.
 #[inline(always)]
-fn tint_gain(shade: &Shade) -> Tint
+pub(crate) fn tint_gain(shade: &Shade) -> Tint
     ensures { IsTintGain result shade.now }
 {
     Tint {
@@ -91,6 +91,18 @@ fn four_shades(a: Tint, b: Tint, c: Tint, d: Tint) -> u32x4
     lowest_bytes(front, back)
 }
 
+/// The colours of a pixel and the three behind it, as words, and the channels' values behind these.
+#[inline(always)]
+pub(crate) fn shades_on(at: Tint, by: Tint) -> (u32x4, Tint)
+    ensures colors { (s : Shade) (x y j : ℕ) → IsTint at s x y → IsTintGain by s → j < 4 → word_bytes (slice_index result.0 j) ≡ shade_at s (x + j) y }
+    ensures next { (s : Shade) (x y : ℕ) → IsTint at s x y → IsTintGain by s → IsTint result.1 s (x + 4) y }
+{
+    let b = tint_on(at, by);
+    let c = tint_on(b, by);
+    let d = tint_on(c, by);
+    (four_shades(at, b, c, d), tint_on(d, by))
+}
+
 /// The vertices' colours, four columns at a time: whether the list has room for the last four.
 fn shades_by_four(shade: &Shade, piece: &Span, colors: &mut [[u8; 4]]) -> bool
     ensures { IsTrue result → HoldsPiece colors.new (λ x. shade_at shade.now x piece.now.y) piece.now.first piece.now.after }
@@ -101,13 +113,11 @@ fn shades_by_four(shade: &Shade, piece: &Span, colors: &mut [[u8; 4]]) -> bool
         return false;
     }
     let by = tint_gain(&shade);
-    let mut a = tint_at(&shade, piece.first, piece.y);
+    let mut at = tint_at(&shade, piece.first, piece.y);
     for i in 0..fours {
-        let b = tint_on(a, by);
-        let c = tint_on(b, by);
-        let d = tint_on(c, by);
-        put_words(colors, 4 * i, four_shades(a, b, c, d));
-        a = tint_on(d, by);
+        let (four, next) = shades_on(at, by);
+        put_words(colors, 4 * i, four);
+        at = next;
     }
     true
 }
@@ -142,7 +152,7 @@ fn shade_piece(shade: &Shade, piece: &Span, colors: &mut [[u8; 4]])
 
 /// The bits of a texture position that are stepped: its 16 bits within one unit, and 48 behind the point.
 #[inline(always)]
-fn middle_bits(value: u128) -> u64
+pub(crate) fn middle_bits(value: u128) -> u64
     ensures { result ≡ value / 2 ^ 56 % 2 ^ 64 }
 {
     ((value >> 56) % (1 << 64)) as u64
@@ -216,14 +226,15 @@ fn tint_by_four(shade: &Shade, piece: &Span, colors: &mut [[u8; 4]])
     let (shade, piece) = (*shade, *piece);
     let fours = ((piece.after - piece.first) as usize + 3) / 4;
     let by = tint_gain(&shade);
-    let mut a = tint_at(&shade, piece.first, piece.y);
+    let mut at = tint_at(&shade, piece.first, piece.y);
     for i in 0..fours {
-        let b = tint_on(a, by);
-        let c = tint_on(b, by);
-        let d = tint_on(c, by);
-        let four = four_products(words_of(colors, 4 * i), four_shades(a, b, c, d));
-        put_words(colors, 4 * i, four);
-        a = tint_on(d, by);
+        let (shades, next) = shades_on(at, by);
+        put_words(
+            colors,
+            4 * i,
+            four_products(words_of(colors, 4 * i), shades),
+        );
+        at = next;
     }
 }
 
@@ -292,7 +303,7 @@ fn sum_of_halves(high: u64, low: u64, by_high: u64, by_low: u64) -> (u64, u64)
 
 /// The depths of four values that have 24 bits before the point.
 #[inline(always)]
-fn four_depths(front: u64x2, back: u64x2) -> u32x4
+pub(crate) fn four_depths(front: u64x2, back: u64x2) -> u32x4
     ensures front { (j : ℕ) → j < 2 → slice_index result j ≡ slice_index front j / 2 ^ 40 }
     ensures back { (j : ℕ) → j < 2 → slice_index result (2 + j) ≡ slice_index back j / 2 ^ 40 }
 {

@@ -1,4 +1,4 @@
-use Rattle.std.proofs.Common.{◌≡◌, ◌+◌, ◌-◌, [], slice_index, slice_index_or, refl, ap, ◌∙◌, arith}
+use Rattle.std.proofs.Common.{◌≡◌, ◌+◌, ◌-◌, [], slice_index_or, refl, ap, ◌∙◌, arith}
 use Rattle.gfx_model.specs.Pixel.{stored_color}
 use Rattle.int_raster.specs.Places.{spanned, in_row}
 use Rattle.int_raster.specs.Seen.{color_seen}

@@ -1,4 +1,4 @@
-use Rattle.std.proofs.Common.{◌+◌, [], slice_index, slice_index_or, if◌then◌else◌, ap, ◌∙◌}
+use Rattle.std.proofs.Common.{slice_index, if◌then◌else◌, ap, ◌∙◌}
 use Rattle.std.proofs.lemmas.Bool.{lt-ltb}
 use Rattle.gfx_model.specs.Pixel.{stored_color}
 use Rattle.int_raster.specs.Tiled.{word_bytes}

@@ -1,6 +1,5 @@
-use Rattle.std.proofs.Common.{rules, ◌≡◌, ◌-◌, ◌<◌, slice_index, ap, arith, ◌∙◌}
+use Rattle.std.proofs.Common.{rules, slice_index, ap, arith, ◌∙◌}
 use Rattle.gfx_model.specs.Number.{byte_product}
-use Rattle.pixel_ops.specs.Blended.{over_byte}
 use Rattle.pixel_ops.proofs.Pairs.{over_few}
 use Rattle.int_raster.proofs.Eights.{left_of_255, sum_of_two}
 use Rattle.int_raster.proofs.overlays.over_parts.Goals as goal

@@ -1,4 +1,4 @@
-use Rattle.std.proofs.Common.{rules, ◌≡◌, ◌≤◌, ◌+◌, ◌-◌, ◌*◌, ◌++◌, length, take, flat_map, ℕ, ◌<◌, List, [], ◌∷◌, slice_index_or, ap, sym, arith, ◌∙◌}
+use Rattle.std.proofs.Common.{take, ap, sym, arith, ◌∙◌}
 use Rattle.int_raster.proofs.FourPixels.{three_each}
 use Rattle.int_raster.proofs.texts.write_four.Goals as goal
 

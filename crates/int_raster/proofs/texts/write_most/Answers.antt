@@ -1,4 +1,4 @@
-use Rattle.std.proofs.Common.{rules, ◌≡◌, ◌≤◌, ◌+◌, ◌-◌, ◌*◌, ◌++◌, length, take, flat_map, ℕ, ◌<◌, List, [], ◌∷◌, slice_index_or, ap, sym, arith, ◌∙◌}
+use Rattle.std.proofs.Common.{arith}
 use Rattle.int_raster.proofs.FourPixels.{next_four}
 use Rattle.int_raster.proofs.texts.write_most.Goals as goal
 

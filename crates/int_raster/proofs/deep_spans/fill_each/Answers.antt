@@ -1,21 +1,15 @@
-use Rattle.std.proofs.Common.{◌≡◌, ◌<◌, ◌+◌, ◌/◌, ◌^◌, [], ◌∷◌, slice_index_or, arith, ap, ◌∙◌}
+use Rattle.std.proofs.Common.{◌≡◌, ◌<◌, ◌+◌, ◌/◌, ◌^◌, [], slice_index_or, arith, ap, ◌∙◌}
 use Rattle.gfx_model.specs.Number.{map_from}
-use Rattle.gfx_model.specs.Vertex.{Color}
 use Rattle.int_raster.specs.Places.{deep_pixels, spanned, in_row}
-use Rattle.int_raster.specs.Painted.{shade_at}
 use Rattle.int_raster.specs.Seen.{step_seen}
 use Rattle.int_raster.proofs.Changes.{span_none}
 use Rattle.int_raster.proofs.Along.{deep_more}
 use Rattle.int_raster.proofs.Ramped.{ramp_more}
 use Rattle.int_raster.proofs.Tested.{plain_deep}
-use Rattle.int_raster.proofs.deep_spans.store_shade_by.Goals as goal
+use Rattle.int_raster.proofs.deep_spans.fill_each.Goals as goal
 
 pub loop-x-init : goal.loop-x-init
 loop-x-init c = record {
-  red = c.value_at-red.ensures;
-  green = c.value_at-green.ensures;
-  blue = c.value_at-blue.ensures;
-  alpha = c.value_at-alpha.ensures;
   new = c.value_at-new.ensures;
   done = span_none (in_row c.args.span.now.start c.args.span.now.y (step_seen c.args.draw.now c.args.setup.now)) (c.args.span.now.start + c.args.span.now.first) (deep_pixels c.args.colors.now c.args.depths.now);
 }
@@ -27,26 +21,19 @@ loop-x-preserved c =
     let here : c.loop-x.x < s.after = c.loop-x-test.true in
     let old = slice_index_or c.loop-x.colors (s.start + c.loop-x.x) [] in
     let before = slice_index_or c.loop-x.depths (s.start + c.loop-x.x) [] in
-    let r = c.args.shade.now in
-    let bytes : Color = c.loop-x.red / 2 ^ 56 ∷ c.loop-x.green / 2 ^ 56 ∷ c.loop-x.blue / 2 ^ 56 ∷ c.loop-x.alpha / 2 ^ 56 ∷ [] in
-    let shade : bytes ≡ shade_at r c.loop-x.x s.y = (λ j. i.red j / 2 ^ 56 ∷ i.green j / 2 ^ 56 ∷ i.blue j / 2 ^ 56 ∷ i.alpha j / 2 ^ 56 ∷ []) in
     record {
-      red = ramp_more r.red c.loop-x.x s.y c.loop-x.red i.red;
-      green = ramp_more r.green c.loop-x.x s.y c.loop-x.green i.green;
-      blue = ramp_more r.blue c.loop-x.x s.y c.loop-x.blue i.blue;
-      alpha = ramp_more r.alpha c.loop-x.x s.y c.loop-x.alpha i.alpha;
       new = ramp_more c.args.depth.now c.loop-x.x s.y c.loop-x.new i.new;
       done = deep_more (step_seen c.args.draw.now c.args.setup.now) s.start s.y s.first c.loop-x.x c.args.colors.now c.loop-x.colors c.args.depths.now c.loop-x.depths c.stored_after-after.result.color c.word_texel.result
           i.done c.loop-x.auto.x (omega (arith, here, c.requires.inside)) c.requires.same c.loop-x.auto.colors c.loop-x.auto.depths
-          (plain_deep c.args.rule.now c.args.draw.now c.args.setup.now c.loop-x.x s.y c.depth_word-word.result c.stored_after-after.result.word (c.loop-x.new / 2 ^ 40) bytes old c.stored_after-after.result.color before c.word_texel.result c.requires.plain
+          (plain_deep c.args.rule.now c.args.draw.now c.args.setup.now c.loop-x.x s.y c.depth_word-word.result c.stored_after-after.result.word (c.loop-x.new / 2 ^ 40) c.args.color old c.stored_after-after.result.color before c.word_texel.result c.requires.plain
           c.depth_word-word.ensures c.word_texel.ensures
-          (shade ∙ c.requires.paints c.loop-x.x c.loop-x.auto.x here)
+          (c.requires.paints c.loop-x.x c.loop-x.auto.x here)
           (ap (λ n. n / 2 ^ 40) i.new ∙ c.requires.depths c.loop-x.x c.loop-x.auto.x here)
           (c.stored_after-after.ensures c.args.draw.now.state c.requires.plain.opaque c.requires.plain.rule));
     }
 
 pub returns : goal.returns
 returns c =
-    let last : c.loop-x.x ≡ c.args.span.now.after = omega (arith, c.loop-x-test.false, c.loop-x.auto.x-end) in
+    let last : c.loop-x.x ≡ c.args.span.now.after = omega arith in
     c.loop-x.invariant.done
     ∙ ap (λ n. map_from (spanned (in_row c.args.span.now.start c.args.span.now.y (step_seen c.args.draw.now c.args.setup.now)) (c.args.span.now.start + c.args.span.now.first) (c.args.span.now.start + n)) 0 (deep_pixels c.args.colors.now c.args.depths.now)) last
